@@ -1,0 +1,2 @@
+-- "Numbers that come back".
+pub mod Numbers

@@ -1,0 +1,3 @@
+-- Code: instructions and their words.
+pub mod Instruction
+pub mod Words

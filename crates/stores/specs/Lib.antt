@@ -1,0 +1,4 @@
+-- What a terminal holds: kinds, cells, certificates, accumulator.
+pub mod Cells
+pub mod Certificates
+pub mod Valid

@@ -1,0 +1,5 @@
+-- What a message is.
+pub mod Shape
+pub mod Row
+pub mod Rules
+pub mod Finder

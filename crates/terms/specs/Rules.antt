@@ -1,0 +1,60 @@
+-- The rules of a term table: refusal 2.
+use Prim.Native.Nat.{ℕ, zero, suc}
+use mathlib.Core.Bool.{Bool, true, false, cond, not, _&&_, _||_}
+use mathlib.Core.Option.{Option}
+use mathlib.Core.List.{List, [], _∷_}
+use lib.ListN.{length, getD, take}
+use lib.Dec.{eqb, leb, ltb}
+use Rattle.word.specs.Lowest.{lowest, each, oneOf}
+use Rattle.terms.specs.Shape.{Shape, atom, encrypted, signed, hashed, tupled, partsOf}
+use Rattle.terms.specs.Row.{wordOf, tagOf, shapeOf}
+
+-- the used rows are those before the first zero row
+unfoldable pub usedRows : List ℕ → ℕ
+usedRows [] = zero
+usedRows (word ∷ rows) = elim (eqb word 0) [ true ↦ zero | false ↦ suc (usedRows rows) ]
+
+unfoldable pub knownTag : ℕ → Bool
+knownTag word = leb 1 (tagOf word) && leb (tagOf word) 10
+
+-- a row is the word of its shape
+unfoldable pub unusedZero : ℕ → Bool
+unusedZero word = eqb (wordOf (shapeOf word)) word
+
+-- a byte is at most 255; nonces and keys are below the name counter; agents are any
+unfoldable pub numberFits : ℕ → Shape ℕ → Bool
+numberFits counter (atom tag number) = cond (eqb tag 1) (ltb number 256) (cond (eqb tag 3) true (ltb number counter))
+numberFits counter (encrypted key body) = true
+numberFits counter (signed key body) = true
+numberFits counter (hashed body) = true
+numberFits counter (tupled parts) = true
+
+-- parts have smaller row numbers than their owner
+unfoldable pub partsBelow : ℕ → Shape ℕ → Bool
+partsBelow row shape = each (λ part. ltb part row) (partsOf shape)
+
+-- what encrypts is a public or a shared key, what signs a private or a shared one
+unfoldable pub keyFits : List ℕ → Shape ℕ → Bool
+keyFits rows (atom tag number) = true
+keyFits rows (encrypted key body) = oneOf (4 ∷ 6 ∷ []) (tagOf (getD rows key 0))
+keyFits rows (signed key body) = oneOf (5 ∷ 6 ∷ []) (tagOf (getD rows key 0))
+keyFits rows (hashed body) = true
+keyFits rows (tupled parts) = true
+
+-- of two equal rows the later is the bad one
+unfoldable pub earlierEqual : List ℕ → ℕ → ℕ → Bool
+earlierEqual rows row word = oneOf (take row rows) word
+
+-- the rules of a used row
+abbrev pub fits : List ℕ → ℕ → ℕ → ℕ → Bool
+fits rows counter row word =
+    knownTag word && unusedZero word && numberFits counter (shapeOf word) && partsBelow row (shapeOf word)
+    && keyFits rows (shapeOf word) && not (earlierEqual rows row word)
+
+-- a nonzero row after the first zero row is bad
+unfoldable pub badRow : List ℕ → ℕ → ℕ → ℕ → Bool
+badRow rows counter row word = cond (ltb row (usedRows rows)) (not (fits rows counter row word)) (not (eqb word 0))
+
+-- 2: the lowest bad row
+unfoldable pub badTerm : List ℕ → ℕ → Option ℕ
+badTerm rows counter = lowest (badRow rows counter) rows

@@ -1,0 +1,2 @@
+-- Lines of decimal numbers, as bytes.
+pub mod Lines

@@ -1,0 +1,4 @@
+-- How numbers lie in memory.
+pub mod Fields
+pub mod Bytes
+pub mod Lowest

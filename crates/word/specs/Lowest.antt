@@ -1,0 +1,25 @@
+-- The lowest place at which a test holds.
+use Prim.Native.Nat.{ℕ, suc}
+use mathlib.Core.Bool.{Bool, true, false, _||_}
+use mathlib.Core.Option.{Option, none, some}
+use mathlib.Core.List.{List, [], _∷_}
+use lib.Dec.{eqb}
+
+module _ {A : Type 0} where
+  -- the lowest from a place on, in what is left of a list
+  unfoldable pub lowestFrom : ℕ → (ℕ → A → Bool) → List A → Option ℕ
+  lowestFrom place test [] = none
+  lowestFrom place test (a ∷ rest) = elim (test place a) [ true ↦ some place | false ↦ lowestFrom (suc place) test rest ]
+
+  abbrev pub lowest : (ℕ → A → Bool) → List A → Option ℕ
+  lowest test all = lowestFrom 0 test all
+
+  -- a test holds of each element
+  unfoldable pub each : (A → Bool) → List A → Bool
+  each test [] = true
+  each test (a ∷ rest) = elim (test a) [ true ↦ each test rest | false ↦ false ]
+
+-- a number is one of several
+unfoldable pub oneOf : List ℕ → ℕ → Bool
+oneOf [] number = false
+oneOf (n ∷ rest) number = eqb n number || oneOf rest number

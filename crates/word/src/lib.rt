@@ -1,0 +1,1 @@
+// Words of bytes, high byte first.
