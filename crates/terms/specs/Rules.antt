@@ -1,13 +1,15 @@
 -- The rules of a term table: refusal 2.
 use Prim.Native.Nat.{ℕ, zero, suc}
 use mathlib.Core.Bool.{Bool, true, false, cond, not, _&&_, _||_}
-use mathlib.Core.Option.{Option}
+use mathlib.Core.Option.{Option, none, some}
 use mathlib.Core.List.{List, [], _∷_}
 use lib.ListN.{length, getD, take}
 use lib.Dec.{eqb, leb, ltb}
 use Rattle.word.specs.Lowest.{lowest, each, oneOf}
 use Rattle.terms.specs.Shape.{Shape, atom, encrypted, signed, hashed, tupled, partsOf}
 use Rattle.terms.specs.Row.{wordOf, tagOf, shapeOf}
+use Rattle.terms.specs.declared.Checked.{Checked}
+use Rattle.terms.specs.declared.Checked.the-variants.{Bad, Used}
 
 -- the used rows are those before the first zero row
 unfoldable pub usedRows : List ℕ → ℕ
@@ -58,3 +60,11 @@ badRow rows counter row word = cond (ltb row (usedRows rows)) (not (fits rows co
 -- 2: the lowest bad row
 unfoldable pub badTerm : List ℕ → ℕ → Option ℕ
 badTerm rows counter = lowest (badRow rows counter) rows
+
+-- the answer of the check
+abbrev pub checkedBy : Option ℕ → List ℕ → Checked
+checkedBy (some row) rows = Bad row
+checkedBy none rows = Used (usedRows rows)
+
+abbrev pub checked : List ℕ → ℕ → Checked
+checked rows counter = checkedBy (badTerm rows counter) rows

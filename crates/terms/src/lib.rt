@@ -6,3 +6,9 @@ pub enum Found {
     At(TermRow, u16),
     Full,
 }
+
+// What the check of a table answers: its lowest bad row, or the number of used rows.
+pub enum Checked {
+    Bad(u32),
+    Used(u32),
+}

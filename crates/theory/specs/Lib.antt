@@ -11,3 +11,9 @@ pub mod Compilers
 pub mod Rules
 pub mod Figure2
 pub mod Figure3
+pub mod Compile
+pub mod Run
+pub mod Bundle
+pub mod Listing
+pub mod Cases
+pub mod Orders

@@ -4,6 +4,8 @@ use mathlib.Core.Bool.{Bool, true, false, _||_}
 use mathlib.Core.Option.{Option, none, some}
 use mathlib.Core.List.{List, [], _∷_}
 use lib.Dec.{eqb}
+use Rattle.word.specs.declared.Place.{Place}
+use Rattle.word.specs.declared.Place.the-variants.{At, Nowhere}
 
 module _ {A : Type 0} where
   -- the lowest from a place on, in what is left of a list
@@ -23,3 +25,8 @@ module _ {A : Type 0} where
 unfoldable pub oneOf : List ℕ → ℕ → Bool
 oneOf [] number = false
 oneOf (n ∷ rest) number = eqb n number || oneOf rest number
+
+-- the code's answer for such a place
+abbrev pub placeOf : Option ℕ → Place
+placeOf (some place) = At place
+placeOf none = Nowhere

@@ -1,0 +1,92 @@
+-- The listing: from a bundle's bytes to the bytes printed.
+use Prim.Native.Nat.{ℕ, zero, suc, _-_}
+use mathlib.Core.Bool.{Bool, true, false, not}
+use mathlib.Core.Option.{Option, none, some}
+use mathlib.Core.List.{List, [], _∷_, _++_}
+use lib.ListN.{length, take, replicate, getD}
+use lib.Dec.{eqb}
+use Rattle.word.specs.Fields.{split, at}
+use Rattle.text.specs.Lines.{line, wordLine}
+use Rattle.answers.specs.Numbers.{compiledNumber, compiledPlace, ranNumber, ranPlace, ranReason}
+use Rattle.answers.specs.declared.Compiled.{Compiled}
+use Rattle.answers.specs.declared.Compiled.the-variants as Compiled
+use Rattle.code.specs.Instruction.{wordWidths}
+use Rattle.terms.specs.Rules.{usedRows}
+use Rattle.stores.specs.Cells.{unset, isSet}
+use Rattle.theory.specs.Machine.{namedCells, scratchCells}
+use Rattle.theory.specs.Compile.{CompileOutcome, compile}
+use Rattle.theory.specs.Run.{Lent, RunOutcome, run, mostCodeWords, mostTermRows}
+use Rattle.theory.specs.Bundle.{Bundle, readBundle, certificatesClear}
+
+-- the words that lines begin with, in ASCII
+abbrev pub refusedWord : List ℕ
+refusedWord = 114 ∷ 101 ∷ 102 ∷ 117 ∷ 115 ∷ 101 ∷ 100 ∷ []
+
+abbrev pub endWord : List ℕ
+endWord = 101 ∷ 110 ∷ 100 ∷ []
+
+abbrev pub objectWord : List ℕ
+objectWord = 111 ∷ []
+
+abbrev pub messageWord : List ℕ
+messageWord = 109 ∷ []
+
+-- `refused NUMBER PLACE`
+abbrev pub refusedLine : ℕ → ℕ → List ℕ
+refusedLine number place = wordLine refusedWord (number ∷ place ∷ [])
+
+-- a line per word: place, operation, A, B, n
+unfoldable pub codeLines : ℕ → List ℕ → List ℕ
+codeLines place [] = []
+codeLines place (word ∷ rest) = line (place ∷ take 4 (split wordWidths word)) ++ codeLines (suc place) rest
+
+-- answer, place, reason, used rows, counter, accumulator
+abbrev pub endLine : RunOutcome → List ℕ
+endLine r =
+    wordLine endWord
+    (ranNumber (r .answer) ∷ ranPlace (r .answer) ∷ ranReason (r .answer) ∷ usedRows (r .terms) ∷ r .counter ∷ r .accumulator ∷ [])
+
+-- each set cell, numbers rising
+unfoldable pub cellLines : List ℕ → ℕ → List ℕ → List ℕ
+cellLines word n [] = []
+cellLines word n (cell ∷ rest) =
+    elim (isSet cell) [ true ↦ wordLine word (n ∷ cell ∷ []) ++ cellLines word (suc n) rest | false ↦ cellLines word (suc n) rest ]
+
+-- the cells after answer 0; scratch never
+abbrev pub storeLines : RunOutcome → List ℕ
+storeLines r =
+    elim (eqb (ranNumber (r .answer)) 0) [ true ↦ cellLines objectWord 0 (r .objects) ++ cellLines messageWord 0 (take namedCells (r .messages)) | false ↦ [] ]
+
+-- the bundle's rows, then zero rows; scratch starts unset
+abbrev pub lentTo : Bundle → Lent
+lentTo b = record {
+  kinds = b .kinds;
+  objects = b .objects;
+  messages = b .named ++ replicate scratchCells unset;
+  certificates = b .certificates;
+  accumulator = b .accumulator;
+  terms = b .terms ++ replicate (mostTermRows - length (b .terms)) 0;
+  counter = b .counter;
+}
+
+abbrev pub ranLines : List ℕ → RunOutcome → List ℕ
+ranLines code r = codeLines zero code ++ endLine r ++ storeLines r
+
+abbrev pub compiledLines : Bundle → CompileOutcome → List ℕ
+compiledLines b c =
+    elim (eqb (compiledNumber (c .answer)) 0) [
+      | true ↦ ranLines (take (compiledPlace (c .answer)) (c .code)) (run (lentTo b) (take (compiledPlace (c .answer)) (c .code)))
+      | false ↦ refusedLine (compiledNumber (c .answer)) (compiledPlace (c .answer))
+    ]
+
+-- 1, then a spare certificate bit, then compile into 768 words, then run
+abbrev pub bundleLines : Option Bundle → List ℕ
+bundleLines none = refusedLine 1 0
+bundleLines (some b) =
+    elim (certificatesClear b) [
+      | true ↦ compiledLines b (compile (b .create) (b .pattern) (b .kinds) (b .objects) (b .named) (replicate mostCodeWords 0))
+      | false ↦ refusedLine 3 0
+    ]
+
+unfoldable pub listing : List ℕ → List ℕ
+listing bytes = bundleLines (readBundle bytes)
