@@ -1,0 +1,4 @@
+-- The theorems of the paper.
+pub mod StoreLaws
+pub mod FigureLaws
+pub mod MatchingRules

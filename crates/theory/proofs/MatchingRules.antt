@@ -1,0 +1,153 @@
+-- Figure 2's relation is the function `match` over terms.
+use Prim.Native.Nat.{ℕ, zero, suc}
+use mathlib.Core.Path.{_≡_, refl, sym, _∙_, ap, subst}
+use mathlib.Core.Bool.{Bool, true, false, _&&_}
+use mathlib.Core.Option.{Option, none, some}
+use mathlib.Core.List.{List, [], _∷_}
+use native.Mathlib.Omega.{arith}
+use borrow.Author.Tests.{eqb-true, eq-eqb}
+use lib.Dec.{T, eqb, eqb→eq}
+use lib.ListN.{length, getD}
+use Rattle.word.specs.Lowest.{oneOf}
+use Rattle.answers.specs.Numbers.{reasonNumber}
+use Rattle.answers.specs.declared.Reason.the-variants.{PartCount}
+use Rattle.patterns.specs.Pattern.{Key, plainKey, opKey, certifiedKey, Pattern, object, raw, constant, opposite, keyOf, encryption, signature, hash, tuple, letIn, Parts, end, part, count}
+use Rattle.patterns.specs.Kinds.{publicSide, RightKinds, RightParts}
+use Rattle.theory.specs.Outcome.{Outcome, done, bind, got, andThen, sure, at, need, free}
+use Rattle.theory.specs.Store.{put}
+use Rattle.theory.specs.World as Voc
+use Rattle.theory.specs.Rules.{match, matchParts, matchKey, matchObject, matchRaw}
+use Rattle.theory.specs.TermModel.{Term, atom, encrypted, signed, hashed, tupled, Terms, nil, cons, Names, collected, listed, termWorld}
+use Rattle.theory.specs.Figure2
+use Rattle.theory.specs.Figure2.{TermStores, setObject, setRaw, KeyMatches, Matches, MatchesParts}
+use Rattle.theory.proofs.StoreLaws.{put-same, put-other, put-back, put-comm}
+use Rattle.theory.proofs.FigureLaws.{done-inj, bind-then, at-then, need-then, free-then, got-message, same-self, same-then, gives-then, both, apart}
+
+-- the variable of S is none of its key's
+abbrev Beside : ℕ → Key → Type 0
+Beside s (plainKey v) = s ≡ v → ⊥
+Beside s (opKey k K) = (s ≡ k → ⊥) × (s ≡ K → ⊥)
+Beside s (certifiedKey k a) = (s ≡ k → ⊥) × (s ≡ a → ⊥)
+
+-- a list of terms and the parts of a tuple
+listed-collected : (ms : List Term) → listed (collected ms) ≡ ms
+listed-collected [] = refl
+listed-collected (m ∷ ms) = ap (λ ms. m ∷ ms) (listed-collected ms)
+
+collected-listed : (ts : Terms) → collected (listed ts) ≡ ts
+collected-listed nil = refl
+collected-listed (cons t ts) = ap (cons t) (collected-listed ts)
+
+-- from place i on g has the parts ms
+abbrev Shows : (ℕ → Term) → ℕ → List Term → Type 0
+Shows g i [] = Unit {0}
+Shows g i (m ∷ ms) = (g i ≡ m) × Shows g (suc i) ms
+
+later : (g : ℕ → Term) (i : ℕ) (ms : List Term) → Shows (λ j. g (suc j)) i ms → Shows g (suc i) ms
+later g i [] s = tt
+later g i (m ∷ ms) s = (s .0, later g (suc i) ms (s .1))
+
+shows : (ms : List Term) (m : Term) → Shows (λ i. getD ms i m) zero ms
+shows [] m = tt
+shows (a ∷ ms) m = (refl, later (λ i. getD (a ∷ ms) i m) zero ms (shows ms m))
+
+parts-is : (m : Term) (ms : List Term) (k : ℕ) (x : Names) → m ≡ tupled (collected ms) → length ms ≡ k → termWorld .parts m k x ≡ got (λ i. getD ms i m)
+parts-is m ms k x e l = rw e (rw (listed-collected ms, eq-eqb _ _ l))
+
+parts-then : {B : Type 0} (row : ℕ) (m : Term) (k : ℕ) (x : Names) (f : (ℕ → Term) → Outcome B) (b : B) → bind (at row (termWorld .parts m k x)) f ≡ done b
+    → (ms : List Term) × (m ≡ tupled (collected ms)) × (length ms ≡ k) × (f (λ i. getD ms i m) ≡ done b)
+parts-then row (tupled ts) k x f b e = go (eqb (length (listed ts)) k) refl e
+  where
+    go : (fits : Bool) → eqb (length (listed ts)) k ≡ fits
+        → bind (at row (andThen (sure (reasonNumber PartCount) fits) λ _. got (λ i. getD (listed ts) i (tupled ts)))) f ≡ done b
+        → (ms : List Term) × (tupled ts ≡ tupled (collected ms)) × (length ms ≡ k) × (f (λ i. getD ms i (tupled ts)) ≡ done b)
+    go true l e = (listed ts, ap tupled (sym (collected-listed ts)), eqb-true _ _ l, e)
+    go false l e = absurd (let z : _≡_ {A = ℕ} 0 1 = cc in omega arith)
+parts-then row (atom tag number) k x f b e = absurd (let z : _≡_ {A = ℕ} 0 1 = cc in omega arith)
+parts-then row (encrypted l c) k x f b e = absurd (let z : _≡_ {A = ℕ} 0 1 = cc in omega arith)
+parts-then row (signed l c) k x f b e = absurd (let z : _≡_ {A = ℕ} 0 1 = cc in omega arith)
+parts-then row (hashed c) k x f b e = absurd (let z : _≡_ {A = ℕ} 0 1 = cc in omega arith)
+
+module _ (kind : ℕ → ℕ) where
+  beside : (s : ℕ) (key : Key) → T (eqb (kind s) 8 && publicSide kind key) → Beside s key
+  unfolding oneOf
+  beside s (plainKey v) t = apart kind s v 8 (oneOf (4 ∷ 6 ∷ [])) t (λ u. u)
+  beside s (opKey k K) t =
+      (apart kind s k 8 (λ x. eqb x 4 && eqb (kind K) 5) t (λ u. u), apart kind s K 8 (λ x. eqb (kind k) 4 && eqb x 5) t (λ u. both (eqb (kind k) 4) false u .1))
+  beside s (certifiedKey k a) t =
+      (apart kind s k 8 (λ x. eqb x 4 && eqb (kind a) 3) t (λ u. u), apart kind s a 8 (λ x. eqb (kind k) 4 && eqb x 3) t (λ u. both (eqb (kind k) 4) false u .1))
+
+  -- a matched key writes σ only
+  key-ρ : {n n′ : TermStores} {key : Key} {o : Term} → KeyMatches kind n key o n′ → n′ .ρ ≡ n .ρ
+  key-ρ (Figure2.key-variable a) = refl
+  key-ρ (Figure2.key-op a b c e) = ap (λ n. n .ρ) (sym e)
+  key-ρ (Figure2.key-keyOf a b c d e) = ap (λ n. n .ρ) (sym e)
+
+  key-memory : {n n′ : TermStores} {key : Key} {o : Term} → KeyMatches kind n key o n′ → n′ .memory ≡ n .memory
+  key-memory (Figure2.key-variable a) = refl
+  key-memory (Figure2.key-op a b c e) = ap (λ n. n .memory) (sym e)
+  key-memory (Figure2.key-keyOf a b c d e) = ap (λ n. n .memory) (sym e)
+
+  -- the key may be looked at before s is written, or after
+  key-is : {n n′ : TermStores} {key : Key} {o : Term} (row s : ℕ) (m : Term) (f : Term → TermStores → Outcome TermStores) → Beside s key
+      → KeyMatches kind n key o n′ → matchKey termWorld kind row key (setObject n s m) f ≡ f o (setObject n′ s m)
+  key-is row s m f d (Figure2.key-variable a) = rw (put-other, a)
+  key-is row s m f d (Figure2.key-op {K = K} a b c e) =
+      let (s≢k, s≢K) = d in
+      rw (put-other _ s K, b, put-other, a, c, put-comm, ← e)
+  key-is row s m f d (Figure2.key-keyOf {a = agent} a b c h e) =
+      let (s≢k, s≢a) = d in
+      rw (put-other _ s agent, b, c, put-other, a, h, put-comm, ← e)
+
+  key-back : (row s : ℕ) (m : Term) (key : Key) (n n′ : TermStores) (f : Term → TermStores → Outcome TermStores) → Beside s key
+      → matchKey termWorld kind row key (setObject n s m) f ≡ done n′
+      → (o : Term) × (n₁ : TermStores) × KeyMatches kind n key o n₁ × (f o (setObject n₁ s m) ≡ done n′)
+  key-back row s m (plainKey v) n n′ f d e =
+      let (o, p, e) = need-then row (put (n .σ) s (some m) v) _ _ e in
+      (o, n, Figure2.key-variable (put-back (n .σ) (some m) d p), e)
+  key-back row s m (opKey k K) n n′ f d e =
+      let (s≢k, s≢K) = d in
+      let (a, p, e) = need-then row (put (n .σ) s (some m) K) _ _ e in
+      let (q, e) = free-then row (put (n .σ) s (some m) k) _ _ e in
+      let (o, u, e) = gives-then row (Voc.op a) n _ _ tt e in
+      (o, _, Figure2.key-op (put-back (n .σ) (some m) s≢k q) (put-back (n .σ) (some m) s≢K p) u refl, rw put-comm at e)
+  key-back row s m (certifiedKey k a) n n′ f d e =
+      let (s≢k, s≢a) = d in
+      let (b, p, e) = need-then row (put (n .σ) s (some m) a) _ _ e in
+      let (o, u, e) = gives-then row (Voc.keyOf b) n _ _ tt e in
+      let (q, e) = free-then row (put (n .σ) s (some m) k) _ _ e in
+      let (t, w, e) = at-then row (termWorld .test (Voc.is (kind k) o) (n .memory)) _ _ e in
+      (o, _, Figure2.key-keyOf (put-back (n .σ) (some m) s≢k q) (put-back (n .σ) (some m) s≢a p) u w refl, rw put-comm at e)
+
+  parts-count : {n n′ : TermStores} {ps : Parts} {ms : List Term} → MatchesParts kind n ps ms n′ → length ms ≡ count ps
+  unfolding count
+  parts-count Figure2.no-more = refl
+  parts-count (Figure2.one-more h h′) = ap suc (parts-count h′)
+
+  mutual
+    unfolding RightKinds oneOf
+    pub matches-is-done : {n n′ : TermStores} {p : Pattern} {m : Term} → RightKinds false kind p → Matches kind n p m n′ → match termWorld kind p (some m) n ≡ done n′
+    matches-is-done right (Figure2.object-set {m = m} a) = rw (a, same-self m)
+    matches-is-done right (Figure2.raw-set {m = m} a) = rw (a, same-self m)
+    matches-is-done right (Figure2.object-new a b e) = rw (a, a, b, e)
+    matches-is-done right (Figure2.raw-new a e) = rw (a, a, e)
+    matches-is-done right (Figure2.constant-rule {m = m} a b e) = rw (a, got-message b, same-self m, e)
+    matches-is-done right (Figure2.op-rule {m = m} a b c e) = rw (b, a, c, same-self m, e)
+    matches-is-done right (Figure2.keyOf-rule {k = k} {a = agent} {m = m} a b c d e) =
+        let k≢a = apart kind k agent 4 (λ x. eqb x 3) right (λ u. u) in
+        rw (a, d, put-other, b, c, same-self m, e)
+    matches-is-done right (Figure2.signature-rule {row = row} {s = s} {key = key} {m = m} k a b c d e) =
+        rw (a, d, key-is row s m _ (beside s key right) k, key-ρ k, b, key-memory k, c, ← key-ρ k, ← key-memory k, e)
+    matches-is-done right (Figure2.hash-rule {m = m} a b c d e) = rw (a, d, b, got-message c, same-self m, e)
+    matches-is-done right (Figure2.tuple-rule {ps = ps} {ms = ms} {m = m} a b c h) =
+        rw (a, b, parts-is m ms (count ps) _ c (parts-count h)) (parts-are-done (λ i. getD ms i m) zero (right .1) (shows ms m) h)
+    matches-is-done right (Figure2.let-rule a h b h′) = rw (a, matches-is-done (right .1) h, b) (matches-is-done (right .0) h′)
+    matches-is-done right (Figure2.encryption-rule {e = e} (Figure2.key-variable {v = v} k) a b c h) =
+        let e≢v = apart kind e v 7 (oneOf (5 ∷ 6 ∷ [])) (right .0) (λ u. u) in
+        rw (a, b, put-other, k, c) (matches-is-done (right .1) h)
+    matches-is-done right (Figure2.encryption-rule {e = e} (Figure2.key-op k l o s) a b c h) = absurd (both (eqb (kind e) 7) false (right .0) .1)
+    matches-is-done right (Figure2.encryption-rule {e = e} (Figure2.key-keyOf k l o s t) a b c h) = absurd (both (eqb (kind e) 7) false (right .0) .1)
+
+    parts-are-done : {n n′ : TermStores} {ps : Parts} {ms : List Term} (g : ℕ → Term) (i : ℕ) → RightParts false kind ps → Shows g i ms → MatchesParts kind n ps ms n′ → matchParts termWorld kind ps i g n ≡ done n′
+    parts-are-done g i right s Figure2.no-more = refl
+    parts-are-done g i right s (Figure2.one-more h h′) = rw (s .0, matches-is-done (right .0) h) (parts-are-done g (suc i) (right .1) (s .1) h′)
