@@ -2,3 +2,4 @@
 pub mod StoreLaws
 pub mod FigureLaws
 pub mod MatchingRules
+pub mod CreatingRules

@@ -19,7 +19,7 @@ use Rattle.theory.specs.World as Voc
 use Rattle.theory.specs.Rules.{match, matchParts, matchKey, matchObject, matchRaw}
 use Rattle.theory.specs.TermModel.{Term, atom, encrypted, signed, hashed, tupled, Terms, nil, cons, Names, collected, listed, termWorld}
 use Rattle.theory.specs.Figure2
-use Rattle.theory.specs.Figure2.{TermStores, setObject, setRaw, KeyMatches, Matches, MatchesParts}
+use Rattle.theory.specs.Figure2.{TermStores, setObject, setRaw, Gives, KeyMatches, Matches, MatchesParts}
 use Rattle.theory.proofs.StoreLaws.{put-same, put-other, put-back, put-comm}
 use Rattle.theory.proofs.FigureLaws.{done-inj, bind-then, at-then, need-then, free-then, got-message, same-self, same-then, gives-then, both, apart}
 
@@ -151,3 +151,91 @@ module _ (kind : ℕ → ℕ) where
     parts-are-done : {n n′ : TermStores} {ps : Parts} {ms : List Term} (g : ℕ → Term) (i : ℕ) → RightParts false kind ps → Shows g i ms → MatchesParts kind n ps ms n′ → matchParts termWorld kind ps i g n ≡ done n′
     parts-are-done g i right s Figure2.no-more = refl
     parts-are-done g i right s (Figure2.one-more h h′) = rw (s .0, matches-is-done (right .0) h) (parts-are-done g (suc i) (right .1) (s .1) h′)
+
+  object-back : (row v : ℕ) (n n′ : TermStores) (m : Term) (o : Option Term) → n .σ v ≡ o → matchObject termWorld kind row v o (some m) n ≡ done n′
+      → Matches kind n (object row v) m n′
+  object-back row v n n′ m (some a) p e =
+      let (q, e) = same-then row a m n _ _ e in
+      subst (λ x. Matches kind n (object row v) m x) (done-inj e) (Figure2.object-set (p ∙ ap some q))
+  object-back row v n n′ m none p e =
+      let (q, e) = free-then row (n .σ v) _ _ e in
+      let (t, w, e) = at-then row (termWorld .test (Voc.is (kind v) m) (n .memory)) _ _ e in
+      Figure2.object-new p w (done-inj e)
+
+  raw-back : (row r : ℕ) (n n′ : TermStores) (m : Term) (o : Option Term) → n .ρ r ≡ o → matchRaw termWorld kind row r o (some m) n ≡ done n′
+      → Matches kind n (raw row r) m n′
+  raw-back row r n n′ m (some a) p e =
+      let (q, e) = same-then row m a n _ _ e in
+      subst (λ x. Matches kind n (raw row r) m x) (done-inj e) (Figure2.raw-set (p ∙ ap some (sym q)))
+  raw-back row r n n′ m none p e =
+      let (q, e) = free-then row (n .ρ r) _ _ e in
+      Figure2.raw-new p (done-inj e)
+
+  mutual
+    unfolding RightKinds oneOf count
+    pub done-is-matches : (p : Pattern) (n n′ : TermStores) (m : Term) → RightKinds false kind p → match termWorld kind p (some m) n ≡ done n′ → Matches kind n p m n′
+    done-is-matches (object row v) n n′ m right e = object-back row v n n′ m (n .σ v) refl e
+    done-is-matches (raw row r) n n′ m right e = raw-back row r n n′ m (n .ρ r) refl e
+    done-is-matches (constant row c b) n n′ m right e =
+        let (f, e) = free-then row (n .σ c) _ _ e in
+        let (q, e) = same-then row (atom 1 b) m n _ _ e in
+        subst (λ m. Matches kind n (constant row c b) m n′) q (Figure2.constant-rule f refl (done-inj e))
+    done-is-matches (opposite row k K) n n′ m right e =
+        let (a, p, e) = need-then row (n .σ K) _ _ e in
+        let (f, e) = free-then row (n .σ k) _ _ e in
+        let (o, u, e) = gives-then row (Voc.op a) n _ _ tt e in
+        let (q, e) = same-then row o m n _ _ e in
+        subst (λ m. Matches kind n (opposite row k K) m n′) q (Figure2.op-rule f p u (done-inj e))
+    done-is-matches (keyOf row k a) n n′ m right e =
+        let (f, e) = free-then row (n .σ k) _ _ e in
+        let (t, w, e) = at-then row (termWorld .test (Voc.is (kind k) m) (n .memory)) _ _ e in
+        let (b, p, e) = need-then row (put (n .σ) k (some m) a) _ _ e in
+        let (o, u, e) = gives-then row (Voc.keyOf b) n _ _ tt e in
+        let (q, e) = same-then row o m n _ _ e in
+        let k≢a = apart kind k a 4 (λ x. eqb x 3) right (λ u. u) in
+        Figure2.keyOf-rule f (put-back (n .σ) (some m) k≢a p) (subst (Gives n (Voc.keyOf b)) q u) w (done-inj e)
+    done-is-matches (encryption row v (plainKey x) p) n n′ m right e =
+        let (f, e) = free-then row (n .σ v) _ _ e in
+        let (t, w, e) = at-then row (termWorld .test (Voc.is (kind v) m) (n .memory)) _ _ e in
+        let (o, q, e) = need-then row (put (n .σ) v (some m) x) _ _ e in
+        let (b, u, e) = gives-then row (Voc.decrypt o m) n _ _ tt e in
+        let v≢x = apart kind v x 7 (oneOf (5 ∷ 6 ∷ [])) (right .0) (λ u. u) in
+        Figure2.encryption-rule (Figure2.key-variable (put-back (n .σ) (some m) v≢x q)) f w u (done-is-matches p _ n′ b (right .1) e)
+    done-is-matches (encryption row v (opKey k K) p) n n′ m right e = absurd (both (eqb (kind v) 7) false (right .0) .1)
+    done-is-matches (encryption row v (certifiedKey k a) p) n n′ m right e = absurd (both (eqb (kind v) 7) false (right .0) .1)
+    done-is-matches (signature row s key r) n n′ m right e =
+        let (f, e) = free-then row (n .σ s) _ _ e in
+        let (t, w, e) = at-then row (termWorld .test (Voc.is (kind s) m) (n .memory)) _ _ e in
+        let (o, n₁, k, e) = key-back row s m key n n′ _ (beside s key right) e in
+        let (b, p, e) = need-then row (n₁ .ρ r) _ _ e in
+        let (t, x, e) = at-then row (termWorld .test (Voc.verify o b m) (n₁ .memory)) _ _ e in
+        Figure2.signature-rule k f (ap (λ ρ. ρ r) (sym (key-ρ k)) ∙ p) (subst (λ x. termWorld .test (Voc.verify o b m) x ≡ got tt) (key-memory k) x) w (done-inj e)
+    done-is-matches (hash row h r) n n′ m right e =
+        let (f, e) = free-then row (n .σ h) _ _ e in
+        let (t, w, e) = at-then row (termWorld .test (Voc.is (kind h) m) (n .memory)) _ _ e in
+        let (b, p, e) = need-then row (n .ρ r) _ _ e in
+        let (q, e) = same-then row (hashed b) m n _ _ e in
+        Figure2.hash-rule f p (ap (λ m. got (m, n .memory)) q) w (done-inj e)
+    done-is-matches (tuple row t ps) n n′ m right e =
+        let (f, e) = free-then row (n .σ t) _ _ e in
+        let (_, w, e) = at-then row (termWorld .test (Voc.is (kind t) m) (n .memory)) _ _ e in
+        let (ms, q, l, e) = parts-then row m (count ps) (n .memory) _ _ e in
+        Figure2.tuple-rule f w q (done-are-matches ps ms _ n′ (λ i. getD ms i m) zero (right .1) l (shows ms m) e)
+    done-is-matches (letIn row r p₁ p₂) n n′ m right e =
+        let (f, e) = free-then row (n .ρ r) _ _ e in
+        let (n₁, h, e) = bind-then (match termWorld kind p₂ (some m) n) _ _ e in
+        let (b, w, e) = need-then row (n₁ .ρ r) _ _ e in
+        Figure2.let-rule f (done-is-matches p₂ n n₁ m (right .1) h) w (done-is-matches p₁ n₁ n′ b (right .0) e)
+
+    done-are-matches : (ps : Parts) (ms : List Term) (n n′ : TermStores) (g : ℕ → Term) (i : ℕ) → RightParts false kind ps → length ms ≡ count ps → Shows g i ms
+        → matchParts termWorld kind ps i g n ≡ done n′ → MatchesParts kind n ps ms n′
+    done-are-matches end [] n n′ g i right l s e = subst (λ x. MatchesParts kind n end [] x) (done-inj e) Figure2.no-more
+    done-are-matches end (m ∷ ms) n n′ g i right l s e = absurd (omega arith)
+    done-are-matches (part p ps) [] n n′ g i right l s e = absurd (omega arith)
+    done-are-matches (part p ps) (m ∷ ms) n n′ g i right l s e =
+        let (n₁, h, e) = bind-then (match termWorld kind p (some (g i)) n) _ _ e in
+        Figure2.one-more (subst (λ m. Matches kind n p m n₁) (s .0) (done-is-matches p n n₁ (g i) (right .0) h)) (done-are-matches ps ms n₁ n′ g (suc i) (right .1) (omega arith) (s .1) e)
+
+  -- stores, pattern and message decide the stores after a match
+  pub matches-once : {n n₁ n₂ : TermStores} {p : Pattern} {m : Term} → RightKinds false kind p → Matches kind n p m n₁ → Matches kind n p m n₂ → n₁ ≡ n₂
+  matches-once right h h′ = done-inj (sym (matches-is-done right h) ∙ matches-is-done right h′)
