@@ -29,6 +29,10 @@ Distinct (plainKey v) = Unit {0}
 Distinct (opKey k K) = K ≡ k → ⊥
 Distinct (certifiedKey k a) = Unit {0}
 
+-- a relation holds of an outcome
+carried : {A B : Type 0} {r q : A × B} (R : A → B → Type 0) → done r ≡ done q → R (r .0) (r .1) → R (q .0) (q .1)
+carried R e h = subst (λ r. R (r .0) (r .1)) (done-inj e) h
+
 module _ (kind : ℕ → ℕ) where
   op-distinct : (k K : ℕ) → T (eqb (kind k) 4 && eqb (kind K) 5) → K ≡ k → ⊥
   op-distinct k K t e = apart kind k K 4 (λ x. eqb x 5) t (λ u. u) (sym e)
@@ -94,3 +98,111 @@ module _ (kind : ℕ → ℕ) where
     parts-are-done : {n n′ : TermStores} {ps : Parts} {ms : List Term} → RightParts true kind ps → CreatesParts kind n ps ms n′ → createParts termWorld kind ps n ≡ done (ms, n′)
     parts-are-done right Figure3.no-more = refl
     parts-are-done right (Figure3.one-more h h′) = rw (creates-is-done (right .0) h, parts-are-done (right .1) h′)
+
+  decoded-then : (row v : ℕ) (n : TermStores) (m : Term) (r : Term × TermStores) → decodes termWorld kind row v (some m) n (made termWorld kind) ≡ done r
+      → (v ∉ n .σ) × Decodes kind n v m × (done (m, setObject n v m) ≡ done r)
+  decoded-then row v n m r e =
+      let (f, e) = free-then row (n .σ v) _ _ e in
+      let (t, w, e) = at-then row (termWorld .test (Voc.is (kind v) m) (n .memory)) _ _ e in
+      (f, w, e)
+
+  variable-back : (row v : ℕ) (n : TermStores) (o : Option Term) (r : Term × TermStores) → n .σ v ≡ o → getVariable termWorld kind row v o n ≡ done r
+      → KeyCreates kind n (plainKey v) (r .0) (r .1)
+  variable-back row v n (some a) r p e = carried (KeyCreates kind n (plainKey v)) e (Figure3.key-set p)
+  variable-back row v n none r p e = go (creatable (kind v)) refl e
+    where
+      fresh : Outcome (Term × TermStores)
+      fresh =
+          bind (at row (termWorld .apply (Voc.create (kind v)) (n .memory))) λ x.
+          made termWorld kind (x .0) (setObject (setMemory termWorld n (x .1)) v (x .0))
+      go : (c : Bool) → creatable (kind v) ≡ c → cond c fresh (stuck row (reasonNumber Unset)) ≡ done r → KeyCreates kind n (plainKey v) (r .0) (r .1)
+      go true q e =
+          let (x, u, e) = at-then row (termWorld .apply (Voc.create (kind v)) (n .memory)) _ _ e in
+          carried (KeyCreates kind n (plainKey v)) e (Figure3.key-new (Figure3.new p q u refl))
+      go false q e = absurd (let z : _≡_ {A = ℕ} 0 1 = cc in omega arith)
+
+  key-back : (row : ℕ) (key : Key) (n : TermStores) (r : Term × TermStores) → Distinct key → createKey termWorld kind row key n ≡ done r
+      → KeyCreates kind n key (r .0) (r .1)
+  key-back row (plainKey v) n r d e = variable-back row v n (n .σ v) r refl e
+  key-back row (opKey k K) n r d e =
+      let (a, h, e) = bind-then (getVariable termWorld kind row K (n .σ K) n) _ _ e in
+      let g = variable-back row K n (n .σ K) a refl h in
+      let (f, e) = free-then row (a .1 .σ k) _ _ e in
+      let (o, u, e) = gives-then row (Voc.op (a .0)) (a .1) _ _ tt e in
+      carried (KeyCreates kind n (opKey k K)) e (Figure3.key-op g (sym (other-kept d g) ∙ f) u refl)
+  key-back row (certifiedKey k a) n r d e =
+      let (b, p, e) = need-then row (n .σ a) _ _ e in
+      let (o, u, e) = gives-then row (Voc.keyOf b) n _ _ tt e in
+      let (f, w, e) = decoded-then row k n o r e in
+      carried (KeyCreates kind n (certifiedKey k a)) e (Figure3.key-keyOf f p u w refl)
+
+  -- a key pattern as a pattern
+  object-from : {n n′ : TermStores} {v : ℕ} {m : Term} (row : ℕ) → KeyCreates kind n (plainKey v) m n′ → Creates kind n (object row v) m n′
+  object-from row (Figure3.key-set a) = Figure3.object-set a
+  object-from row (Figure3.key-new c) = Figure3.object-new c
+
+  op-from : {n n′ : TermStores} {k K : ℕ} {m : Term} (row : ℕ) → (K ≡ k → ⊥) → KeyCreates kind n (opKey k K) m n′ → Creates kind n (opposite row k K) m n′
+  op-from row d (Figure3.key-op (Figure3.key-set p) f u e) = Figure3.op-rule f p u e
+  op-from row d (Figure3.key-op (Figure3.key-new c) f u e) = Figure3.op-new f c (Figure3.op-rule (other-kept d (Figure3.key-new c) ∙ f) (new-set c) u e)
+
+  keyOf-from : {n n′ : TermStores} {k a : ℕ} {m : Term} (row : ℕ) → KeyCreates kind n (certifiedKey k a) m n′ → Creates kind n (keyOf row k a) m n′
+  keyOf-from row (Figure3.key-keyOf f p u w e) = Figure3.keyOf-rule f p u w e
+
+  mutual
+    unfolding RightKinds
+    pub done-is-creates : (p : Pattern) (n n′ : TermStores) (m : Term) → RightKinds true kind p → create termWorld kind p n ≡ done (m, n′) → Creates kind n p m n′
+    done-is-creates (object row v) n n′ m right e = object-from row (key-back row (plainKey v) n (m, n′) tt e)
+    done-is-creates (raw row r) n n′ m right e =
+        let (a, p, e) = need-then row (n .ρ r) _ _ e in
+        carried (Creates kind n (raw row r)) e (Figure3.raw-set p)
+    done-is-creates (constant row c b) n n′ m right e =
+        let (f, e) = free-then row (n .σ c) _ _ e in
+        carried (Creates kind n (constant row c b)) e (Figure3.constant-rule f refl refl)
+    done-is-creates (opposite row k K) n n′ m right e =
+        let d = op-distinct k K right in
+        op-from row d (key-back row (opKey k K) n (m, n′) d e)
+    done-is-creates (keyOf row k a) n n′ m right e = keyOf-from row (key-back row (certifiedKey k a) n (m, n′) tt e)
+    done-is-creates (encryption row v key p) n n′ m right e =
+        let d = public-distinct key (both (eqb (kind v) 7) _ (right .0) .1) in
+        let (k, h, e) = bind-then (createKey termWorld kind row key n) _ _ e in
+        let (b, g, e) = bind-then (create termWorld kind p (k .1)) _ _ e in
+        let (f, w, e) = decoded-then row v (b .1) (encrypted (k .0) (b .0)) (m, n′) e in
+        carried (Creates kind n (encryption row v key p)) e
+          (Figure3.encryption-rule (key-back row key n k d h) (done-is-creates p (k .1) (b .1) (b .0) (right .1) g) f refl w refl)
+    done-is-creates (signature row s key r) n n′ m right e =
+        let d = private-distinct key (both (eqb (kind s) 8) _ right .1) in
+        let (k, h, e) = bind-then (createKey termWorld kind row key n) _ _ e in
+        let g = key-back row key n k d h in
+        let (b, p, e) = need-then row (k .1 .ρ r) _ _ e in
+        let (f, w, e) = decoded-then row s (k .1) (signed (k .0) b) (m, n′) e in
+        carried (Creates kind n (signature row s key r)) e
+          (Figure3.signature-rule g f (ap (λ ρ. ρ r) (sym (key-ρ g)) ∙ p) refl w refl)
+    done-is-creates (hash row h r) n n′ m right e =
+        let (b, p, e) = need-then row (n .ρ r) _ _ e in
+        let (f, w, e) = decoded-then row h n (hashed b) (m, n′) e in
+        carried (Creates kind n (hash row h r)) e (Figure3.hash-rule f p refl w refl)
+    done-is-creates (tuple row t ps) n n′ m right e =
+        let (ms, h, e) = bind-then (createParts termWorld kind ps n) _ _ e in
+        let (f, e) = free-then row (ms .1 .σ t) _ _ e in
+        carried (Creates kind n (tuple row t ps)) e
+          (Figure3.tuple-rule (done-are-creates ps n ms (right .1) h) f refl refl)
+    done-is-creates (letIn row r p₁ p₂) n n′ m right e =
+        let (b, h, e) = bind-then (create termWorld kind p₁ n) _ _ e in
+        let (f, e) = free-then row (b .1 .ρ r) _ _ e in
+        Figure3.let-rule (done-is-creates p₁ n (b .1) (b .0) (right .0) h) f (done-is-creates p₂ (setRaw (b .1) r (b .0)) n′ m (right .1) e)
+
+    done-are-creates : (ps : Parts) (n : TermStores) (r : List Term × TermStores) → RightParts true kind ps → createParts termWorld kind ps n ≡ done r
+        → CreatesParts kind n ps (r .0) (r .1)
+    done-are-creates end n r right e = carried (CreatesParts kind n end) e Figure3.no-more
+    done-are-creates (part p ps) n r right e =
+        let (m, h, e) = bind-then (create termWorld kind p n) _ _ e in
+        let (ms, g, e) = bind-then (createParts termWorld kind ps (m .1)) _ _ e in
+        carried (CreatesParts kind n (part p ps)) e
+          (Figure3.one-more (done-is-creates p n (m .1) (m .0) (right .0) h) (done-are-creates ps (m .1) ms (right .1) g))
+
+  -- stores and pattern decide the message and the stores after it is created
+  pub creates-once : {n n₁ n₂ : TermStores} {p : Pattern} {m₁ m₂ : Term} → RightKinds true kind p → Creates kind n p m₁ n₁ → Creates kind n p m₂ n₂
+      → (m₁ ≡ m₂) × (n₁ ≡ n₂)
+  creates-once right h h′ =
+      let e = done-inj (sym (creates-is-done right h) ∙ creates-is-done right h′) in
+      (ap (λ r. r .0) e, ap (λ r. r .1) e)
