@@ -1,9 +1,8 @@
 -- What figures 2 and 3 share: what a finished rule has gone through, and what right kinds say of variables.
-use Prim.Native.Nat.{ℕ, zero, suc}
+use Prim.Native.Nat.{ℕ}
 use mathlib.Core.Path.{_≡_, refl, sym, _∙_, ap, subst}
 use mathlib.Core.Bool.{Bool, true, false, _&&_}
 use mathlib.Core.Option.{Option, none, some}
-use mathlib.Core.List.{List, [], _∷_}
 use native.Mathlib.Omega.{arith}
 use lib.Dec.{T, eqb, eqb→eq}
 use Rattle.answers.specs.Numbers.{reasonNumber}
@@ -11,7 +10,7 @@ use Rattle.answers.specs.declared.Reason.the-variants.{OtherKind, Differs, NotO
 use Rattle.terms.specs.Shape.{Shape, kindOf}
 use Rattle.terms.specs.Shape as Shape
 use Rattle.theory.specs.Outcome.{Outcome, done, stuck, room, bind, Answer, got, not, full, andThen, sure, at, need, free}
-use Rattle.theory.specs.World.{Op, Test}
+use Rattle.theory.specs.World.{Op}
 use Rattle.theory.specs.World as Voc
 use Rattle.theory.specs.Model.{goesWith, opened, certified}
 use Rattle.theory.specs.TermModel.{Term, Names, sameTerm, isYes, shapeOf, termModel, termWorld}
@@ -23,6 +22,14 @@ module _ {A : Type 0} {a b : A} where
 
   got-inj : got a ≡ got b → a ≡ b
   got-inj e = cc
+
+-- what is stuck or out of room is not done
+module _ {A C : Type 0} {place : ℕ} {b : A} where
+  pub stuck-not-done : {why : ℕ} → stuck place why ≡ done b → C
+  stuck-not-done e = absurd (let z : _≡_ {A = ℕ} 0 1 = cc in omega arith)
+
+  pub room-not-done : room place ≡ done b → C
+  room-not-done e = absurd (let z : _≡_ {A = ℕ} 0 1 = cc in omega arith)
 
 -- the message of an answer, and the memory
 module _ {r q : Term × Names} where
@@ -36,21 +43,21 @@ module _ {r q : Term × Names} where
 module _ {A B : Type 0} where
   pub bind-then : (x : Outcome A) (f : A → Outcome B) (b : B) → bind x f ≡ done b → (a : A) × (x ≡ done a) × (f a ≡ done b)
   bind-then (done a) f b e = (a, refl, e)
-  bind-then (stuck place why) f b e = absurd (let z : _≡_ {A = ℕ} 0 1 = cc in omega arith)
-  bind-then (room place) f b e = absurd (let z : _≡_ {A = ℕ} 0 1 = cc in omega arith)
+  bind-then (stuck place why) f b e = stuck-not-done e
+  bind-then (room place) f b e = room-not-done e
 
   pub at-then : (row : ℕ) (x : Answer A) (f : A → Outcome B) (b : B) → bind (at row x) f ≡ done b → (a : A) × (x ≡ got a) × (f a ≡ done b)
   at-then row (got a) f b e = (a, refl, e)
-  at-then row (not why) f b e = absurd (let z : _≡_ {A = ℕ} 0 1 = cc in omega arith)
-  at-then row full f b e = absurd (let z : _≡_ {A = ℕ} 0 1 = cc in omega arith)
+  at-then row (not why) f b e = stuck-not-done e
+  at-then row full f b e = room-not-done e
 
   pub need-then : (row : ℕ) (o : Option A) (f : A → Outcome B) (b : B) → bind (need row o) f ≡ done b → (a : A) × (o ≡ some a) × (f a ≡ done b)
   need-then row (some a) f b e = (a, refl, e)
-  need-then row none f b e = absurd (let z : _≡_ {A = ℕ} 0 1 = cc in omega arith)
+  need-then row none f b e = stuck-not-done e
 
   pub free-then : (row : ℕ) (o : Option A) (f : Unit {0} → Outcome B) (b : B) → bind (free row o) f ≡ done b → (o ≡ none) × (f tt ≡ done b)
   free-then row none f b e = (refl, e)
-  free-then row (some a) f b e = absurd (let z : _≡_ {A = ℕ} 0 1 = cc in omega arith)
+  free-then row (some a) f b e = stuck-not-done e
 
 -- over terms a test of equality is equality
 pub same-self : (m : Term) → isYes (sameTerm m m) ≡ true
@@ -67,7 +74,7 @@ module _ {B : Type 0} where
     where
       go : (d : Dec (a ≡ m)) → bind (at row (sure (reasonNumber Differs) (isYes d))) f ≡ done b → (a ≡ m) × (f tt ≡ done b)
       go (yes p) e = (p, e)
-      go (no u) e = absurd (let z : _≡_ {A = ℕ} 0 1 = cc in omega arith)
+      go (no u) e = stuck-not-done e
 
 -- only CREATE takes a name: every other operation leaves the memory of terms
 abbrev pub Steady : Op Term → Type 0
