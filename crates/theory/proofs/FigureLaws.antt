@@ -1,6 +1,7 @@
 -- What figures 2 and 3 share: what a finished rule has gone through, and what right kinds say of variables.
 use Prim.Native.Nat.{ℕ}
 use mathlib.Core.Path.{_≡_, refl, sym, _∙_, ap, subst}
+use mathlib.Core.Logic.{_≢_}
 use mathlib.Core.Bool.{Bool, true, false, _&&_}
 use mathlib.Core.Option.{Option, none, some}
 use native.Mathlib.Omega.{arith}
@@ -14,7 +15,7 @@ use Rattle.theory.specs.World.{Op}
 use Rattle.theory.specs.World as Voc
 use Rattle.theory.specs.Model.{goesWith, opened, certified}
 use Rattle.theory.specs.TermModel.{Term, Names, sameTerm, isYes, shapeOf, termModel, termWorld}
-use Rattle.theory.specs.Figure2.{TermStores, Gives}
+use Rattle.theory.specs.Figure2.{TermStores, _∉_, Gives, Decodes}
 
 module _ {A : Type 0} {a b : A} where
   pub done-inj : done a ≡ done b → a ≡ b
@@ -23,12 +24,12 @@ module _ {A : Type 0} {a b : A} where
   got-inj : got a ≡ got b → a ≡ b
   got-inj e = cc
 
--- what is stuck or out of room is not done
+-- what is stuck or has no room is not done
 module _ {A C : Type 0} {place : ℕ} {b : A} where
   pub stuck-not-done : {why : ℕ} → stuck place why ≡ done b → C
   stuck-not-done e = absurd (let z : _≡_ {A = ℕ} 0 1 = cc in omega arith)
 
-  pub room-not-done : room place ≡ done b → C
+  room-not-done : room place ≡ done b → C
   room-not-done e = absurd (let z : _≡_ {A = ℕ} 0 1 = cc in omega arith)
 
 -- the message of an answer, and the memory
@@ -36,7 +37,7 @@ module _ {r q : Term × Names} where
   pub got-message : got r ≡ got q → r .0 ≡ q .0
   got-message e = ap (λ r. r .0) (got-inj e)
 
-  pub got-memory : got r ≡ got q → r .1 ≡ q .1
+  got-memory : got r ≡ got q → r .1 ≡ q .1
   got-memory e = ap (λ r. r .1) (got-inj e)
 
 -- what stands behind a bind that is done
@@ -103,7 +104,7 @@ certified-keeps : (k : Option Term) (x : Names) (r : Term × Names) → certifie
 certified-keeps (some k) x r e = got-memory e
 certified-keeps none x r e = cc
 
-pub keeps : (o : Op Term) (x : Names) (r : Term × Names) → Steady o → termWorld .apply o x ≡ got r → x ≡ r .1
+keeps : (o : Op Term) (x : Names) (r : Term × Names) → Steady o → termWorld .apply o x ≡ got r → x ≡ r .1
 keeps (Voc.byte n) x r s e = got-memory e
 keeps (Voc.create kind) x r s e = absurd s
 keeps (Voc.op a) x r s e = sure-keeps (reasonNumber OtherKind) (eqb (kindOf (shapeOf a)) 5) _ r e
@@ -117,18 +118,26 @@ keeps (Voc.tuple ms) x r s e = got-memory e
 module _ {B : Type 0} where
   pub gives-then : (row : ℕ) (o : Op Term) (n : TermStores) (f : Term × Names → Outcome B) (b : B) → Steady o
       → bind (at row (termWorld .apply o (n .memory))) f ≡ done b → (m : Term) × Gives n o m × (f (m, n .memory) ≡ done b)
-  gives-then row o n f b s e =
-      let (r, u, e) = at-then row (termWorld .apply o (n .memory)) f b e in
-      let k = keeps o (n .memory) r s u in
-      (r .0, subst (λ x. termWorld .apply o (n .memory) ≡ got (r .0, x)) (sym k) u, subst (λ x. f (r .0, x) ≡ done b) (sym k) e)
+  gives-then row o n f b steady e =
+      let (r, gives, e) = at-then row (termWorld .apply o (n .memory)) f b e in
+      let kept = sym (keeps o (n .memory) r steady gives) in
+      (r .0, subst (λ x. termWorld .apply o (n .memory) ≡ got (r .0, x)) kept gives, subst (λ x. f (r .0, x) ≡ done b) kept e)
 
--- what a conjunction of tests says
+  pub decodes-then : (kind : ℕ → ℕ) (row v : ℕ) (m : Term) (n : TermStores) (x : Outcome B) (b : B)
+      → bind (free row (n .σ v)) (λ _. bind (at row (termWorld .test (Voc.is (kind v) m) (n .memory))) λ _. x) ≡ done b
+      → (v ∉ n .σ) × Decodes kind n v m × (x ≡ done b)
+  decodes-then kind row v m n x b e =
+      let (unset, e) = free-then row (n .σ v) _ b e in
+      let (_, fits, e) = at-then row (termWorld .test (Voc.is (kind v) m) (n .memory)) _ b e in
+      (unset, fits, e)
+
+-- a conjunction of tests
 pub both : (a b : Bool) → T (a && b) → T a × T b
 both true b t = (tt, t)
 both false b t = absurd t
 
 -- variables of different kinds are different
-pub apart : (kind : ℕ → ℕ) (v w k : ℕ) (fits : ℕ → Bool) → T (eqb (kind v) k && fits (kind w)) → (T (fits k) → ⊥) → v ≡ w → ⊥
+pub apart : (kind : ℕ → ℕ) (v w k : ℕ) (fits : ℕ → Bool) → T (eqb (kind v) k && fits (kind w)) → (T (fits k) → ⊥) → v ≢ w
 apart kind v w k fits t unfit e =
     let (p, q) = both (eqb (kind v) k) (fits (kind w)) t in
     unfit (subst (λ x. T (fits x)) (sym (ap kind e) ∙ eqb→eq (kind v) k p) q)
