@@ -4,3 +4,4 @@ pub mod StoreLaws
 pub mod FigureLaws
 pub mod MatchingRules
 pub mod CreatingRules
+pub mod Bounds
