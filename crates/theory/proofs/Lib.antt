@@ -5,3 +5,4 @@ pub mod FigureLaws
 pub mod MatchingRules
 pub mod CreatingRules
 pub mod Bounds
+pub mod SetCells
