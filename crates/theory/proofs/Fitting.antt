@@ -1,0 +1,77 @@
+-- What an instruction asks of kinds and numbers, so that a row can hold what it makes: it is part of what good code words are.
+use mathlib.Core.Path.{_≡_, refl}
+use mathlib.Core.Logic.{inl, inr}
+use mathlib.Core.List.{List, [], _∷_}
+use Prim.Native.Nat.{ℕ, _+_, _<_, _≤_}
+use lib.Dec.{T, leb, ltb}
+use Rattle.word.specs.Lowest.{oneOf}
+use Rattle.word.proofs.LowestLaws.{All, both, one-all, is-most}
+use Rattle.code.specs.Words.{hasKind, cellsFit, operandsFit}
+use Rattle.code.specs.declared.Object.{Object}
+use Rattle.code.specs.declared.Instruction.{Instruction}
+use Rattle.code.specs.declared.Instruction.the-variants.{Load, Store, StoreConst, Decode, Encode, Create, AnalyzeTuple, CreateTuple, Opposite, KeyOf, Match, Encrypt, Decrypt, Sign, Verify, Hash}
+use Rattle.terms.proofs.TableLaws.{Encrypts, Signs}
+use Rattle.theory.specs.World.{creatable}
+use Rattle.theory.specs.World as Voc
+
+abbrev pub Fits : (ℕ → ℕ) → Instruction → Type 0
+Fits kind (StoreConst c b) = (kind (c .0) ≡ 1) × (b < 256)
+Fits kind (Create v) = T (creatable (kind (v .0)))
+Fits kind (CreateTuple t b n) = (kind (t .0) ≡ 10) × (n ≤ 4)
+Fits kind (Opposite K k) = kind (k .0) ≡ 4
+Fits kind (Encrypt v) = Encrypts (kind (v .0))
+Fits kind (Sign v) = Signs (kind (v .0))
+Fits kind (Load r) = Unit {0}
+Fits kind (Store r) = Unit {0}
+Fits kind (Decode v) = Unit {0}
+Fits kind (Encode v) = Unit {0}
+Fits kind (AnalyzeTuple t b n) = Unit {0}
+Fits kind KeyOf = Unit {0}
+Fits kind (Match r) = Unit {0}
+Fits kind (Decrypt v) = Unit {0}
+Fits kind (Verify v r) = Unit {0}
+Fits kind (Hash h) = Unit {0}
+
+-- the byte of STORE CONST has 8 bits
+abbrev pub ByteFits : Instruction → Type 0
+ByteFits (StoreConst c b) = b < 256
+ByteFits (Create v) = Unit {0}
+ByteFits (CreateTuple t b n) = Unit {0}
+ByteFits (Opposite K k) = Unit {0}
+ByteFits (Encrypt v) = Unit {0}
+ByteFits (Sign v) = Unit {0}
+ByteFits (Load r) = Unit {0}
+ByteFits (Store r) = Unit {0}
+ByteFits (Decode v) = Unit {0}
+ByteFits (Encode v) = Unit {0}
+ByteFits (AnalyzeTuple t b n) = Unit {0}
+ByteFits KeyOf = Unit {0}
+ByteFits (Match r) = Unit {0}
+ByteFits (Decrypt v) = Unit {0}
+ByteFits (Verify v r) = Unit {0}
+ByteFits (Hash h) = Unit {0}
+
+module _ (kind : ℕ → ℕ) where
+  kind-of : (P : ℕ → Type 0) (kinds : List ℕ) (v : Object) → All P kinds → T (hasKind kind v kinds) → P (kind (v .0))
+  kind-of P kinds v all has = one-all P kinds (kind (v .0)) all (both (ltb (v .0) 64) (oneOf kinds (kind (v .0))) .0 has .1)
+
+  pub fits : (i : Instruction) → T (operandsFit kind i) → ByteFits i → Fits kind i
+  unfolding creatable
+  fits (StoreConst c b) has byte = (kind-of (λ k. k ≡ 1) (1 ∷ []) c (refl, tt) has, byte)
+  fits (Create v) has byte = both (ltb (v .0) 64) (oneOf (2 ∷ 5 ∷ 6 ∷ []) (kind (v .0))) .0 has .1
+  fits (CreateTuple t b n) has byte =
+      let h = both (hasKind kind t (10 ∷ [])) (cellsFit b n) .0 has in
+      (kind-of (λ k. k ≡ 10) (10 ∷ []) t (refl, tt) (h .0), is-most n 4 .0 (both (leb n 4) (leb (b .0 + n) 256) .0 (h .1) .0))
+  fits (Opposite K k) has byte = kind-of (λ n. n ≡ 4) (4 ∷ []) k (refl, tt) (both (hasKind kind K (5 ∷ [])) (hasKind kind k (4 ∷ [])) .0 has .1)
+  fits (Encrypt v) has byte = kind-of Encrypts (4 ∷ 6 ∷ []) v (inl refl, (inr refl, tt)) has
+  fits (Sign v) has byte = kind-of Signs (5 ∷ 6 ∷ []) v (inl refl, (inr refl, tt)) has
+  fits (Load r) has byte = tt
+  fits (Store r) has byte = tt
+  fits (Decode v) has byte = tt
+  fits (Encode v) has byte = tt
+  fits (AnalyzeTuple t b n) has byte = tt
+  fits KeyOf has byte = tt
+  fits (Match r) has byte = tt
+  fits (Decrypt v) has byte = tt
+  fits (Verify v r) has byte = tt
+  fits (Hash h) has byte = tt

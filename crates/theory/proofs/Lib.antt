@@ -1,0 +1,5 @@
+-- Rows stand for terms: one world read in another.
+pub mod Fitting
+pub mod Related
+pub mod Refinement
+pub mod ModelRefinement
