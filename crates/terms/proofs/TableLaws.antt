@@ -10,7 +10,7 @@ use native.Mathlib.Decide.{decLt, ℕ-discrete}
 use lib.Dec.{T, eqb, ltb}
 use lib.ListN.{length, getD, set, length-set, List·getD-eq-default}
 use lib.Seq.{getD-take, getD-set-same, getD-set-other, length-take-le}
-use Rattle.word.proofs.LowestLaws.{both, chosen, fails, equals, is-below, not-below, is-most, All, all-map, each-all, one-of, one-of-two, lowest-none}
+use Rattle.word.proofs.LowestLaws.{both, chosen, fails, equals, is-below, not-below, is-most, All, each-all, one-of, one-of-two, lowest-none}
 use Rattle.terms.specs.Shape.{Shape, atom, encrypted, signed, hashed, tupled, partsOf}
 use Rattle.terms.specs.Row.{wordOf, tagOf, shapeOf}
 use Rattle.terms.proofs.RowLaws.{Packs, kind-known, tag-word, shape-word, tag-nonzero}
@@ -75,9 +75,7 @@ number-fits counter (tupled parts) = Iff·rfl
 
 parts-below : (row : ℕ) (shape : Shape ℕ) → T (partsBelow row shape) ↔ PartsBelow row shape
 unfolding partsBelow
-parts-below row shape =
-    let test = each-all (λ part. ltb part row) (partsOf shape) in
-    (λ h. all-map (partsOf shape) (λ part. is-below part row .0) (test .0 h), λ h. test .1 (all-map (partsOf shape) (λ part. is-below part row .1) h))
+parts-below row shape = each-all (λ part. ltb part row) (λ part. part < row) (λ part. is-below part row) (partsOf shape)
 
 key-fits : (rows : List ℕ) (shape : Shape ℕ) → T (keyFits rows shape) ↔ KeyFits rows shape
 unfolding keyFits

@@ -3,3 +3,4 @@ pub mod Fitting
 pub mod Related
 pub mod Refinement
 pub mod ModelRefinement
+pub mod Meaning

@@ -63,14 +63,16 @@ module _ {A : Type 0} where
   all-map [] f h = tt
   all-map (a ∷ rest) f h = (f a (h .0), all-map rest f (h .1))
 
-  pub each-all : (test : A → Bool) (all : List A) → T (each test all) ↔ All (λ a. T (test a)) all
-  unfolding each
-  each-all test [] = (λ h. tt, λ h. tt)
-  each-all test (a ∷ rest) = go (test a) (each-all test rest)
-    where
-      go : (b : Bool) → T (each test rest) ↔ All (λ a. T (test a)) rest → T (elim b [ true ↦ each test rest | false ↦ false ]) ↔ (T b × All (λ a. T (test a)) rest)
-      go true ih = (λ h. (tt, ih .0 h), λ h. ih .1 (h .1))
-      go false ih = (λ h. absurd h, λ h. absurd (h .0))
+  -- a test of each element, where the test says a proposition
+  module _ (test : A → Bool) (P : A → Type 0) (says : (a : A) → T (test a) ↔ P a) where
+    pub each-all : (all : List A) → T (each test all) ↔ All P all
+    unfolding each
+    each-all [] = (λ h. tt, λ h. tt)
+    each-all (a ∷ rest) = go (test a) (says a) (each-all rest)
+      where
+        go : (b : Bool) → T b ↔ P a → T (each test rest) ↔ All P rest → T (elim b [ true ↦ each test rest | false ↦ false ]) ↔ (P a × All P rest)
+        go true here there = (λ h. (here .0 tt, there .0 h), λ h. there .1 (h .1))
+        go false here there = (λ h. absurd h, λ h. absurd (here .1 (h .0)))
 
 -- what holds of each of several numbers holds of one of them
 pub one-all : (P : ℕ → Type 0) (all : List ℕ) (n : ℕ) → All P all → T (oneOf all n) → P n
