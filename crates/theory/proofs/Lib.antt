@@ -4,3 +4,4 @@ pub mod Related
 pub mod Refinement
 pub mod ModelRefinement
 pub mod Meaning
+pub mod RowsAreTerms

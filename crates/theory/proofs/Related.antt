@@ -76,6 +76,17 @@ module _ {A B : Type 0} {R Q : A → B → Type 0} (f : (a : A) (b : B) → R a 
   cell-map unset = unset
   cell-map (set r) = set (f _ _ r)
 
+  pub each-map : {all : List A} {others : List B} → EachR R all others → EachR Q all others
+  each-map nil = nil
+  each-map (cons r rest) = cons (f _ _ r) (each-map rest)
+
+  pub shape-map : {shape : Shape A} {other : Shape B} → ShapeR R shape other → ShapeR Q shape other
+  shape-map atomR = atomR
+  shape-map (encryptedR r q) = encryptedR (f _ _ r) (f _ _ q)
+  shape-map (signedR r q) = signedR (f _ _ r) (f _ _ q)
+  shape-map (hashedR r) = hashedR (f _ _ r)
+  shape-map (tupledR rs) = tupledR (each-map rs)
+
   pub answer-map : {answer : Answer A} {other : Answer B} → AnswerR R answer other → AnswerR Q answer other
   answer-map (gots r) = gots (f _ _ r)
   answer-map nots = nots
