@@ -5,3 +5,4 @@ pub mod Refinement
 pub mod ModelRefinement
 pub mod Meaning
 pub mod RowsAreTerms
+pub mod RowsRunAsTerms

@@ -1,12 +1,11 @@
 -- The meaning of a row: the term that its shape makes of the meanings of its parts. Different rows mean different terms.
 use mathlib.Core.Path.{_≡_, refl, sym, _∙_, ap, ap₂}
-use mathlib.Core.Bool.{Bool, true, false}
 use mathlib.Core.List.{List, [], _∷_, map}
-use Prim.Native.Nat.{ℕ, zero, suc, _<_, _≤_}
+use Prim.Native.Nat.{ℕ, zero, suc, _<_}
 use native.Mathlib.Omega.{arith}
-use lib.ListN.{length, getD}
+use lib.ListN.{getD}
 use Rattle.word.proofs.LowestLaws.{All, all-map}
-use Rattle.terms.specs.Shape.{Shape, atom, encrypted, signed, hashed, tupled, kindOf, partsOf}
+use Rattle.terms.specs.Shape.{Shape, atom, encrypted, signed, hashed, tupled, partsOf}
 use Rattle.terms.specs.Row.{wordOf, shapeOf}
 use Rattle.terms.specs.Rules.{usedRows}
 use Rattle.terms.proofs.TableLaws.{ValidTable}

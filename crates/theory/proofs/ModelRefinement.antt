@@ -30,23 +30,22 @@ module _ {M : Type 0} (kind : M → ℕ) (Named : ℕ → Type 0) where
   Makeable (tupled parts) = length parts ≤ 4
 
 -- what has to be shown of two models
-pub record ModelRefines (S T : Model) : Type 1 where
-  pub reading : Reading (world S) (world T)
+pub record ModelRefines (S T : Model) (F : Reading (world S) (world T)) : Type 1 where
   -- the numbers that names have
   pub Named : T .Mem → ℕ → Type 0
-  pub kinds : (t : T .Msg) (c : T .Mem) → kindOf (T .look t c) ≡ reading .kind t
-  pub looks : (x : S .Mem) (c : T .Mem) (a : S .Msg) (t : T .Msg) → reading .Good x c → reading .Means x a t
-      → ShapeR (reading .Means x) (S .look a x) (T .look t c)
-  pub makes : (x : S .Mem) (c : T .Mem) (s : Shape (S .Msg)) (u : Shape (T .Msg)) → reading .Good x c → ShapeR (reading .Means x) s u
-      → Makeable (reading .kind) (Named c) u → AnswerR (Made reading x (λ k. k ≡ kindOf u)) (S .make s x) (T .make u c)
+  pub kinds : (t : T .Msg) (c : T .Mem) → kindOf (T .look t c) ≡ F .kind t
+  pub looks : (x : S .Mem) (c : T .Mem) (a : S .Msg) (t : T .Msg) → F .Good x c → F .Means x a t
+      → ShapeR (F .Means x) (S .look a x) (T .look t c)
+  pub makes : (x : S .Mem) (c : T .Mem) (s : Shape (S .Msg)) (u : Shape (T .Msg)) → F .Good x c → ShapeR (F .Means x) s u
+      → Makeable (F .kind) (Named c) u → AnswerR (Made F x (λ k. k ≡ kindOf u)) (S .make s x) (T .make u c)
   -- a new name is taken, and so is that of each private key
-  pub freshes : (x : S .Mem) (c : T .Mem) → reading .Good x c
-      → AnswerR (λ r q. (r .0 ≡ q .0) × reading .Good (r .1) (q .1) × Kept reading x (r .1) × Named (q .1) (q .0)) (S .fresh x) (T .fresh c)
-  pub named : (x : S .Mem) (c : T .Mem) (a : S .Msg) (t : T .Msg) → reading .Good x c → reading .Means x a t
+  pub freshes : (x : S .Mem) (c : T .Mem) → F .Good x c
+      → AnswerR (λ r q. (r .0 ≡ q .0) × F .Good (r .1) (q .1) × Kept F x (r .1) × Named (q .1) (q .0)) (S .fresh x) (T .fresh c)
+  pub named : (x : S .Mem) (c : T .Mem) (a : S .Msg) (t : T .Msg) → F .Good x c → F .Means x a t
       → kindOf (T .look t c) ≡ 5 → Named c (numberOf (T .look t c))
-  pub certificates : (x : S .Mem) (c : T .Mem) (a : S .Msg) (t : T .Msg) → reading .Good x c → reading .Means x a t
-      → CellR (reading .Means x) (S .certificate a x) (T .certificate t c)
-  pub equals : (x : S .Mem) (c : T .Mem) (a b : S .Msg) (t u : T .Msg) → reading .Good x c → reading .Means x a t → reading .Means x b u
+  pub certificates : (x : S .Mem) (c : T .Mem) (a : S .Msg) (t : T .Msg) → F .Good x c → F .Means x a t
+      → CellR (F .Means x) (S .certificate a x) (T .certificate t c)
+  pub equals : (x : S .Mem) (c : T .Mem) (a b : S .Msg) (t u : T .Msg) → F .Good x c → F .Means x a t → F .Means x b u
       → S .equal a b x ≡ T .equal t u c
 
 -- a test that both sides make alike
@@ -63,10 +62,7 @@ name-tag : (kind : ℕ) → Holds (creatable kind) → (1 < kind) × (kind ≤ 6
 unfolding creatable
 name-tag kind = one-all (λ k. (1 < k) × (k ≤ 6)) (2 ∷ 5 ∷ 6 ∷ []) kind (omega arith)
 
-module _ (S T : Model) (L : ModelRefines S T) where
-  abbrev F : Reading (world S) (world T)
-  F = L .reading
-
+module _ (S T : Model) (F : Reading (world S) (world T)) (L : ModelRefines S T F) where
   -- nothing is made: a message that was there
   found : (x : S .Mem) (c : T .Mem) (a : S .Msg) (t : T .Msg) → F .Good x c → F .Means x a t → (right : ℕ → Type 0) → right (F .kind t) → Made F x right (a, x) (t, c)
   found x c a t good m right k = record { means = m; good = good; kept = λ a t n. n; kind = k }
@@ -143,5 +139,5 @@ module _ (S T : Model) (L : ModelRefines S T) where
   tested x c q q′ good (sameR {a = a} {c = d} {b = b} {d = e} m n) = rw (L .equals x c a d b e good m n) (sure-same (Unit {0}) (reasonNumber Differs) (T .equal b e c) λ h. tt)
   tested x c q q′ good (verifyR {k = k} {m = m} {s = s} {l = l} {n = n} {t = t} p r o) = verified-related x c k m l n good p r (L .looks x c s t good o)
 
-  pub worlds-refine : Refines (L .reading)
+  pub worlds-refine : Refines F
   worlds-refine = record { applies = applied; tests = tested; takes = λ x c a t n good m. taken-related x a t n (L .looks x c a t good m) }

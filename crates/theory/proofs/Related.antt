@@ -87,6 +87,11 @@ module _ {A B : Type 0} {R Q : A → B → Type 0} (f : (a : A) (b : B) → R a 
   shape-map (hashedR r) = hashedR (f _ _ r)
   shape-map (tupledR rs) = tupledR (each-map rs)
 
+  pub outcome-map : {outcome : Outcome A} {other : Outcome B} → OutcomeR R outcome other → OutcomeR Q outcome other
+  outcome-map (dones r) = dones (f _ _ r)
+  outcome-map stucks = stucks
+  outcome-map rooms = rooms
+
   pub answer-map : {answer : Answer A} {other : Answer B} → AnswerR R answer other → AnswerR Q answer other
   answer-map (gots r) = gots (f _ _ r)
   answer-map nots = nots

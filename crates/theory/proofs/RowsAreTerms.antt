@@ -1,35 +1,34 @@
 -- The table of rows stands for terms: whatever the vocabulary makes of rows, it makes of what they mean, and the table stays valid.
 use mathlib.Core.Path.{_≡_, refl, sym, _∙_, ap, fun-ext}
-use mathlib.Core.Logic.{_⊎_, inl, inr, _≢_}
+use mathlib.Core.Logic.{inl, inr, _≢_}
 use mathlib.Core.Bool.{Bool, true, false, cond, true≢false, false≢true}
 use mathlib.Core.Option.{Option, none, some}
 use mathlib.Core.List.{List, [], _∷_}
-use Prim.Native.Nat.{ℕ, zero, suc, _+_, _^_, _<_, _≤_}
+use Prim.Native.Nat.{ℕ, suc, _+_, _^_, _<_, _≤_}
 use native.Mathlib.Numerals.{add-one}
 use native.Mathlib.Omega.{arith}
 use lib.Dec.{T, eqb, eqb→eq, eqb-refl, ltb, ltb→lt}
 use lib.ListN.{length, getD, set, length-set}
 use lib.Seq.{getD-set-same, getD-set-other}
 use Rattle.word.proofs.LowestLaws.{All, all-map}
-use Rattle.terms.specs.Shape.{Shape, atom, encrypted, signed, hashed, tupled, kindOf, partsOf}
+use Rattle.terms.specs.Shape.{Shape, atom, kindOf}
 use Rattle.terms.specs.Row.{wordOf, tagOf, shapeOf}
 use Rattle.terms.specs.Rules.{usedRows}
-use Rattle.terms.specs.Finder.{Located, located, asTermRow, locate}
-use Rattle.terms.specs.declared.Found.the-variants.{At, Full}
+use Rattle.terms.specs.Finder.{locate}
 use Rattle.terms.proofs.RowLaws.{tag-kind, shape-word}
-use Rattle.terms.proofs.TableLaws.{Encrypts, Signs, NumberFits, GoodRow, GoodShape, ValidTable, used, old-row, new-row, used-added, valid-added, valid-raised, good-word}
+use Rattle.terms.proofs.TableLaws.{NumberFits, GoodRow, GoodShape, ValidTable, used, used-added, valid-added, valid-raised, good-word}
 use Rattle.terms.proofs.FinderLaws.{located-as}
 use Rattle.stores.specs.Certificates.{agentOf, keyOf, certified}
 use Rattle.stores.proofs.CertificateLaws.{GoodPair, ValidCertificates, certificates-kept}
-use Rattle.theory.specs.Outcome.{Answer, got, full}
+use Rattle.theory.specs.Outcome.{got, full}
 use Rattle.theory.specs.Model.{numberOf}
 use Rattle.theory.specs.RowModel.{Table, withRows, withCounter, mostNames, name, placed, rowModel, rowWorld}
 use Rattle.theory.specs.TermModel.{Term, Names, sameTerm, isYes, termOf, termModel, termWorld}
 use Rattle.theory.specs.TermModel as Term
 use Rattle.theory.proofs.Related.{EachR, nil, cons, CellR, unset, AnswerR, gots, fulls, ShapeR, atomR, encryptedR, signedR, hashedR, tupledR, each-length, same-kind, shape-map}
 use Rattle.theory.proofs.Related as Related
-use Rattle.theory.proofs.Refinement.{Reading, Kept, Made, Refines}
-use Rattle.theory.proofs.ModelRefinement.{Makeable, ModelRefines, worlds-refine}
+use Rattle.theory.proofs.Refinement.{Reading, Kept, Made}
+use Rattle.theory.proofs.ModelRefinement.{Makeable, ModelRefines}
 use Rattle.theory.proofs.Meaning.{reshaped, meaning, shape-term, meaning-of, shape-related, meaning-once, meaning-kept, related-reshaped}
 
 -- the public key term of an agent term
@@ -229,9 +228,8 @@ module _ (x : Table) (v : ValidMemory x) where
       go false below = fulls
       go true below = gots {a = (x .counter, withCounter x (suc (x .counter)))} {b = (x .counter, Term.withCounter (namesOf x) (suc (x .counter)))} (refl, (raised (below tt), refl), λ a t m. m, omega arith)
 
-pub rows-are-terms : ModelRefines rowModel termModel
+pub rows-are-terms : ModelRefines rowModel termModel rowsRead
 rows-are-terms = record {
-  reading = rowsRead;
   Named = λ c n. n < c .counter;
   kinds = λ t c. refl;
   looks = λ x c row t good m. looked x (good .0) row t m;
