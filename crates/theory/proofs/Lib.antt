@@ -6,3 +6,4 @@ pub mod ModelRefinement
 pub mod Meaning
 pub mod RowsAreTerms
 pub mod RowsRunAsTerms
+pub mod Room

@@ -96,7 +96,7 @@ module _ {A B : Type 0} (R : ℕ → A → B → Type 0) where
 
 -- writing messages leaves the memory
 module _ (W : World) where
-  memory-set : (s : State W) (cell : ℕ) (m : W .Msg) → setMessage W s cell m .stores .memory ≡ s .stores .memory
+  pub memory-set : (s : State W) (cell : ℕ) (m : W .Msg) → setMessage W s cell m .stores .memory ≡ s .stores .memory
   unfolding setMessage
   memory-set s cell m = go (ltb cell namedCells)
     where
@@ -104,7 +104,7 @@ module _ (W : World) where
       go true = refl
       go false = refl
 
-  memory-kept : (s : State W) (first n : ℕ) (g : ℕ → W .Msg) → setMessages W s first n g .stores .memory ≡ s .stores .memory
+  pub memory-kept : (s : State W) (first n : ℕ) (g : ℕ → W .Msg) → setMessages W s first n g .stores .memory ≡ s .stores .memory
   unfolding setMessages
   memory-kept s first zero g = refl
   memory-kept s first (suc n) g = memory-set (setMessages W s first n g) (first + n) (g n) ∙ memory-kept s first n g
