@@ -8,7 +8,9 @@ use native.Mathlib.Omega.{arith}
 use lib.Dec.{T, eqb}
 use lib.ListN.{getD}
 use Rattle.word.specs.Lowest.{each}
-use Rattle.word.proofs.LowestLaws.{both, fails, equals, is-below, All, all-map, each-all}
+use Rattle.word.proofs.All.{All, all-map}
+use Rattle.word.proofs.TestLaws.{both, fails, equals, is-below}
+use Rattle.word.proofs.LowestLaws.{each-all}
 use Rattle.terms.specs.Row.{tagOf}
 use Rattle.stores.specs.Certificates.{agentOf, keyOf, spareOf, pairFits, agentsOnce}
 

@@ -10,7 +10,9 @@ use native.Mathlib.Decide.{decLt, ℕ-discrete}
 use lib.Dec.{T, eqb, ltb}
 use lib.ListN.{length, getD, set, length-set, List·getD-eq-default}
 use lib.Seq.{getD-take, getD-set-same, getD-set-other, length-take-le}
-use Rattle.word.proofs.LowestLaws.{both, chosen, fails, equals, is-below, not-below, is-most, All, each-all, one-of, one-of-two, lowest-none}
+use Rattle.word.proofs.All.{All}
+use Rattle.word.proofs.TestLaws.{both, chosen, fails, equals, is-below, not-below, at-most}
+use Rattle.word.proofs.LowestLaws.{each-all, one-of, one-of-two, lowest-none}
 use Rattle.terms.specs.Shape.{Shape, atom, encrypted, signed, hashed, tupled, partsOf}
 use Rattle.terms.specs.Row.{wordOf, tagOf, shapeOf}
 use Rattle.terms.proofs.RowLaws.{Packs, kind-known, tag-word, shape-word, tag-nonzero}
@@ -58,7 +60,7 @@ pub record ValidTable (rows : List ℕ) (counter : ℕ) : Type 0 where
 -- each rule, as a test and as a proposition
 known-tag : (word : ℕ) → T (knownTag word) ↔ ((1 ≤ tagOf word) × (tagOf word ≤ 10))
 unfolding knownTag
-known-tag word = simp (both, is-most) Iff·rfl
+known-tag word = simp (both, at-most) Iff·rfl
 
 unused-zero : (word : ℕ) → T (unusedZero word) ↔ (wordOf (shapeOf word) ≡ word)
 unfolding unusedZero

@@ -5,7 +5,9 @@ use mathlib.Core.List.{List, [], _∷_}
 use Prim.Native.Nat.{ℕ, _+_, _<_, _≤_}
 use lib.Dec.{T, leb, ltb}
 use Rattle.word.specs.Lowest.{oneOf}
-use Rattle.word.proofs.LowestLaws.{All, both, one-all, is-most}
+use Rattle.word.proofs.All.{All}
+use Rattle.word.proofs.TestLaws.{both, at-most}
+use Rattle.word.proofs.LowestLaws.{one-all}
 use Rattle.code.specs.Words.{hasKind, cellsFit, operandsFit}
 use Rattle.code.specs.declared.Object.{Object}
 use Rattle.code.specs.declared.Instruction.{Instruction}
@@ -61,7 +63,7 @@ module _ (kind : ℕ → ℕ) where
   fits (Create v) has byte = both (ltb (v .0) 64) (oneOf (2 ∷ 5 ∷ 6 ∷ []) (kind (v .0))) .0 has .1
   fits (CreateTuple t b n) has byte =
       let h = both (hasKind kind t (10 ∷ [])) (cellsFit b n) .0 has in
-      (kind-of (λ k. k ≡ 10) (10 ∷ []) t (refl, tt) (h .0), is-most n 4 .0 (both (leb n 4) (leb (b .0 + n) 256) .0 (h .1) .0))
+      (kind-of (λ k. k ≡ 10) (10 ∷ []) t (refl, tt) (h .0), at-most n 4 .0 (both (leb n 4) (leb (b .0 + n) 256) .0 (h .1) .0))
   fits (Opposite K k) has byte = kind-of (λ n. n ≡ 4) (4 ∷ []) k (refl, tt) (both (hasKind kind K (5 ∷ [])) (hasKind kind k (4 ∷ [])) .0 has .1)
   fits (Encrypt v) has byte = kind-of Encrypts (4 ∷ 6 ∷ []) v (inl refl, (inr refl, tt)) has
   fits (Sign v) has byte = kind-of Signs (5 ∷ 6 ∷ []) v (inl refl, (inr refl, tt)) has

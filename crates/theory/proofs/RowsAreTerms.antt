@@ -10,7 +10,7 @@ use native.Mathlib.Omega.{arith}
 use lib.Dec.{T, eqb, eqb→eq, eqb-refl, ltb, ltb→lt}
 use lib.ListN.{length, getD, set, length-set}
 use lib.Seq.{getD-set-same, getD-set-other}
-use Rattle.word.proofs.LowestLaws.{All, all-map}
+use Rattle.word.proofs.All.{All, all-map}
 use Rattle.terms.specs.Shape.{Shape, atom, kindOf}
 use Rattle.terms.specs.Row.{wordOf, tagOf, shapeOf}
 use Rattle.terms.specs.Rules.{usedRows}

@@ -5,7 +5,7 @@ use mathlib.Core.List.{List}
 use Prim.Native.Nat.{ℕ, _<_}
 use lib.Dec.{T}
 use lib.ListN.{getD}
-use Rattle.word.proofs.LowestLaws.{All, all-map}
+use Rattle.word.proofs.All.{All, all-map}
 use Rattle.code.specs.Words.{operandsFit}
 use Rattle.terms.specs.Row.{tagOf}
 use Rattle.theory.specs.RowModel.{Table, rowModel, rowWorld}
