@@ -51,14 +51,14 @@ valid-certificates rows used certificates =
     simp (both, pairs, agents-once) (λ h. record { pairs = h .0; once = h .1 }, λ v. (v .pairs, v .once))
 
 -- pairs of rows that are kept stay good
-pub certificates-kept : (rows others : List ℕ) (used more : ℕ) (certificates : List ℕ) → used ≤ more → ((row : ℕ) → row < used → getD others row 0 ≡ getD rows row 0)
-    → ValidCertificates rows used certificates → ValidCertificates others more certificates
-certificates-kept rows others used more certificates up kept valid = record { pairs = all-map certificates pair-kept (valid .pairs); once = valid .once }
+pub certificates-kept : {rows : List ℕ} {used : ℕ} {certificates : List ℕ} (others : List ℕ) (more : ℕ) → used ≤ more
+    → ((row : ℕ) → row < used → getD others row 0 ≡ getD rows row 0) → ValidCertificates rows used certificates → ValidCertificates others more certificates
+certificates-kept {rows} {used} {certificates} others more up kept valid = record { pairs = all-map certificates pair-kept (valid .pairs); once = valid .once }
   where
     pair-kept : (word : ℕ) → GoodPair rows used word → GoodPair others more word
     pair-kept word g =
         record {
           spare = g .spare;
-          agent = (let l = g .agent .0 in omega arith, rw (kept (agentOf word) (g .agent .0)) (g .agent .1));
-          key = (let l = g .key .0 in omega arith, rw (kept (keyOf word) (g .key .0)) (g .key .1));
+          agent = (omega (arith, g .agent .0), rw (kept (agentOf word) (g .agent .0)) (g .agent .1));
+          key = (omega (arith, g .key .0), rw (kept (keyOf word) (g .key .0)) (g .key .1));
         }

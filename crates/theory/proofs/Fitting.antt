@@ -1,14 +1,19 @@
 -- What an instruction asks of kinds and numbers, so that a row can hold what it makes: it is part of what good code words are.
-use mathlib.Core.Path.{_≡_, refl}
+use mathlib.Core.Path.{_≡_, refl, subst}
 use mathlib.Core.Logic.{inl, inr}
+use mathlib.Core.Option.{Option, none, some}
 use mathlib.Core.List.{List, [], _∷_}
-use Prim.Native.Nat.{ℕ, _+_, _<_, _≤_}
-use lib.Dec.{T, leb, ltb}
+use Prim.Native.Nat.{ℕ, _+_, _/_, _^_, _<_, _≤_}
+use native.Mathlib.Nat.{mod-lt}
+use native.Mathlib.Omega.{arith}
+use lib.Dec.{T, eqb, leb, ltb}
+use Rattle.word.specs.Fields.{split, at}
 use Rattle.word.specs.Lowest.{oneOf}
-use Rattle.word.proofs.All.{All}
+use Rattle.word.proofs.All.{All, all-getD}
 use Rattle.word.proofs.TestLaws.{both, at-most}
 use Rattle.word.proofs.LowestLaws.{one-all}
-use Rattle.code.specs.Words.{hasKind, cellsFit, operandsFit}
+use Rattle.code.specs.Instruction.{wordWidths, asObject, asRaw, wordOf, instructionBy, instructionOf}
+use Rattle.code.specs.Words.{wordFits, goodWord, hasKind, cellsFit, operandsFit}
 use Rattle.code.specs.declared.Object.{Object}
 use Rattle.code.specs.declared.Instruction.{Instruction}
 use Rattle.code.specs.declared.Instruction.the-variants.{Load, Store, StoreConst, Decode, Encode, Create, AnalyzeTuple, CreateTuple, Opposite, KeyOf, Match, Encrypt, Decrypt, Sign, Verify, Hash}
@@ -77,3 +82,32 @@ module _ (kind : ℕ → ℕ) where
   fits (Decrypt v) has byte = tt
   fits (Verify v r) has byte = tt
   fits (Hash h) has byte = tt
+
+-- a byte that is read from a word has 8 bits
+abbrev Decoded : Option Instruction → Type 0
+Decoded (some i) = ByteFits i
+Decoded none = Unit {0}
+
+decoded-by : (operation a b n : ℕ) → b < 256 → Decoded (instructionBy operation a b n)
+decoded-by operation a b n below =
+    all-getD Decoded
+    (none ∷ none
+    ∷ some (Load (asRaw a)) ∷ some (Store (asRaw a)) ∷ some (StoreConst (asObject a) b)
+    ∷ some (Decode (asObject a)) ∷ some (Encode (asObject a)) ∷ some (Create (asObject a))
+    ∷ some (AnalyzeTuple (asObject a) (asRaw b) n) ∷ some (CreateTuple (asObject a) (asRaw b) n)
+    ∷ some (Opposite (asObject a) (asObject b)) ∷ some KeyOf ∷ some (Match (asRaw a))
+    ∷ some (Encrypt (asObject a)) ∷ some (Decrypt (asObject a)) ∷ some (Sign (asObject a))
+    ∷ some (Verify (asObject a) (asRaw b)) ∷ some (Hash (asObject a)) ∷ [])
+    none (omega arith) tt operation
+
+decoded : (word : ℕ) → Decoded (instructionOf word)
+unfolding instructionOf
+decoded word =
+    let fields = split wordWidths word in
+    decoded-by (at 0 fields) (at 1 fields) (at 2 fields) (at 3 fields) (mod-lt (word / 2 ^ 11) (omega arith))
+
+-- so the instructions of good code words fit
+pub good-word-fits : (kind : ℕ → ℕ) (word : ℕ) (i : Instruction) → instructionOf word ≡ some i → T (goodWord kind word) → T (operandsFit kind i) × ByteFits i
+unfolding goodWord
+good-word-fits kind word i e good =
+    (both (eqb (wordOf i) word) (operandsFit kind i) .0 (subst (λ o. T (wordFits kind word o)) e good) .1, subst Decoded e (decoded word))

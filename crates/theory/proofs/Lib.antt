@@ -4,6 +4,7 @@ pub mod Related
 pub mod Refinement
 pub mod ModelRefinement
 pub mod Meaning
+pub mod ValidMemory
 pub mod RowsAreTerms
 pub mod RowsRunAsTerms
 pub mod Room

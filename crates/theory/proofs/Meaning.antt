@@ -93,7 +93,7 @@ module _ {A B : Type 0} (R : A → B → Type 0) (once : (a c : A) (b : B) → R
   shape-once (tupledR rs) (tupledR qs) = ap tupled (each-once rs qs)
 
 -- the laws of meaning, in a valid table
-module _ (rows : List ℕ) (counter : ℕ) (valid : ValidTable rows counter) where
+module _ {rows : List ℕ} {counter : ℕ} (valid : ValidTable rows counter) where
   abbrev rowShape : ℕ → Shape ℕ
   rowShape row = shapeOf (getD rows row 0)
 

@@ -16,7 +16,8 @@ use Rattle.theory.proofs.Related.{CellR, unset, set, OutcomeR, outcome-
 use Rattle.theory.proofs.Refinement.{ObjectR, StateR, exec-related}
 use Rattle.theory.proofs.ModelRefinement.{worlds-refine}
 use Rattle.theory.proofs.Meaning.{meaning}
-use Rattle.theory.proofs.RowsAreTerms.{ValidMemory, namesOf, Means, kindOfTerm, rowsRead, rows-are-terms, tag-means}
+use Rattle.theory.proofs.ValidMemory.{ValidMemory}
+use Rattle.theory.proofs.RowsAreTerms.{namesOf, Means, kindOfTerm, rowsRead, rows-are-terms, tag-means}
 
 -- what a set cell has to be
 abbrev pub Held : {A : Type 0} → (A → Type 0) → Option A → Type 0
@@ -75,7 +76,7 @@ module _ (kind : ℕ → ℕ) where
       cell = cell-read (IsUsed x) (Means x) (meaning (x .rows)) λ row used. (used, refl)
 
       object : {k : ℕ} (row : ℕ) → IsUsed x row × (tagOf (getD (x .rows) row 0) ≡ k) → Means x row (meaning (x .rows) row) × (kindOfTerm (meaning (x .rows) row) ≡ k)
-      object row h = ((h .0, refl), sym (tag-means x (v .table) row (meaning (x .rows) row) (h .0, refl)) ∙ h .1)
+      object row h = ((h .0, refl), sym (tag-means (v .table) row (meaning (x .rows) row) (h .0, refl)) ∙ h .1)
 
   related-state : (s : State rowWorld) (t : State termWorld) → StateR rowsRead kind s t → Reads kind s t
   related-state s t r = (
@@ -101,7 +102,7 @@ module _ (kind : ℕ → ℕ) where
 
       object : (v : ℕ) {cell : Option ℕ} {other : Option Term} → CellR (ObjectR rowsRead kind x v) cell other
           → Held (λ row. IsUsed x row × (tagOf (getD (x .rows) row 0) ≡ kind v)) cell × (other ≡ map (meaning (x .rows)) cell)
-      object v = read-cell _ (ObjectR rowsRead kind x v) (meaning (x .rows)) λ row t m. ((m .0 .0, tag-means x (r .good .0) row t (m .0) ∙ m .1), sym (m .0 .1))
+      object v = read-cell _ (ObjectR rowsRead kind x v) (meaning (x .rows)) λ row t m. ((m .0 .0, tag-means (r .good .0) row t (m .0) ∙ m .1), sym (m .0 .1))
 
   -- both end alike, unless the rows run out of room
   pub rows-run-as-terms : (code : List Line) (s : State rowWorld) (t : State termWorld)
