@@ -76,11 +76,11 @@ module _ {W T : World} (F : Reading W T) where
 
   -- what has to be shown of two worlds
   pub record Refines : Type 0 where
-    pub applies : (x : W .Mem) (c : T .Mem) (o : Op (W .Msg)) (o′ : Op (T .Msg)) → F .Good x c → OpR (F .Means x) (F .kind) o o′
+    pub applies : {x : W .Mem} {c : T .Mem} {o : Op (W .Msg)} {o′ : Op (T .Msg)} → F .Good x c → OpR (F .Means x) (F .kind) o o′
         → AnswerR (Made x (Makes o′)) (W .apply o x) (T .apply o′ c)
-    pub tests : (x : W .Mem) (c : T .Mem) (q : Test (W .Msg)) (q′ : Test (T .Msg)) → F .Good x c → TestR (F .Means x) q q′
+    pub tests : {x : W .Mem} {c : T .Mem} {q : Test (W .Msg)} {q′ : Test (T .Msg)} → F .Good x c → TestR (F .Means x) q q′
         → AnswerR (λ _ _. Shows (F .kind) q′) (W .test q x) (T .test q′ c)
-    pub takes : (x : W .Mem) (c : T .Mem) (a : W .Msg) (t : T .Msg) (n : ℕ) → F .Good x c → F .Means x a t
+    pub takes : {x : W .Mem} {c : T .Mem} {a : W .Msg} {t : T .Msg} (n : ℕ) → F .Good x c → F .Means x a t
         → AnswerR (λ g h. (i : ℕ) → i < n → F .Means x (g i) (h i)) (W .parts a n x) (T .parts t n c)
 
 module _ {A B : Type 0} (R : ℕ → A → B → Type 0) where
@@ -204,14 +204,14 @@ module _ {W T : World} (F : Reading W T) (L : Refines F) (kind : ℕ → ℕ) wh
   accumulator-made : (place : ℕ) (s : State W) (t : State T) (o : Op (W .Msg)) (o′ : Op (T .Msg)) → StateR F kind s t
       → OpR (F .Means (s .stores .memory)) (F .kind) o o′ → OutcomeR (StateR F kind) (makeAccumulator W kind place s o) (makeAccumulator T kind place t o′)
   accumulator-made place s t o o′ r m =
-      bind-related _ _ (at-related place (L .applies _ _ o o′ (r .good) m)) λ a b made.
+      bind-related _ _ (at-related place (L .applies (r .good) m)) λ a b made.
       dones (accumulated F kind _ _ (a .0) (b .0) (grown F kind s t (a .1) (b .1) r (made .good) (made .kept)) (made .means))
 
   object-made : (place : ℕ) (s : State W) (t : State T) (v : ℕ) (o : Op (W .Msg)) (o′ : Op (T .Msg)) → StateR F kind s t
       → OpR (F .Means (s .stores .memory)) (F .kind) o o′ → ((k : ℕ) → Makes o′ k → k ≡ kind v)
       → OutcomeR (StateR F kind) (makeObject W kind place s v o) (makeObject T kind place t v o′)
   object-made place s t v o o′ r m right =
-      bind-related _ _ (at-related place (L .applies _ _ o o′ (r .good) m)) λ a b made.
+      bind-related _ _ (at-related place (L .applies (r .good) m)) λ a b made.
       dones (object-set F kind _ _ v (a .0) (b .0) (grown F kind s t (a .1) (b .1) r (made .good) (made .kept)) (made .means, right _ (made .kind)))
 
   step-related : (place : ℕ) (i : Instruction) (s : State W) (t : State T) → Fits kind i → StateR F kind s t → OutcomeR (StateR F kind) (step W kind place i s) (step T kind place i t)
@@ -220,12 +220,12 @@ module _ {W T : World} (F : Reading W T) (L : Refines F) (kind : ℕ → ℕ) wh
   step-related place (StoreConst c b) s t fits st = object-made place s t (c .0) _ _ st (byteR (fits .1)) λ k e. e ∙ sym (fits .0)
   step-related place (Decode v) s t fits st =
       bind-related _ _ (need-related place (st .accumulators)) λ a b m.
-      bind-related _ _ (at-related place (L .tests _ _ _ _ (st .good) (isR m))) λ _ _ e. dones (object-set F kind s t (v .0) a b st (m, e))
+      bind-related _ _ (at-related place (L .tests (st .good) (isR m))) λ _ _ e. dones (object-set F kind s t (v .0) a b st (m, e))
   step-related place (Encode v) s t fits st = bind-related _ _ (need-related place (st .objects (v .0))) λ a b m. dones (accumulated F kind s t a b st (m .0))
   step-related place (Create v) s t fits st = object-made place s t (v .0) _ _ st (createR fits) λ k e. e
   step-related place (AnalyzeTuple u b n) s t fits st =
       bind-related _ _ (need-related place (st .objects (u .0))) λ a c m.
-      bind-related _ _ (at-related place (L .takes _ _ a c n (st .good) (m .0))) λ g h ms. dones (messages-set F kind s t (b .0) n g h st ms)
+      bind-related _ _ (at-related place (L .takes n (st .good) (m .0))) λ g h ms. dones (messages-set F kind s t (b .0) n g h st ms)
   step-related place (CreateTuple u b n) s t fits st =
       bind-related _ _ (messages-related F kind place s t (b .0) n st) λ ms ns rs.
       object-made place s t (u .0) _ _ st (tupleR (rw (rs .1) (fits .1)) (rs .0)) λ k e. e ∙ sym (fits .0)
@@ -235,7 +235,7 @@ module _ {W T : World} (F : Reading W T) (L : Refines F) (kind : ℕ → ℕ) wh
   step-related place (Match r) s t fits st =
       bind-related _ _ (need-related place (st .accumulators)) λ a b m.
       bind-related _ _ (need-related place (message-related F kind s t (r .0) st)) λ c d n.
-      bind-related _ _ (at-related place (L .tests _ _ _ _ (st .good) (sameR m n))) λ _ _ _. dones st
+      bind-related _ _ (at-related place (L .tests (st .good) (sameR m n))) λ _ _ _. dones st
   step-related place (Encrypt v) s t fits st =
       bind-related _ _ (need-related place (st .objects (v .0))) λ k l m.
       bind-related _ _ (need-related place (st .accumulators)) λ a b n. accumulator-made place s t _ _ st (encryptR (rw (m .1) fits) (m .0) n)
@@ -249,7 +249,7 @@ module _ {W T : World} (F : Reading W T) (L : Refines F) (kind : ℕ → ℕ) wh
       bind-related _ _ (need-related place (st .objects (v .0))) λ k l m.
       bind-related _ _ (need-related place (message-related F kind s t (r .0) st)) λ a b n.
       bind-related _ _ (need-related place (st .accumulators)) λ c d o.
-      bind-related _ _ (at-related place (L .tests _ _ _ _ (st .good) (verifyR (m .0) n o))) λ _ _ _. dones st
+      bind-related _ _ (at-related place (L .tests (st .good) (verifyR (m .0) n o))) λ _ _ _. dones st
   step-related place (Hash h) s t fits st = bind-related _ _ (need-related place (st .accumulators)) λ a b m. accumulator-made place s t _ _ st (hashR m)
 
   -- the same code on both
