@@ -99,8 +99,8 @@ module _ {A B : Type 0} {R Q : A → B → Type 0} (f : (a : A) (b : B) → R a 
 
 -- one part of a run after another
 module _ {A B C D : Type 0} {R : A → B → Type 0} {Q : C → D → Type 0} where
-  pub bind-related : {outcome : Outcome A} {other : Outcome B} (f : A → Outcome C) (g : B → Outcome D)
-      → OutcomeR R outcome other → ((a : A) (b : B) → R a b → OutcomeR Q (f a) (g b)) → OutcomeR Q (bind outcome f) (bind other g)
-  bind-related f g (dones r) next = next _ _ r
-  bind-related f g stucks next = stucks
-  bind-related f g rooms next = rooms
+  pub bind-related : {outcome : Outcome A} {other : Outcome B} {f : A → Outcome C} {g : B → Outcome D} → OutcomeR R outcome other
+      → ((a : A) (b : B) → R a b → OutcomeR Q (f a) (g b)) → OutcomeR Q (bind outcome f) (bind other g)
+  bind-related (dones r) next = next _ _ r
+  bind-related stucks next = stucks
+  bind-related rooms next = rooms

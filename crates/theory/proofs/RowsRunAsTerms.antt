@@ -100,9 +100,9 @@ module _ (kind : ℕ → ℕ) where
       cell : {cell : Option ℕ} {other : Option Term} → CellR (Means x) cell other → Held (IsUsed x) cell × (other ≡ map (meaning (x .rows)) cell)
       cell = read-cell (IsUsed x) (Means x) (meaning (x .rows)) λ row t m. (m .0, sym (m .1))
 
-      object : (v : ℕ) {cell : Option ℕ} {other : Option Term} → CellR (ObjectR rowsRead kind x v) cell other
+      object : (v : ℕ) {cell : Option ℕ} {other : Option Term} → CellR (ObjectR rowsRead kind s v) cell other
           → Held (λ row. IsUsed x row × (tagOf (getD (x .rows) row 0) ≡ kind v)) cell × (other ≡ map (meaning (x .rows)) cell)
-      object v = read-cell _ (ObjectR rowsRead kind x v) (meaning (x .rows)) λ row t m. ((m .0 .0, tag-means (r .good .0) row t (m .0) ∙ m .1), sym (m .0 .1))
+      object v = read-cell _ (ObjectR rowsRead kind s v) (meaning (x .rows)) λ row t m. ((m .0 .0, tag-means (r .good .0) row t (m .0) ∙ m .1), sym (m .0 .1))
 
   -- both end alike, unless the rows run out of room
   pub rows-run-as-terms : (code : List Line) (s : State rowWorld) (t : State termWorld)
@@ -110,5 +110,5 @@ module _ (kind : ℕ → ℕ) where
       → OutcomeR (Reads kind) (exec rowWorld kind code s) (exec termWorld kind code t)
   rows-run-as-terms code s t good reads =
       outcome-map related-state
-      (exec-related rowsRead (worlds-refine rowModel termModel rowsRead rows-are-terms) kind code s t (all-map code (λ l h. fits kind (l .instruction) (h .0) (h .1)) good)
+      (exec-related rowsRead (worlds-refine rowModel termModel rowsRead rows-are-terms) kind code (all-map code (λ l h. fits kind (l .instruction) (h .0) (h .1)) good)
       (rw (reads .1) (state-related s (reads .0))))
