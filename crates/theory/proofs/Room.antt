@@ -6,7 +6,7 @@ use mathlib.Core.Option.{Option, none, some}
 use mathlib.Core.List.{List, [], _∷_}
 use Prim.Native.Nat.{ℕ, zero, suc, _+_, _≤_}
 use native.Mathlib.Omega.{arith}
-use lib.Dec.{eqb}
+use lib.Dec.{T, eqb}
 use lib.ListN.{length, length-set}
 use borrow.Author.Tests.{lt-ltb}
 use Rattle.answers.specs.Numbers.{reasonNumber}
@@ -15,6 +15,8 @@ use Rattle.terms.specs.Shape.{Shape, atom, encrypted, signed, hashed, tupled, k
 use Rattle.terms.specs.Row.{wordOf}
 use Rattle.terms.specs.Finder.{locate}
 use Rattle.terms.proofs.FinderLaws.{located-as}
+use Rattle.word.proofs.All.{All}
+use Rattle.code.specs.Words.{operandsFit}
 use Rattle.code.specs.declared.Instruction.{Instruction}
 use Rattle.code.specs.declared.Instruction.the-variants.{Load, Store, StoreConst, Decode, Encode, Create, AnalyzeTuple, CreateTuple, Opposite, KeyOf, Match, Encrypt, Decrypt, Sign, Verify, Hash}
 use Rattle.theory.specs.Outcome.{Outcome, done, stuck, room, bind, Answer, got, not, andThen, sure, at, need}
@@ -23,7 +25,11 @@ use Rattle.theory.specs.World as Voc
 use Rattle.theory.specs.Model.{numberOf, goesWith, opened, certified, verified, taken}
 use Rattle.theory.specs.RowModel.{Table, withCounter, mostNames, name, placed, rowModel, rowWorld}
 use Rattle.theory.specs.Machine.{Line, State, message, messages, makeAccumulator, makeObject, step, exec}
+use Rattle.theory.specs.TermModel.{termWorld}
+use Rattle.theory.proofs.Fitting.{ByteFits}
+use Rattle.theory.proofs.Related.{SameEnd, same-end}
 use Rattle.theory.proofs.Refinement.{memory-set, memory-kept}
+use Rattle.theory.proofs.RowsRunAsTerms.{Reads, rows-run-as-terms}
 
 -- so many rows and so many names are free
 abbrev pub Free : ℕ → ℕ → Table → Type 0
@@ -187,3 +193,9 @@ module _ (kind : ℕ → ℕ) where
     where
       go : Ends {A = State rowWorld} Any (room place) → ⊥
       go h = elim h [ ]
+
+  -- then rows and terms have the same end
+  pub rows-end-as-terms : (code : List Line) (s : State rowWorld) (t : State termWorld)
+      → All (λ l. T (operandsFit kind (l .instruction)) × ByteFits (l .instruction)) code → Reads kind s t
+      → Free (length code) (length code) (s .stores .memory) → SameEnd (Reads kind) (exec rowWorld kind code s) (exec termWorld kind code t)
+  rows-end-as-terms code s t good reads free = same-end (rows-run-as-terms kind code s t good reads) (never-room code s free)
