@@ -19,7 +19,6 @@ use Rattle.code.specs.declared.Instruction.{Instruction}
 use Rattle.code.specs.declared.Instruction.the-variants.{Load, Store, StoreConst, Decode, Encode, Create, AnalyzeTuple, CreateTuple, Opposite, KeyOf, Match, Encrypt, Decrypt, Sign, Verify, Hash}
 use Rattle.terms.proofs.TableLaws.{Encrypts, Signs}
 use Rattle.theory.specs.World.{creatable}
-use Rattle.theory.specs.World as Voc
 
 abbrev pub Fits : (ℕ → ℕ) → Instruction → Type 0
 Fits kind (StoreConst c b) = (kind (c .0) ≡ 1) × (b < 256)

@@ -15,7 +15,6 @@ use Rattle.terms.specs.Shape.{Shape, atom, encrypted, signed, hashed, tupled, k
 use Rattle.terms.proofs.TableLaws.{Encrypts, Signs}
 use Rattle.theory.specs.Outcome.{Answer, andThen, sure}
 use Rattle.theory.specs.World.{Op, Test, creatable}
-use Rattle.theory.specs.World as Voc
 use Rattle.theory.specs.Model.{Model, numberOf, goesWith, opened, certified, verified, taken, applyIn, testIn, world}
 use Rattle.theory.proofs.Related.{CellR, unset, set, AnswerR, gots, nots, fulls, ShapeR, atomR, encryptedR, signedR, hashedR, tupledR, each-length, each-at, same-kind, same-number, answer-map}
 use Rattle.theory.proofs.Refinement.{OpR, byteR, createR, opR, keyOfR, encryptR, decryptR, signR, hashR, tupleR, TestR, isR, sameR, verifyR, Makes, Shows, Reading, Kept, Made, Refines}
