@@ -113,11 +113,13 @@ module _ (S T : Model) (F : Reading (world S) (world T)) (L : ModelRefines S T F
     verified-related m n (tupledR ps) = nots
 
     -- a fresh name, and the atom of it
-    created-related : (kind : ℕ) → Holds (creatable kind) → {answer : Answer (ℕ × S .Mem)} {other : Answer (ℕ × T .Mem)} → AnswerR (Fresh S T F (L .Named) x) answer other
+    created-related : (kind : ℕ) → Holds (creatable kind) → {answer : Answer (ℕ × S .Mem)} {other : Answer (ℕ × T .Mem)}
+        → AnswerR (Fresh S T F (L .Named) x) answer other
         → AnswerR (Made F x (λ k. k ≡ kind)) (andThen answer λ r. S .make (atom kind (r .0)) (r .1)) (andThen other λ r. T .make (atom kind (r .0)) (r .1))
     created-related kind creates (gots {a = r} h) =
         let tag = name-tag kind creates in
-        answer-map {R = Made F (r .1) (λ k. k ≡ kind)} (λ u w m. record { means = m .means; good = m .good; kept = λ a t n. m .kept a t (h .kept a t n); kind = m .kind })
+        answer-map {R = Made F (r .1) (λ k. k ≡ kind)}
+        (λ u w m. record { means = m .means; good = m .good; kept = λ a t n. m .kept a t (h .kept a t n); kind = m .kind })
         (rw (h .same) (L .makes (h .good) atomR (inr (tag .0, tag .1, h .taken))))
     created-related kind creates nots = nots
     created-related kind creates fulls = fulls
@@ -145,4 +147,8 @@ module _ (S T : Model) (F : Reading (world S) (world T)) (L : ModelRefines S T F
     tested (verifyR m n o) = verified-related m n (L .looks good o)
 
   pub worlds-refine : Refines F
-  worlds-refine = record { applies = λ good m. applied good m; tests = λ good m. tested good m; takes = λ {a = a} {t = t} n good m. taken-related a t n (L .looks good m) }
+  worlds-refine = record {
+    applies = λ good m. applied good m;
+    tests = λ good m. tested good m;
+    takes = λ {a = a} {t = t} n good m. taken-related a t n (L .looks good m);
+  }

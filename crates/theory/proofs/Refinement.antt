@@ -220,8 +220,8 @@ module _ {W T : World} (F : Reading W T) (L : Refines F) (kind : ℕ → ℕ) wh
         bind-related (at-related place (L .applies (st .good) m)) λ a b made.
         dones (accumulator-set F kind (grown F kind st (made .good) (made .kept)) (made .means))
 
-    object-made : (v : ℕ) {o : Op (W .Msg)} {o′ : Op (T .Msg)} → OpR (F .Means (s .stores .memory)) (F .kind) o o′ → ((k : ℕ) → Makes o′ k → k ≡ kind v)
-        → OutcomeR States (makeObject W kind place s v o) (makeObject T kind place t v o′)
+    object-made : (v : ℕ) {o : Op (W .Msg)} {o′ : Op (T .Msg)} → OpR (F .Means (s .stores .memory)) (F .kind) o o′
+        → ((k : ℕ) → Makes o′ k → k ≡ kind v) → OutcomeR States (makeObject W kind place s v o) (makeObject T kind place t v o′)
     object-made v m right =
         bind-related (at-related place (L .applies (st .good) m)) λ a b made.
         dones (object-set F kind (grown F kind st (made .good) (made .kept)) v (made .means, right _ (made .kind)))

@@ -75,7 +75,8 @@ module _ {A B : Type 0} {P : A → Type 0} {Q : B → Type 0} where
   answers-then f fails next = fails
 
 -- a row is taken, or none
-placed-free : (rows names : ℕ) (x : Table) (word : ℕ) → Free (suc rows) names x → Answers (λ r. Free rows names (r .1)) (placed x (locate (x .rows) (x .used) word))
+placed-free : (rows names : ℕ) (x : Table) (word : ℕ) → Free (suc rows) names x
+    → Answers (λ r. Free rows names (r .1)) (placed x (locate (x .rows) (x .used) word))
 placed-free rows names x word free =
     located-as (x .rows) (x .used) word (omega arith) (λ l. Answers (λ r. Free rows names (r .1)) (placed x l)) (λ row l e. gets (omega arith))
     (λ absent l. gets (rw length-set (omega arith), free .1)) (λ absent l. absurd (omega arith))
@@ -188,7 +189,8 @@ module _ (kind : ℕ → ℕ) where
   exec-free [] s free = ends tt
   exec-free (l ∷ code) s free = ends-bind _ (step-free kind (length code) (l .place) s free (l .instruction)) λ t h. exec-free code t h
 
-  pub never-room : (code : List Line) (s : State rowWorld) → Free (length code) (length code) (s .stores .memory) → (place : ℕ) → exec rowWorld kind code s ≢ room place
+  pub never-room : (code : List Line) (s : State rowWorld) → Free (length code) (length code) (s .stores .memory)
+      → (place : ℕ) → exec rowWorld kind code s ≢ room place
   never-room code s free place e = go (rw e at (exec-free code s free))
     where
       go : Ends {A = State rowWorld} Any (room place) → ⊥

@@ -84,7 +84,8 @@ module _ {x : Table} (v : ValidMemory x) where
       (go (eqb (agentOf word) row) (certified-means rest (pairs .1) row t m))
     where
       go : (b : Bool) → CellR (Means x) (certified rest row) (certifiedTerm rows rest t)
-          → CellR (Means x) (elim b [ true ↦ some (keyOf word) | false ↦ certified rest row ]) (cond b (some (meaning rows (keyOf word))) (certifiedTerm rows rest t))
+          → CellR (Means x) (elim b [ true ↦ some (keyOf word) | false ↦ certified rest row ])
+          (cond b (some (meaning rows (keyOf word))) (certifiedTerm rows rest t))
       go true later = Related.set (pairs .0 .key .0, refl)
       go false later = later
 
@@ -125,14 +126,16 @@ module _ {x : Table} (v : ValidMemory x) where
   -- the row of a shape means the shape's term
   row-means : (row : ℕ) {s : Shape ℕ} {u : Shape Term} → row < used → shapeOf (getD rows row 0) ≡ s → ShapeR (Means x) s u → Means x row (termOf u)
   row-means row l e m =
-      (l, meaning-of (v .table) row (is-used row l) ∙ ap (λ s. termOf (reshaped (meaning rows) s)) e ∙ ap termOf (related-reshaped (Means x) (meaning rows) (λ a t n. n .1) m))
+      let parts = related-reshaped (Means x) (meaning rows) (λ a t n. n .1) m in
+      (l, meaning-of (v .table) row (is-used row l) ∙ ap (λ s. termOf (reshaped (meaning rows) s)) e ∙ ap termOf parts)
 
   -- rows that are kept keep their meanings, and so do the certificates
   module _ (others : List ℕ) (same : (row : ℕ) → row < used → getD others row 0 ≡ getD rows row 0) where
     means-kept : (row : ℕ) → row < used → meaning others row ≡ meaning rows row
     means-kept row l = meaning-kept (v .table) others (λ row h. same row (omega arith)) row (is-used row l)
 
-    certified-kept : (certificates : List ℕ) → All (GoodPair rows used) certificates → (t : Term) → certifiedTerm others certificates t ≡ certifiedTerm rows certificates t
+    certified-kept : (certificates : List ℕ) → All (GoodPair rows used) certificates → (t : Term)
+        → certifiedTerm others certificates t ≡ certifiedTerm rows certificates t
     unfolding certifiedTerm
     certified-kept [] pairs t = refl
     certified-kept (word ∷ rest) pairs t =

@@ -57,7 +57,8 @@ module _ {A B : Type 0} (P : A → Type 0) (R : A → B → Type 0) (g : A → B
   cell-read reads none held = unset
   cell-read reads (some a) held = set (reads a held)
 
-  read-cell : ((a : A) (b : B) → R a b → P a × (b ≡ g a)) → {cell : Option A} {other : Option B} → CellR R cell other → Held P cell × (other ≡ map g cell)
+  read-cell : ((a : A) (b : B) → R a b → P a × (b ≡ g a)) → {cell : Option A} {other : Option B} → CellR R cell other
+      → Held P cell × (other ≡ map g cell)
   read-cell reads unset = (tt, refl)
   read-cell reads (set r) = let h = reads _ _ r in (h .0, ap some (h .1))
 
