@@ -4,7 +4,7 @@ pub mod StoreLaws
 pub mod FigureLaws
 pub mod MatchingRules
 pub mod CreatingRules
-pub mod Bounds
+pub mod InLimits
 pub mod SetCells
 pub mod Fitting
 pub mod Related
