@@ -1,0 +1,3 @@
+-- Compiled code does what the rules say.
+pub mod StoreLaws
+pub mod CellLaws
