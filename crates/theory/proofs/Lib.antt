@@ -1,3 +1,5 @@
 -- Compiled code does what the rules say.
 pub mod StoreLaws
 pub mod CellLaws
+pub mod Reasons
+pub mod Simulation
