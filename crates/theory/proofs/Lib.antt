@@ -3,3 +3,5 @@ pub mod StoreLaws
 pub mod CellLaws
 pub mod Reasons
 pub mod Simulation
+pub mod Steps
+pub mod Matching

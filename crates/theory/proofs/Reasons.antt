@@ -4,7 +4,7 @@ use mathlib.Core.Path.{_≡_}
 use mathlib.Core.Option.{Option, none, some}
 use Rattle.answers.specs.Numbers.{reasonNumber}
 use Rattle.answers.specs.declared.Reason.the-variants.{Unset}
-use Rattle.theory.specs.Outcome.{Outcome, done, stuck, room, Answer, got, not, full, at, need}
+use Rattle.theory.specs.Outcome.{Outcome, done, stuck, room, Answer, got, not, full, at}
 use Rattle.theory.specs.World.{World, Op, Test}
 
 module _ (Allowed : ℕ → Type 0) {A : Type 0} where
@@ -23,19 +23,25 @@ module _ (Allowed : ℕ → Type 0) {A : Type 0} where
   ReadWithin (some a) = Unit {0}
   ReadWithin none = Allowed (reasonNumber Unset)
 
-  pub at-within : (place : ℕ) (answer : Answer A) → AnswerWithin answer → OutcomeWithin (at place answer)
+  at-within : (place : ℕ) (answer : Answer A) → AnswerWithin answer → OutcomeWithin (at place answer)
   at-within place (got a) within = within
   at-within place (not why) within = within
   at-within place full within = within
-
-  pub need-within : (place : ℕ) (cell : Option A) → ReadWithin cell → OutcomeWithin (need place cell)
-  need-within place (some a) within = within
-  need-within place none within = within
 
 pub record WorldWithin (Allowed : ℕ → Type 0) (W : World) : Type 0 where
   pub apply : (o : Op (W .Msg)) (x : W .Mem) → AnswerWithin Allowed (W .apply o x)
   pub test : (t : Test (W .Msg)) (x : W .Mem) → AnswerWithin Allowed (W .test t x)
   pub parts : (m : W .Msg) (n : ℕ) (x : W .Mem) → AnswerWithin Allowed (W .parts m n x)
+
+module _ {Allowed : ℕ → Type 0} {W : World} (calm : WorldWithin Allowed W) (place : ℕ) where
+  pub apply-within : (o : Op (W .Msg)) (x : W .Mem) → OutcomeWithin Allowed (at place (W .apply o x))
+  apply-within o x = at-within Allowed place (W .apply o x) (calm .apply o x)
+
+  pub test-within : (t : Test (W .Msg)) (x : W .Mem) → OutcomeWithin Allowed (at place (W .test t x))
+  test-within t x = at-within Allowed place (W .test t x) (calm .test t x)
+
+  pub parts-within : (m : W .Msg) (n : ℕ) (x : W .Mem) → OutcomeWithin Allowed (at place (W .parts m n x))
+  parts-within m n x = at-within Allowed place (W .parts m n x) (calm .parts m n x)
 
 -- any reason at all
 abbrev pub AnyReason : ℕ → Type 0

@@ -228,6 +228,14 @@ module _ {Allowed : ℕ → Type 0} {W : World} {calm : WorldWithin Allowed W} {
       → known ≡ false → Sim calm kind Φ agree s (andThen C K) y → Sim calm kind Φ agree s (andThen (writes row known C) K) y
   writes-known row C K e h = rw e h
 
+  pub writes-at : {s : State W} (row : ℕ) {known : Bool} (cell : Option (W .Msg)) (C : Emitted) (g : Unit {0} → Outcome B)
+      → known ≡ isSome cell → Sim calm kind Φ agree s C (g tt) → Sim calm kind Φ agree s (writes row known C) (bind (free row cell) g)
+  unfolding Simulates
+  writes-at row {known = true} none C g e h = absurd (true≢false e)
+  writes-at row {known = true} (some a) C g e h = record { run = is-stuck }
+  writes-at row {known = false} none C g e h = h
+  writes-at row {known = false} (some a) C g e h = absurd (false≢true e)
+
   -- an instruction that does what the rule does next
   pub shares : {A : Type 0} {s : State W} (row : ℕ) (i : Instruction) (C : Emitted) (x : Outcome A) (t : A → State W) (g : A → Outcome B)
       → OutcomeWithin Allowed x → step W kind row i s ≡ bind x (λ a. done (t a)) → ((a : A) → x ≡ done a → Sim calm kind Φ agree (t a) C (g a))
@@ -260,3 +268,7 @@ module _ {Allowed : ℕ → Type 0} {W : World} {calm : WorldWithin Allowed W} {
           → Sim calm kind Φ agree′ s (after c D) (bind x g)
       go (ok c′ e′) n = record { run = rw exec-append (alike-bind (h .run) λ t a E. n t a (E .fits) (E .agrees) .run) }
       go (refuse answer) n = record { run = alike-not-done (h .run) λ t a E. n t a (E .fits) (E .agrees) .run }
+
+  pub weaken : {B : Type 0} {agree : State W → B → Type 0} {s : State W} {C : Emitted} {y : Outcome B} → ((d : Env) (t : State W) → Fit W Ψ d t → Fit W Φ d t)
+      → Sim calm kind Ψ agree s C y → Sim calm kind Φ agree s C y
+  weaken whole h = by-bind (last (goes-on (ok []) done whole h λ t d a F G q. stop F q))

@@ -1,0 +1,181 @@
+-- Matching: figure 5 does what figure 2 says, a lemma a form.
+use Prim.Native.Nat.{ℕ, zero, suc, _+_, _<_, _≤_}
+use mathlib.Core.Path.{_≡_, refl, _∙_}
+use mathlib.Core.Bool.{Bool, true, false, cond, true≢false, false≢true}
+use mathlib.Core.Option.{Option, none, some}
+use mathlib.Core.List.{List, [], _∷_}
+use native.Mathlib.Nat.{add-zero, zero-add, suc-add, add-suc, le-refl}
+use native.Mathlib.Omega.{arith}
+use Rattle.patterns.specs.Pattern.{Key, plainKey, opKey, certifiedKey, Pattern, object, raw, constant, opposite, keyOf, encryption, signature, hash, tuple, letIn, Parts, end, part, count, RawsBelow, PartsBelow}
+use Rattle.theory.specs.Outcome.{Outcome, bind, isSome}
+use Rattle.theory.specs.World.{World}
+use Rattle.theory.specs.Machine.{namedCells, scratch, named, Stores, State}
+use Rattle.theory.specs.Emission.{Env, Emitted, andThen, emit, take, _then_}
+use Rattle.theory.specs.Compilers.{STORE, DECODE, ENCODE, MATCH, compile↓, compile↓parts}
+use Rattle.theory.specs.Rules.{match, matchParts, matchObject, matchRaw}
+use Rattle.theory.proofs.StoreLaws.{put-same, puts-at}
+use Rattle.theory.proofs.Reasons.{ReadWithin, WorldWithin}
+use Rattle.theory.proofs.Simulation.{is-stuck, Frame, Fits, Fit, fits-from, from, fits-whole, fits-take, Sim, writes-at, refused, goes-on, weaken}
+use Rattle.theory.proofs.Steps as Step
+use Rattle.theory.proofs.Steps.{Goes, ends, lastly, takes}
+
+-- matching ends where the stores are the rule's
+abbrev pub Matched : (W : World) → State W → Stores W → Type 0
+Matched W s n = s .stores ≡ n
+
+module _ {Allowed : ℕ → Type 0} {W : World} (calm : WorldWithin Allowed W) (kind : ℕ → ℕ) (Φ : Frame W) where
+  -- what is shown of a pattern, where the accumulator may be read
+  abbrev pub Matches : Pattern → Type 0
+  Matches p = (e : Env) (s : State W) → ReadWithin Allowed (s .accumulator)
+      → Goes calm kind Φ (Matched W) e s (compile↓ p e) (match W kind p (s .accumulator) (s .stores))
+
+  -- a part of a pattern, and then the rest
+  matched : {e : Env} {s : State W} {C : Emitted} (K : Env → Emitted) {x : Outcome (Stores W)} (g : Stores W → Outcome (Stores W))
+      → Goes calm kind Φ (Matched W) e s C x
+      → ((d : Env) (t : State W) → Goes calm kind Φ (Matched W) d t (K d) (g (t .stores)))
+      → Goes calm kind Φ (Matched W) e s (andThen C K) (bind x g)
+  matched K g h next F = goes-on K g (λ d t G. G) (h F) λ t d n F G q. rw (← q) (next d t F)
+
+  constant-goes : (row c b : ℕ) → Matches (constant row c b)
+  constant-goes row c b e s ready =
+      takes 1 λ above.
+      Step.store-scratch row (e .next) _ above ready λ m.
+      Step.store-const row c b _ λ made.
+      Step.encode-known row c (made .0) _ (put-same _ _ _)
+      (lastly (Step.match-scratch row (e .next) (made .0) m _ refl (put-same _ _ _) (ends refl)))
+
+  opposite-goes : (row k K : ℕ) → Matches (opposite row k K)
+  opposite-goes row k K e s ready =
+      takes 1 λ above.
+      Step.store-scratch row (e .next) _ above ready λ m.
+      Step.opposite row K k _ λ made.
+      Step.encode-known row k (made .0) _ (put-same _ _ _)
+      (lastly (Step.match-scratch row (e .next) (made .0) m _ refl (put-same _ _ _) (ends refl)))
+
+  keyOf-goes : (row k a : ℕ) → Matches (keyOf row k a)
+  keyOf-goes row k a e s ready =
+      Step.decode row k _ ready λ m p.
+      takes 1 λ above.
+      Step.store-known row (e .next) m _ above p
+      (Step.encode row a _ λ x.
+      Step.key-of row x _ refl λ made.
+      lastly (Step.match-scratch row (e .next) (made .0) m _ refl (put-same _ _ _) (ends refl)))
+
+  hash-goes : (row h r : ℕ) → r < namedCells → Matches (hash row h r)
+  hash-goes row h r below e s ready =
+      Step.decode row h _ ready λ m p.
+      takes 1 λ above.
+      Step.store-known row (e .next) m _ above p
+      (Step.load-named row r _ below λ b.
+      Step.hash row h b _ refl λ made.
+      lastly (Step.match-scratch row (e .next) (made .0) m _ refl (put-same _ _ _) (ends refl)))
+
+  signature-goes : (row v : ℕ) (key : Key) (r : ℕ) → r < namedCells → Matches (signature row v key r)
+  signature-goes row v (plainKey vk) r below e s ready =
+      Step.decode row v _ ready λ m p.
+      lastly (Step.verify row vk r m _ below p (ends refl))
+  signature-goes row v (opKey k K) r below e s ready =
+      Step.decode row v _ ready λ m p.
+      Step.opposite row K k _ λ made.
+      lastly (Step.verify-known row k r (made .0) m _ below (put-same _ _ _) p (ends refl))
+  signature-goes row v (certifiedKey k a) r below e s ready =
+      Step.decode row v _ ready λ m p.
+      takes 1 λ above.
+      Step.store-known row (e .next) m _ above p
+      (Step.encode row a _ λ x.
+      Step.key-of row x _ refl λ made.
+      Step.decode-known row k (made .0) _ refl
+      (Step.load-scratch row (e .next) m _ (put-same _ _ _)
+      (lastly (Step.verify-known row k r (made .0) m _ below (put-same _ _ _) refl (ends refl)))))
+
+  encryption-goes : (row v dk : ℕ) (p : Pattern) → Matches p → Matches (encryption row v (plainKey dk) p)
+  encryption-goes row v dk p body e s ready =
+      Step.decode row v _ ready λ m q.
+      Step.decrypt row dk m _ q λ made.
+      body _ _ tt
+
+  object-goes : (row v : ℕ) → Matches (object row v)
+  object-goes row v e s ready F = go (e .objects v) (s .stores .σ v) refl (F .objects v)
+    where
+      go : (known : Bool) (value : Option (W .Msg)) → s .stores .σ v ≡ value → known ≡ isSome value
+          → Sim calm kind Φ (Matched W) s
+          (cond known ((take 1 λ rˢ. emit row (STORE (scratch rˢ)) then emit row (ENCODE v) then emit row (MATCH (scratch rˢ))) e) (emit row (DECODE v) e))
+          (matchObject W kind row v value (s .accumulator) (s .stores))
+      go true (some a) p q =
+          takes 1 (λ above.
+          Step.store-scratch row (e .next) _ above ready λ m.
+          Step.encode-known row v a _ p
+          (lastly (Step.match-scratch row (e .next) a m _ refl (put-same _ _ _) (ends refl)))) F
+      go false none p q = lastly (Step.decode row v _ ready λ m _. ends refl) F
+      go true none p q = absurd (true≢false q)
+      go false (some a) p q = absurd (false≢true q)
+
+  raw-goes : (row r : ℕ) → r < namedCells → Matches (raw row r)
+  raw-goes row r below e s ready F = go (e .raws r) (s .stores .ρ r) refl (F .raws r)
+    where
+      go : (known : Bool) (value : Option (W .Msg)) → s .stores .ρ r ≡ value → known ≡ isSome value
+          → Sim calm kind Φ (Matched W) s (cond known (emit row (MATCH (named r)) e) (emit row (STORE (named r)) e))
+          (matchRaw W kind row r value (s .accumulator) (s .stores))
+      go true (some a) p q = lastly (Step.match-named row r a _ below ready p λ m. ends refl) F
+      go false none p q = lastly (Step.store-named row r _ below ready λ m _. ends refl) F
+      go true none p q = absurd (true≢false q)
+      go false (some a) p q = absurd (false≢true q)
+
+  letIn-goes : (row r : ℕ) (p₁ p₂ : Pattern) → r < namedCells → Matches p₁ → Matches p₂ → Matches (letIn row r p₁ p₂)
+  letIn-goes row r p₁ p₂ below first second e s ready F =
+      writes-at row (s .stores .ρ r) _ _ (F .raws r)
+      (matched _ _ (second e s ready) (λ d t.
+      Step.load-named row r _ below λ m.
+      first _ _ tt) F)
+
+  -- what is shown of the parts of a tuple: their messages stand in scratch that is kept
+  unfoldable pub MatchesParts : Parts → Type 0
+  MatchesParts ps = (e : Env) (s : State W) (row b i : ℕ) (g : ℕ → W .Msg) → b + count ps ≤ Φ .low
+      → ((j : ℕ) → j < count ps → Φ .scratches (b + j) ≡ some (g (i + j)))
+      → Goes calm kind Φ (Matched W) e s (compile↓parts ps row b e) (matchParts W kind ps i g (s .stores))
+
+  end-goes : MatchesParts end
+  unfolding MatchesParts
+  end-goes e s row b i g kept cells = ends refl
+
+  part-goes : (p : Pattern) (ps : Parts) → Matches p → MatchesParts ps → MatchesParts (part p ps)
+  unfolding MatchesParts count
+  part-goes p ps first rest e s row b i g kept cells F =
+      Step.load-scratch row b (g i) _ (F .keeps-scratch b (omega arith) ∙ (simp add-zero at (cells zero (omega arith))))
+      (matched _ _ (first _ _ tt) λ d t.
+      rest d t row (suc b) (suc i) g (omega arith) λ j below.
+      simp suc-add (simp add-suc at (cells (suc j) (omega arith)))) F
+
+module _ {Allowed : ℕ → Type 0} {W : World} (calm : WorldWithin Allowed W) (kind : ℕ → ℕ) where
+  -- the parts run in a frame that keeps their cells
+  tuple-goes : (Φ : Frame W) (row t : ℕ) (ps : Parts) → ((Ψ : Frame W) → MatchesParts calm kind Ψ ps) → Matches calm kind Φ (tuple row t ps)
+  unfolding MatchesParts
+  tuple-goes Φ row t ps parts e s ready =
+      Step.decode row t _ ready λ m p.
+      takes (count ps) λ above.
+      Step.analyze-tuple row t (e .next) (count ps) m _ above (put-same _ _ _) λ g F.
+      weaken (λ d u G. fits-whole F (e .next + count ps) (omega arith) G)
+      (parts (from F (e .next + count ps)) _ _ row (e .next) zero g (le-refl _) (λ j below. rw zero-add (puts-at _ _ _ _ _ below))
+      (fits-from F (e .next + count ps) (le-refl _)))
+
+  mutual
+    unfolding RawsBelow PartsBelow
+
+    pub matching : (p : Pattern) → RawsBelow namedCells p → (Φ : Frame W) → Matches calm kind Φ p
+    matching (object row v) below Φ = object-goes calm kind Φ row v
+    matching (raw row r) below Φ = raw-goes calm kind Φ row r below
+    matching (constant row c b) below Φ = constant-goes calm kind Φ row c b
+    matching (opposite row k K) below Φ = opposite-goes calm kind Φ row k K
+    matching (keyOf row k a) below Φ = keyOf-goes calm kind Φ row k a
+    matching (encryption row v (plainKey dk) p) below Φ = encryption-goes calm kind Φ row v dk p (matching p below Φ)
+    matching (encryption row v (opKey k K) p) below Φ = λ e s ready F. refused is-stuck
+    matching (encryption row v (certifiedKey k a) p) below Φ = λ e s ready F. refused is-stuck
+    matching (signature row v key r) below Φ = signature-goes calm kind Φ row v key r below
+    matching (hash row h r) below Φ = hash-goes calm kind Φ row h r below
+    matching (tuple row t ps) below Φ = tuple-goes Φ row t ps (λ Ψ. matchings ps below Ψ)
+    matching (letIn row r p₁ p₂) below Φ =
+        letIn-goes calm kind Φ row r p₁ p₂ (below .0) (matching p₁ (below .1) Φ) (matching p₂ (below .2) Φ)
+
+    matchings : (ps : Parts) → PartsBelow namedCells ps → (Φ : Frame W) → MatchesParts calm kind Φ ps
+    matchings end below Φ = end-goes calm kind Φ
+    matchings (part p ps) below Φ = part-goes calm kind Φ p ps (matching p (below .0) Φ) (matchings ps (below .1) Φ)
