@@ -5,3 +5,4 @@ pub mod Reasons
 pub mod Simulation
 pub mod Steps
 pub mod Matching
+pub mod Creating

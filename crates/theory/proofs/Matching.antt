@@ -56,7 +56,7 @@ module _ {Allowed : ℕ → Type 0} {W : World} (calm : WorldWithin Allowed W) (
   keyOf-goes row k a e s ready =
       Step.decode row k _ ready λ m p.
       takes 1 λ above.
-      Step.store-known row (e .next) m _ above p
+      Step.store-scratch-known row (e .next) m _ above p
       (Step.encode row a _ λ x.
       Step.key-of row x _ refl λ made.
       lastly (Step.match-scratch row (e .next) (made .0) m _ refl (put-same _ _ _) (ends refl)))
@@ -65,7 +65,7 @@ module _ {Allowed : ℕ → Type 0} {W : World} (calm : WorldWithin Allowed W) (
   hash-goes row h r below e s ready =
       Step.decode row h _ ready λ m p.
       takes 1 λ above.
-      Step.store-known row (e .next) m _ above p
+      Step.store-scratch-known row (e .next) m _ above p
       (Step.load-named row r _ below λ b.
       Step.hash row h b _ refl λ made.
       lastly (Step.match-scratch row (e .next) (made .0) m _ refl (put-same _ _ _) (ends refl)))
@@ -81,7 +81,7 @@ module _ {Allowed : ℕ → Type 0} {W : World} (calm : WorldWithin Allowed W) (
   signature-goes row v (certifiedKey k a) r below e s ready =
       Step.decode row v _ ready λ m p.
       takes 1 λ above.
-      Step.store-known row (e .next) m _ above p
+      Step.store-scratch-known row (e .next) m _ above p
       (Step.encode row a _ λ x.
       Step.key-of row x _ refl λ made.
       Step.decode-known row k (made .0) _ refl
@@ -161,21 +161,21 @@ module _ {Allowed : ℕ → Type 0} {W : World} (calm : WorldWithin Allowed W) (
   mutual
     unfolding RawsBelow PartsBelow
 
-    pub matching : (p : Pattern) → RawsBelow namedCells p → (Φ : Frame W) → Matches calm kind Φ p
-    matching (object row v) below Φ = object-goes calm kind Φ row v
-    matching (raw row r) below Φ = raw-goes calm kind Φ row r below
-    matching (constant row c b) below Φ = constant-goes calm kind Φ row c b
-    matching (opposite row k K) below Φ = opposite-goes calm kind Φ row k K
-    matching (keyOf row k a) below Φ = keyOf-goes calm kind Φ row k a
-    matching (encryption row v (plainKey dk) p) below Φ = encryption-goes calm kind Φ row v dk p (matching p below Φ)
-    matching (encryption row v (opKey k K) p) below Φ = λ e s ready F. refused is-stuck
-    matching (encryption row v (certifiedKey k a) p) below Φ = λ e s ready F. refused is-stuck
-    matching (signature row v key r) below Φ = signature-goes calm kind Φ row v key r below
-    matching (hash row h r) below Φ = hash-goes calm kind Φ row h r below
-    matching (tuple row t ps) below Φ = tuple-goes Φ row t ps (λ Ψ. matchings ps below Ψ)
-    matching (letIn row r p₁ p₂) below Φ =
-        letIn-goes calm kind Φ row r p₁ p₂ (below .0) (matching p₁ (below .1) Φ) (matching p₂ (below .2) Φ)
+    pub matches : (p : Pattern) → RawsBelow namedCells p → (Φ : Frame W) → Matches calm kind Φ p
+    matches (object row v) below Φ = object-goes calm kind Φ row v
+    matches (raw row r) below Φ = raw-goes calm kind Φ row r below
+    matches (constant row c b) below Φ = constant-goes calm kind Φ row c b
+    matches (opposite row k K) below Φ = opposite-goes calm kind Φ row k K
+    matches (keyOf row k a) below Φ = keyOf-goes calm kind Φ row k a
+    matches (encryption row v (plainKey dk) p) below Φ = encryption-goes calm kind Φ row v dk p (matches p below Φ)
+    matches (encryption row v (opKey k K) p) below Φ = λ e s ready F. refused is-stuck
+    matches (encryption row v (certifiedKey k a) p) below Φ = λ e s ready F. refused is-stuck
+    matches (signature row v key r) below Φ = signature-goes calm kind Φ row v key r below
+    matches (hash row h r) below Φ = hash-goes calm kind Φ row h r below
+    matches (tuple row t ps) below Φ = tuple-goes Φ row t ps (λ Ψ. matches-parts ps below Ψ)
+    matches (letIn row r p₁ p₂) below Φ =
+        letIn-goes calm kind Φ row r p₁ p₂ (below .0) (matches p₁ (below .1) Φ) (matches p₂ (below .2) Φ)
 
-    matchings : (ps : Parts) → PartsBelow namedCells ps → (Φ : Frame W) → MatchesParts calm kind Φ ps
-    matchings end below Φ = end-goes calm kind Φ
-    matchings (part p ps) below Φ = part-goes calm kind Φ p ps (matching p (below .0) Φ) (matchings ps (below .1) Φ)
+    matches-parts : (ps : Parts) → PartsBelow namedCells ps → (Φ : Frame W) → MatchesParts calm kind Φ ps
+    matches-parts end below Φ = end-goes calm kind Φ
+    matches-parts (part p ps) below Φ = part-goes calm kind Φ p ps (matches p (below .0) Φ) (matches-parts ps (below .1) Φ)

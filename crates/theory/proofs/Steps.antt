@@ -117,11 +117,11 @@ module _ {Allowed : ℕ → Type 0} {W : World} {calm : WorldWithin Allowed W} {
       silent (withScratch W s i m) row (STORE (scratch i)) _ (rw (p, setMessage-scratch))
       (rw (addRaw-scratch e i) (h m (fits-scratch F i m above))))
 
-  pub store-known : (row i : ℕ) (m : W .Msg) (K : Env → Emitted) {e : Env} {s : State W} {y : Outcome B} → Φ .low ≤ i → s .accumulator ≡ some m
+  pub store-scratch-known : (row i : ℕ) (m : W .Msg) (K : Env → Emitted) {e : Env} {s : State W} {y : Outcome B} → Φ .low ≤ i → s .accumulator ≡ some m
       → Goes calm kind Φ agree e (withScratch W s i m) (K e) y
       → Goes calm kind Φ agree e s (andThen (emit row (STORE (scratch i)) e) K) y
   unfolding andThen emit
-  store-known row i m K {e} {s} above p h F =
+  store-scratch-known row i m K {e} {s} above p h F =
       writes-known row _ K (occupied-scratch e i)
       (silent (withScratch W s i m) row (STORE (scratch i)) _ (rw (p, setMessage-scratch))
       (rw (addRaw-scratch e i) (h (fits-scratch F i m above))))
@@ -140,6 +140,16 @@ module _ {Allowed : ℕ → Type 0} {W : World} {calm : WorldWithin Allowed W} {
       silent (withStores W s (setRaw W (s .stores) r m)) row (STORE (named r)) _ (rw (p, setMessage-named))
       (rw (addRaw-named e r below) (h m p (fits-raw F r m unset)))
 
+  pub store-named-known : (row r : ℕ) (m : W .Msg) (K : Env → Emitted) {e : Env} {s : State W} {y : Outcome B} → r < namedCells → s .accumulator ≡ some m
+      → Goes calm kind Φ agree (withRaw e r) (withStores W s (setRaw W (s .stores) r m)) (K (withRaw e r)) y
+      → Goes calm kind Φ agree e s (andThen (emit row (STORE (named r)) e) K) (bind (free row (s .stores .ρ r)) λ _. y)
+  unfolding andThen emit
+  store-named-known row r m K {e} {s} below p h F =
+      writes-it row (s .stores .ρ r) _ K _ (occupied-named e r below ∙ F .raws r) λ unset.
+      silent (withStores W s (setRaw W (s .stores) r m)) row (STORE (named r)) _ (rw (p, setMessage-named))
+      (rw (addRaw-named e r below) (h (fits-raw F r m unset)))
+
+  -- a message comes from a cell
   pub load-scratch : (row i : ℕ) (m : W .Msg) (K : Env → Emitted) {e : Env} {s : State W} {y : Outcome B} → s .scratches i ≡ some m
       → Goes calm kind Φ agree e (withAccumulator W s m) (K e) y
       → Goes calm kind Φ agree e s (andThen (emit row (LOAD (scratch i)) e) K) y
