@@ -23,21 +23,22 @@ use Rattle.theory.proofs.Steps.{Goes, ends, lastly, takes}
 abbrev pub Matched : (W : World) → State W → Stores W → Type 0
 Matched W s n = s .stores ≡ n
 
-module _ {Allowed : ℕ → Type 0} {W : World} (calm : WorldWithin Allowed W) (kind : ℕ → ℕ) (Φ : Frame W) where
-  -- what is shown of a pattern, where the accumulator may be read
-  abbrev pub Matches : Pattern → Type 0
-  Matches p = (e : Env) (s : State W) → ReadWithin Allowed (s .accumulator)
-      → Goes calm kind Φ (Matched W) e s (compile↓ p e) (match W kind p (s .accumulator) (s .stores))
-
-  -- a part of a pattern, and then the rest
+-- a part of a pattern, and then the rest
+module _ {Allowed : ℕ → Type 0} {W : World} {calm : WorldWithin Allowed W} {kind : ℕ → ℕ} {Φ : Frame W} where
   matched : {e : Env} {s : State W} {C : Emitted} (K : Env → Emitted) {x : Outcome (Stores W)} (g : Stores W → Outcome (Stores W))
       → Goes calm kind Φ (Matched W) e s C x
       → ((d : Env) (t : State W) → Goes calm kind Φ (Matched W) d t (K d) (g (t .stores)))
       → Goes calm kind Φ (Matched W) e s (andThen C K) (bind x g)
   matched K g h next F = goes-on K g (λ d t G. G) (h F) λ t d n F G q. rw (← q) (next d t F)
 
+module _ {Allowed : ℕ → Type 0} {W : World} (calm : WorldWithin Allowed W) (kind : ℕ → ℕ) where
+  -- what is shown of a pattern, where the accumulator may be read
+  abbrev pub Matches : Pattern → Type 0
+  Matches p = (Φ : Frame W) (e : Env) (s : State W) → ReadWithin Allowed (s .accumulator)
+      → Goes calm kind Φ (Matched W) e s (compile↓ p e) (match W kind p (s .accumulator) (s .stores))
+
   constant-goes : (row c b : ℕ) → Matches (constant row c b)
-  constant-goes row c b e s ready =
+  constant-goes row c b Φ e s ready =
       takes 1 λ above.
       Step.store-scratch row (e .next) _ above ready λ m.
       Step.store-const row c b _ λ made.
@@ -45,7 +46,7 @@ module _ {Allowed : ℕ → Type 0} {W : World} (calm : WorldWithin Allowed W) (
       (lastly (Step.match-scratch row (e .next) (made .0) m _ refl (put-same _ _ _) (ends refl)))
 
   opposite-goes : (row k K : ℕ) → Matches (opposite row k K)
-  opposite-goes row k K e s ready =
+  opposite-goes row k K Φ e s ready =
       takes 1 λ above.
       Step.store-scratch row (e .next) _ above ready λ m.
       Step.opposite row K k _ λ made.
@@ -53,7 +54,7 @@ module _ {Allowed : ℕ → Type 0} {W : World} (calm : WorldWithin Allowed W) (
       (lastly (Step.match-scratch row (e .next) (made .0) m _ refl (put-same _ _ _) (ends refl)))
 
   keyOf-goes : (row k a : ℕ) → Matches (keyOf row k a)
-  keyOf-goes row k a e s ready =
+  keyOf-goes row k a Φ e s ready =
       Step.decode row k _ ready λ m p.
       takes 1 λ above.
       Step.store-scratch-known row (e .next) m _ above p
@@ -62,7 +63,7 @@ module _ {Allowed : ℕ → Type 0} {W : World} (calm : WorldWithin Allowed W) (
       lastly (Step.match-scratch row (e .next) (made .0) m _ refl (put-same _ _ _) (ends refl)))
 
   hash-goes : (row h r : ℕ) → r < namedCells → Matches (hash row h r)
-  hash-goes row h r below e s ready =
+  hash-goes row h r below Φ e s ready =
       Step.decode row h _ ready λ m p.
       takes 1 λ above.
       Step.store-scratch-known row (e .next) m _ above p
@@ -71,14 +72,14 @@ module _ {Allowed : ℕ → Type 0} {W : World} (calm : WorldWithin Allowed W) (
       lastly (Step.match-scratch row (e .next) (made .0) m _ refl (put-same _ _ _) (ends refl)))
 
   signature-goes : (row v : ℕ) (key : Key) (r : ℕ) → r < namedCells → Matches (signature row v key r)
-  signature-goes row v (plainKey vk) r below e s ready =
+  signature-goes row v (plainKey vk) r below Φ e s ready =
       Step.decode row v _ ready λ m p.
       lastly (Step.verify row vk r m _ below p (ends refl))
-  signature-goes row v (opKey k K) r below e s ready =
+  signature-goes row v (opKey k K) r below Φ e s ready =
       Step.decode row v _ ready λ m p.
       Step.opposite row K k _ λ made.
       lastly (Step.verify-known row k r (made .0) m _ below (put-same _ _ _) p (ends refl))
-  signature-goes row v (certifiedKey k a) r below e s ready =
+  signature-goes row v (certifiedKey k a) r below Φ e s ready =
       Step.decode row v _ ready λ m p.
       takes 1 λ above.
       Step.store-scratch-known row (e .next) m _ above p
@@ -89,13 +90,13 @@ module _ {Allowed : ℕ → Type 0} {W : World} (calm : WorldWithin Allowed W) (
       (lastly (Step.verify-known row k r (made .0) m _ below (put-same _ _ _) refl (ends refl)))))
 
   encryption-goes : (row v dk : ℕ) (p : Pattern) → Matches p → Matches (encryption row v (plainKey dk) p)
-  encryption-goes row v dk p body e s ready =
+  encryption-goes row v dk p body Φ e s ready =
       Step.decode row v _ ready λ m q.
       Step.decrypt row dk m _ q λ made.
-      body _ _ tt
+      body Φ _ _ tt
 
   object-goes : (row v : ℕ) → Matches (object row v)
-  object-goes row v e s ready F = go (e .objects v) (s .stores .σ v) refl (F .objects v)
+  object-goes row v Φ e s ready F = go (e .objects v) (s .stores .σ v) refl (F .objects v)
     where
       go : (known : Bool) (value : Option (W .Msg)) → s .stores .σ v ≡ value → known ≡ isSome value
           → Sim calm kind Φ (Matched W) s
@@ -111,7 +112,7 @@ module _ {Allowed : ℕ → Type 0} {W : World} (calm : WorldWithin Allowed W) (
       go false (some a) p q = absurd (false≢true q)
 
   raw-goes : (row r : ℕ) → r < namedCells → Matches (raw row r)
-  raw-goes row r below e s ready F = go (e .raws r) (s .stores .ρ r) refl (F .raws r)
+  raw-goes row r below Φ e s ready F = go (e .raws r) (s .stores .ρ r) refl (F .raws r)
     where
       go : (known : Bool) (value : Option (W .Msg)) → s .stores .ρ r ≡ value → known ≡ isSome value
           → Sim calm kind Φ (Matched W) s (cond known (emit row (MATCH (named r)) e) (emit row (STORE (named r)) e))
@@ -122,35 +123,34 @@ module _ {Allowed : ℕ → Type 0} {W : World} (calm : WorldWithin Allowed W) (
       go false (some a) p q = absurd (false≢true q)
 
   letIn-goes : (row r : ℕ) (p₁ p₂ : Pattern) → r < namedCells → Matches p₁ → Matches p₂ → Matches (letIn row r p₁ p₂)
-  letIn-goes row r p₁ p₂ below first second e s ready F =
+  letIn-goes row r p₁ p₂ below first second Φ e s ready F =
       writes-at row (s .stores .ρ r) _ _ (F .raws r)
-      (matched _ _ (second e s ready) (λ d t.
+      (matched _ _ (second Φ e s ready) (λ d t.
       Step.load-named row r _ below λ m.
-      first _ _ tt) F)
+      first Φ _ _ tt) F)
 
   -- what is shown of the parts of a tuple: their messages stand in scratch that is kept
   unfoldable pub MatchesParts : Parts → Type 0
-  MatchesParts ps = (e : Env) (s : State W) (row b i : ℕ) (g : ℕ → W .Msg) → b + count ps ≤ Φ .low
+  MatchesParts ps = (Φ : Frame W) (e : Env) (s : State W) (row b i : ℕ) (g : ℕ → W .Msg) → b + count ps ≤ Φ .low
       → ((j : ℕ) → j < count ps → Φ .scratches (b + j) ≡ some (g (i + j)))
       → Goes calm kind Φ (Matched W) e s (compile↓parts ps row b e) (matchParts W kind ps i g (s .stores))
 
   end-goes : MatchesParts end
   unfolding MatchesParts
-  end-goes e s row b i g kept cells = ends refl
+  end-goes Φ e s row b i g kept cells = ends refl
 
   part-goes : (p : Pattern) (ps : Parts) → Matches p → MatchesParts ps → MatchesParts (part p ps)
   unfolding MatchesParts count
-  part-goes p ps first rest e s row b i g kept cells F =
+  part-goes p ps first rest Φ e s row b i g kept cells F =
       Step.load-scratch row b (g i) _ (F .keeps-scratch b (omega arith) ∙ (simp add-zero at (cells zero (omega arith))))
-      (matched _ _ (first _ _ tt) λ d t.
-      rest d t row (suc b) (suc i) g (omega arith) λ j below.
+      (matched _ _ (first Φ _ _ tt) λ d t.
+      rest Φ d t row (suc b) (suc i) g (omega arith) λ j below.
       simp suc-add (simp add-suc at (cells (suc j) (omega arith)))) F
 
-module _ {Allowed : ℕ → Type 0} {W : World} (calm : WorldWithin Allowed W) (kind : ℕ → ℕ) where
   -- the parts run in a frame that keeps their cells
-  tuple-goes : (Φ : Frame W) (row t : ℕ) (ps : Parts) → ((Ψ : Frame W) → MatchesParts calm kind Ψ ps) → Matches calm kind Φ (tuple row t ps)
+  tuple-goes : (row t : ℕ) (ps : Parts) → MatchesParts ps → Matches (tuple row t ps)
   unfolding MatchesParts
-  tuple-goes Φ row t ps parts e s ready =
+  tuple-goes row t ps parts Φ e s ready =
       Step.decode row t _ ready λ m p.
       takes (count ps) λ above.
       Step.analyze-tuple row t (e .next) (count ps) m _ above (put-same _ _ _) λ g F.
@@ -161,21 +161,21 @@ module _ {Allowed : ℕ → Type 0} {W : World} (calm : WorldWithin Allowed W) (
   mutual
     unfolding RawsBelow PartsBelow
 
-    pub matches : (p : Pattern) → RawsBelow namedCells p → (Φ : Frame W) → Matches calm kind Φ p
-    matches (object row v) below Φ = object-goes calm kind Φ row v
-    matches (raw row r) below Φ = raw-goes calm kind Φ row r below
-    matches (constant row c b) below Φ = constant-goes calm kind Φ row c b
-    matches (opposite row k K) below Φ = opposite-goes calm kind Φ row k K
-    matches (keyOf row k a) below Φ = keyOf-goes calm kind Φ row k a
-    matches (encryption row v (plainKey dk) p) below Φ = encryption-goes calm kind Φ row v dk p (matches p below Φ)
-    matches (encryption row v (opKey k K) p) below Φ = λ e s ready F. refused is-stuck
-    matches (encryption row v (certifiedKey k a) p) below Φ = λ e s ready F. refused is-stuck
-    matches (signature row v key r) below Φ = signature-goes calm kind Φ row v key r below
-    matches (hash row h r) below Φ = hash-goes calm kind Φ row h r below
-    matches (tuple row t ps) below Φ = tuple-goes Φ row t ps (λ Ψ. matches-parts ps below Ψ)
-    matches (letIn row r p₁ p₂) below Φ =
-        letIn-goes calm kind Φ row r p₁ p₂ (below .0) (matches p₁ (below .1) Φ) (matches p₂ (below .2) Φ)
+    pub matches : (p : Pattern) → RawsBelow namedCells p → Matches p
+    matches (object row v) below = object-goes row v
+    matches (raw row r) below = raw-goes row r below
+    matches (constant row c b) below = constant-goes row c b
+    matches (opposite row k K) below = opposite-goes row k K
+    matches (keyOf row k a) below = keyOf-goes row k a
+    matches (encryption row v (plainKey dk) p) below = encryption-goes row v dk p (matches p below)
+    matches (encryption row v (opKey k K) p) below = λ Φ e s ready F. refused is-stuck
+    matches (encryption row v (certifiedKey k a) p) below = λ Φ e s ready F. refused is-stuck
+    matches (signature row v key r) below = signature-goes row v key r below
+    matches (hash row h r) below = hash-goes row h r below
+    matches (tuple row t ps) below = tuple-goes row t ps (matches-parts ps below)
+    matches (letIn row r p₁ p₂) below =
+        letIn-goes row r p₁ p₂ (below .0) (matches p₁ (below .1)) (matches p₂ (below .2))
 
-    matches-parts : (ps : Parts) → PartsBelow namedCells ps → (Φ : Frame W) → MatchesParts calm kind Φ ps
-    matches-parts end below Φ = end-goes calm kind Φ
-    matches-parts (part p ps) below Φ = part-goes calm kind Φ p ps (matches p (below .0) Φ) (matches-parts ps (below .1) Φ)
+    matches-parts : (ps : Parts) → PartsBelow namedCells ps → MatchesParts ps
+    matches-parts end below = end-goes
+    matches-parts (part p ps) below = part-goes p ps (matches p (below .0)) (matches-parts ps (below .1))
