@@ -17,9 +17,9 @@ use Rattle.theory.specs.Rules.{getVariable, createKey, create, createPar
 use Rattle.theory.proofs.StoreLaws.{put-same}
 use Rattle.theory.proofs.CellLaws.{messages-scratch}
 use Rattle.theory.proofs.Reasons.{WorldWithin}
-use Rattle.theory.proofs.Simulation.{is-stuck, Frame, Fit, fits-from, fits-whole, Sim, by-bind, refused, goes-on}
+use Rattle.theory.proofs.Simulation.{is-stuck, Frame, Fit, fits-from, fits-whole, Sim, refused, goes-on}
 use Rattle.theory.proofs.Steps as Step
-use Rattle.theory.proofs.Steps.{Goes, ends, lastly, takes}
+use Rattle.theory.proofs.Steps.{Goes, goes, enter, by-bind, ends, lastly, takes}
 
 module _ (W : World) where
   -- what the rule makes, held somewhere by the machine, and the rule's stores
@@ -46,14 +46,14 @@ module _ {Allowed : ℕ → Type 0} {W : World} {calm : WorldWithin Allowed W} {
       → Goes calm kind (here W s low) (With W P) e s C x
       → ((d : Env) (t : State W) (m : X) → Fit W (here W s low) d t → P t m → Goes calm kind Φ agree d t (K d) (g (m, t .stores)))
       → Goes calm kind Φ agree e s (andThen C K) (bind x g)
-  above-then low above within made next F =
-      goes-on K g (λ d t G. fits-whole F low above G) (made (fits-from F low within)) λ t d a F G q.
-      subst (λ n. Sim calm kind Φ agree t (K d) (g (a .0, n))) (q .1) (next d t (a .0) G (q .0) F)
+  above-then low above within made next = goes λ F.
+      goes-on K g (λ d t G. fits-whole F low above G) (made .go (fits-from F low within)) λ t d a F G q.
+      subst (λ n. Sim calm kind Φ agree t (K d) (g (a .0, n))) (q .1) (next d t (a .0) G (q .0) .go F)
 
   made-then : Goes calm kind (here W s (e .next)) (With W P) e s C x
       → ((d : Env) (t : State W) (m : X) → Fit W (here W s (e .next)) d t → P t m → Goes calm kind Φ agree d t (K d) (g (m, t .stores)))
       → Goes calm kind Φ agree e s (andThen C K) (bind x g)
-  made-then made next F = above-then (e .next) (F .above) (le-refl _) made next F
+  made-then made next = goes λ F. above-then (e .next) (F .above) (le-refl _) made next .go F
 
 module _ {Allowed : ℕ → Type 0} {W : World} (calm : WorldWithin Allowed W) (kind : ℕ → ℕ) where
   -- what is shown of a pattern, and of the parts of a tuple
@@ -67,22 +67,22 @@ module _ {Allowed : ℕ → Type 0} {W : World} (calm : WorldWithin Allowed W) (
 
   variable-goes : (Φ : Frame W) (e : Env) (s : State W) (row v : ℕ)
       → Goes calm kind Φ (With W (InVariable W v)) e s (creating kind row v e) (getVariable W kind row v (s .stores .σ v) (s .stores))
-  variable-goes Φ e s row v F = go (e .objects v) (s .stores .σ v) refl (F .objects v)
+  variable-goes Φ e s row v = goes λ F. enter F (choose (e .objects v) (s .stores .σ v) refl (F .objects v))
     where
       new : s .stores .σ v ≡ none → (test : Bool) → creatable (kind v) ≡ test
-          → Sim calm kind Φ (With W (InVariable W v)) s
+          → Goes calm kind Φ (With W (InVariable W v)) e s
           (cond (creatable (kind v)) (emit row (CREATE v) e) (refuse (ReadWhileUnset row))) (getVariable W kind row v none (s .stores))
-      new p true q = rw q (lastly (Step.create row v _ p λ made. ends (put-same _ _ _, refl)) F)
-      new p false q = rw q (refused is-stuck)
+      new p true q = rw q (lastly (Step.create row v _ p λ made. ends (put-same _ _ _, refl)))
+      new p false q = rw q (goes λ F. refused is-stuck)
 
-      go : (known : Bool) (value : Option (W .Msg)) → s .stores .σ v ≡ value → known ≡ isSome value
-          → Sim calm kind Φ (With W (InVariable W v)) s
+      choose : (known : Bool) (value : Option (W .Msg)) → s .stores .σ v ≡ value → known ≡ isSome value
+          → Goes calm kind Φ (With W (InVariable W v)) e s
           (cond known (ok [] e) (cond (creatable (kind v)) (emit row (CREATE v) e) (refuse (ReadWhileUnset row))))
           (getVariable W kind row v value (s .stores))
-      go true (some a) p q = ends (p, refl) F
-      go false none p q = new p (creatable (kind v)) refl
-      go true none p q = absurd (true≢false q)
-      go false (some a) p q = absurd (false≢true q)
+      choose true (some a) p q = ends (p, refl)
+      choose false none p q = new p (creatable (kind v)) refl
+      choose true none p q = absurd (true≢false q)
+      choose false (some a) p q = absurd (false≢true q)
 
   -- a key ends in its variable
   key-goes : (Φ : Frame W) (e : Env) (s : State W) (row : ℕ) (key : Key)
@@ -97,9 +97,9 @@ module _ {Allowed : ℕ → Type 0} {W : World} (calm : WorldWithin Allowed W) (
       lastly (Step.decode-known row k (made .0) _ refl (ends (put-same _ _ _, refl)))
 
   object-goes : (row v : ℕ) → Creates (object row v)
-  object-goes row v Φ e s F =
-      by-bind (made-then (InVariable W v) _ _ (variable-goes _ e s row v) (λ d t m G p.
-      lastly (Step.encode-known row v m _ p (ends (refl, refl)))) F)
+  object-goes row v Φ e s =
+      by-bind (made-then (InVariable W v) _ _ (variable-goes _ e s row v) λ d t m G p.
+      lastly (Step.encode-known row v m _ p (ends (refl, refl))))
 
   raw-goes : (row r : ℕ) → r < namedCells → Creates (raw row r)
   raw-goes row r below Φ e s = lastly (Step.load-named row r _ below λ m. ends (refl, refl))
@@ -110,9 +110,9 @@ module _ {Allowed : ℕ → Type 0} {W : World} (calm : WorldWithin Allowed W) (
       lastly (Step.encode-known row c (made .0) _ (put-same _ _ _) (ends (refl, refl)))
 
   opposite-goes : (row k K : ℕ) → Creates (opposite row k K)
-  opposite-goes row k K Φ e s F =
-      by-bind (made-then (InVariable W k) _ _ (key-goes _ e s row (opKey k K)) (λ d t m G p.
-      lastly (Step.encode-known row k m _ p (ends (refl, refl)))) F)
+  opposite-goes row k K Φ e s =
+      by-bind (made-then (InVariable W k) _ _ (key-goes _ e s row (opKey k K)) λ d t m G p.
+      lastly (Step.encode-known row k m _ p (ends (refl, refl))))
 
   keyOf-goes : (row k a : ℕ) → Creates (keyOf row k a)
   keyOf-goes row k a Φ e s =
@@ -170,6 +170,7 @@ module _ {Allowed : ℕ → Type 0} {W : World} (calm : WorldWithin Allowed W) (
 
   mutual
     unfolding RawsBelow PartsBelow
+
     pub creates : (p : Pattern) → RawsBelow namedCells p → Creates p
     creates (object row v) below = object-goes row v
     creates (raw row r) below = raw-goes row r below

@@ -17,7 +17,7 @@ use Rattle.theory.proofs.StoreLaws.{put-same, puts-at}
 use Rattle.theory.proofs.Reasons.{ReadWithin, WorldWithin}
 use Rattle.theory.proofs.Simulation.{is-stuck, Frame, Fits, Fit, fits-from, from, fits-whole, fits-take, Sim, writes-at, refused, goes-on, weaken}
 use Rattle.theory.proofs.Steps as Step
-use Rattle.theory.proofs.Steps.{Goes, ends, lastly, takes}
+use Rattle.theory.proofs.Steps.{Goes, goes, enter, ends, lastly, takes}
 
 -- matching ends where the stores are the rule's
 abbrev pub Matched : (W : World) → State W → Stores W → Type 0
@@ -29,7 +29,7 @@ module _ {Allowed : ℕ → Type 0} {W : World} {calm : WorldWithin Allowed W} {
       → Goes calm kind Φ (Matched W) e s C x
       → ((d : Env) (t : State W) → Goes calm kind Φ (Matched W) d t (K d) (g (t .stores)))
       → Goes calm kind Φ (Matched W) e s (andThen C K) (bind x g)
-  matched K g h next F = goes-on K g (λ d t G. G) (h F) λ t d n F G q. rw (← q) (next d t F)
+  matched K g h next = goes λ F. goes-on K g (λ d t G. G) (h .go F) λ t d n F G q. rw (← q) (next d t .go F)
 
 module _ {Allowed : ℕ → Type 0} {W : World} (calm : WorldWithin Allowed W) (kind : ℕ → ℕ) where
   -- what is shown of a pattern, where the accumulator may be read
@@ -96,38 +96,38 @@ module _ {Allowed : ℕ → Type 0} {W : World} (calm : WorldWithin Allowed W) (
       body Φ _ _ tt
 
   object-goes : (row v : ℕ) → Matches (object row v)
-  object-goes row v Φ e s ready F = go (e .objects v) (s .stores .σ v) refl (F .objects v)
+  object-goes row v Φ e s ready = goes λ F. enter F (choose (e .objects v) (s .stores .σ v) refl (F .objects v))
     where
-      go : (known : Bool) (value : Option (W .Msg)) → s .stores .σ v ≡ value → known ≡ isSome value
-          → Sim calm kind Φ (Matched W) s
+      choose : (known : Bool) (value : Option (W .Msg)) → s .stores .σ v ≡ value → known ≡ isSome value
+          → Goes calm kind Φ (Matched W) e s
           (cond known ((take 1 λ rˢ. emit row (STORE (scratch rˢ)) then emit row (ENCODE v) then emit row (MATCH (scratch rˢ))) e) (emit row (DECODE v) e))
           (matchObject W kind row v value (s .accumulator) (s .stores))
-      go true (some a) p q =
-          takes 1 (λ above.
+      choose true (some a) p q =
+          takes 1 λ above.
           Step.store-scratch row (e .next) _ above ready λ m.
           Step.encode-known row v a _ p
-          (lastly (Step.match-scratch row (e .next) a m _ refl (put-same _ _ _) (ends refl)))) F
-      go false none p q = lastly (Step.decode row v _ ready λ m _. ends refl) F
-      go true none p q = absurd (true≢false q)
-      go false (some a) p q = absurd (false≢true q)
+          (lastly (Step.match-scratch row (e .next) a m _ refl (put-same _ _ _) (ends refl)))
+      choose false none p q = lastly (Step.decode row v _ ready λ m _. ends refl)
+      choose true none p q = absurd (true≢false q)
+      choose false (some a) p q = absurd (false≢true q)
 
   raw-goes : (row r : ℕ) → r < namedCells → Matches (raw row r)
-  raw-goes row r below Φ e s ready F = go (e .raws r) (s .stores .ρ r) refl (F .raws r)
+  raw-goes row r below Φ e s ready = goes λ F. enter F (choose (e .raws r) (s .stores .ρ r) refl (F .raws r))
     where
-      go : (known : Bool) (value : Option (W .Msg)) → s .stores .ρ r ≡ value → known ≡ isSome value
-          → Sim calm kind Φ (Matched W) s (cond known (emit row (MATCH (named r)) e) (emit row (STORE (named r)) e))
+      choose : (known : Bool) (value : Option (W .Msg)) → s .stores .ρ r ≡ value → known ≡ isSome value
+          → Goes calm kind Φ (Matched W) e s (cond known (emit row (MATCH (named r)) e) (emit row (STORE (named r)) e))
           (matchRaw W kind row r value (s .accumulator) (s .stores))
-      go true (some a) p q = lastly (Step.match-named row r a _ below ready p λ m. ends refl) F
-      go false none p q = lastly (Step.store-named row r _ below ready λ m _. ends refl) F
-      go true none p q = absurd (true≢false q)
-      go false (some a) p q = absurd (false≢true q)
+      choose true (some a) p q = lastly (Step.match-named row r a _ below ready p λ m. ends refl)
+      choose false none p q = lastly (Step.store-named row r _ below ready λ m _. ends refl)
+      choose true none p q = absurd (true≢false q)
+      choose false (some a) p q = absurd (false≢true q)
 
   letIn-goes : (row r : ℕ) (p₁ p₂ : Pattern) → r < namedCells → Matches p₁ → Matches p₂ → Matches (letIn row r p₁ p₂)
-  letIn-goes row r p₁ p₂ below first second Φ e s ready F =
+  letIn-goes row r p₁ p₂ below first second Φ e s ready = goes λ F.
       writes-at row (s .stores .ρ r) _ _ (F .raws r)
-      (matched _ _ (second Φ e s ready) (λ d t.
+      (enter F (matched _ _ (second Φ e s ready) λ d t.
       Step.load-named row r _ below λ m.
-      first Φ _ _ tt) F)
+      first Φ _ _ tt))
 
   -- what is shown of the parts of a tuple: their messages stand in scratch that is kept
   unfoldable pub MatchesParts : Parts → Type 0
@@ -141,11 +141,11 @@ module _ {Allowed : ℕ → Type 0} {W : World} (calm : WorldWithin Allowed W) (
 
   part-goes : (p : Pattern) (ps : Parts) → Matches p → MatchesParts ps → MatchesParts (part p ps)
   unfolding MatchesParts count
-  part-goes p ps first rest Φ e s row b i g kept cells F =
-      Step.load-scratch row b (g i) _ (F .keeps-scratch b (omega arith) ∙ (simp add-zero at (cells zero (omega arith))))
+  part-goes p ps first rest Φ e s row b i g kept cells = goes λ F.
+      enter F (Step.load-scratch row b (g i) _ (F .keeps-scratch b (omega arith) ∙ (simp add-zero at (cells zero (omega arith))))
       (matched _ _ (first Φ _ _ tt) λ d t.
       rest Φ d t row (suc b) (suc i) g (omega arith) λ j below.
-      simp suc-add (simp add-suc at (cells (suc j) (omega arith)))) F
+      simp suc-add (simp add-suc at (cells (suc j) (omega arith)))))
 
   -- the parts run in a frame that keeps their cells
   tuple-goes : (row t : ℕ) (ps : Parts) → MatchesParts ps → Matches (tuple row t ps)
@@ -153,10 +153,10 @@ module _ {Allowed : ℕ → Type 0} {W : World} (calm : WorldWithin Allowed W) (
   tuple-goes row t ps parts Φ e s ready =
       Step.decode row t _ ready λ m p.
       takes (count ps) λ above.
-      Step.analyze-tuple row t (e .next) (count ps) m _ above (put-same _ _ _) λ g F.
+      Step.analyze-tuple row t (e .next) (count ps) m _ above (put-same _ _ _) λ g. goes λ F.
       weaken (λ d u G. fits-whole F (e .next + count ps) (omega arith) G)
-      (parts (from F (e .next + count ps)) _ _ row (e .next) zero g (le-refl _) (λ j below. rw zero-add (puts-at _ _ _ _ _ below))
-      (fits-from F (e .next + count ps) (le-refl _)))
+      (enter (fits-from F (e .next + count ps) (le-refl _))
+      (parts (from F (e .next + count ps)) _ _ row (e .next) zero g (le-refl _) λ j below. rw zero-add (puts-at _ _ _ _ _ below)))
 
   mutual
     unfolding RawsBelow PartsBelow
@@ -168,8 +168,8 @@ module _ {Allowed : ℕ → Type 0} {W : World} (calm : WorldWithin Allowed W) (
     matches (opposite row k K) below = opposite-goes row k K
     matches (keyOf row k a) below = keyOf-goes row k a
     matches (encryption row v (plainKey dk) p) below = encryption-goes row v dk p (matches p below)
-    matches (encryption row v (opKey k K) p) below = λ Φ e s ready F. refused is-stuck
-    matches (encryption row v (certifiedKey k a) p) below = λ Φ e s ready F. refused is-stuck
+    matches (encryption row v (opKey k K) p) below = λ Φ e s ready. goes λ F. refused is-stuck
+    matches (encryption row v (certifiedKey k a) p) below = λ Φ e s ready. goes λ F. refused is-stuck
     matches (signature row v key r) below = signature-goes row v key r below
     matches (hash row h r) below = hash-goes row h r below
     matches (tuple row t ps) below = tuple-goes row t ps (matches-parts ps below)
