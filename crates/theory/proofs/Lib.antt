@@ -2,6 +2,7 @@
 pub mod StoreLaws
 pub mod CellLaws
 pub mod Reasons
+pub mod Models
 pub mod Simulation
 pub mod Steps
 pub mod Matching

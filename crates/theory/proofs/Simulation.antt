@@ -15,7 +15,7 @@ use Rattle.theory.specs.Machine.{Line, line, State, step, exec}
 use Rattle.theory.specs.Emission.{Env, Emitted, ok, refuse, after, andThen, addObject, reads, writes}
 use Rattle.theory.proofs.StoreLaws.{put-other, put-known, put-held, puts-below}
 use Rattle.theory.proofs.CellLaws.{withRaw}
-use Rattle.theory.proofs.Reasons.{OutcomeWithin, WorldWithin}
+use Rattle.theory.proofs.Reasons.{OutcomeWithin, done-within, stuck-within, room-within, WorldWithin}
 
 -- the same end on both sides; stuck for allowed reasons alone
 pub data Alike {A B : Type 0} (Allowed : ℕ → Type 0) (R : A → B → Type 0) : Outcome A → Outcome B → Type 0 where
@@ -51,11 +51,11 @@ module _ {Allowed : ℕ → Type 0} where
   alike-bind (both-stuck within) h = both-stuck within
   alike-bind both-room h = both-room
 
-  alike-same : {A D E : Type 0} {S : D → E → Type 0} (x : Outcome A) {f : A → Outcome D} {g : A → Outcome E} → OutcomeWithin Allowed x
+  alike-same : {A D E : Type 0} {S : D → E → Type 0} {x : Outcome A} (f : A → Outcome D) (g : A → Outcome E) → OutcomeWithin Allowed x
       → ((a : A) → x ≡ done a → Alike Allowed S (f a) (g a)) → Alike Allowed S (bind x f) (bind x g)
-  alike-same (done a) within h = h a refl
-  alike-same (stuck place why) within h = both-stuck within
-  alike-same (room place) within h = both-room
+  alike-same f g (done-within {a = a}) h = h a refl
+  alike-same f g (stuck-within within) h = both-stuck within
+  alike-same f g room-within h = both-room
 
   alike-not-done : {A B D : Type 0} {R : A → B → Type 0} {x : Outcome A} {y : Outcome B} {g : B → Outcome D}
       → Alike Allowed R x y → ((a : A) (b : B) → R a b → NotDone (g b)) → NotDone (bind y g)
@@ -241,7 +241,7 @@ module _ {Allowed : ℕ → Type 0} {W : World} {calm : WorldWithin Allowed W} {
       → OutcomeWithin Allowed x → step W kind row i s ≡ bind x (λ a. done (t a)) → ((a : A) → x ≡ done a → Sim calm kind Φ agree (t a) C (g a))
       → Sim calm kind Φ agree s (after (line row i ∷ []) C) (bind x g)
   unfolding Simulates after
-  shares row i (ok c e) x t g within p h = record { run = rw (p, bind-assoc) (alike-same x within λ a q. h a q .run) }
+  shares row i (ok c e) x t g within p h = record { run = rw (p, bind-assoc) (alike-same _ _ within λ a q. h a q .run) }
   shares row i (refuse answer) (done a) t g within p h = record { run = h a refl .run }
   shares row i (refuse answer) (stuck place why) t g within p h = record { run = is-stuck }
   shares row i (refuse answer) (room place) t g within p h = record { run = is-room }

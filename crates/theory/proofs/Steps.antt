@@ -14,7 +14,7 @@ use Rattle.theory.specs.Machine.{namedCells, line, named, scratch, State
 use Rattle.theory.specs.Emission.{Env, Emitted, ok, refuse, after, andThen, addObject, emit}
 use Rattle.theory.specs.Compilers.{LOAD, STORE, STORE-CONST, DECODE, ENCODE, CREATE, ANALYZE-TUPLE, CREATE-TUPLE, OPPOSITE, KEY-OF, MATCH, ENCRYPT, DECRYPT, SIGN, VERIFY, HASH}
 use Rattle.theory.proofs.CellLaws.{message-named, message-scratch, setMessage-named, setMessage-scratch, withScratches, setMessages-scratch, readable-named, readable-scratch, occupied-named, occupied-scratch, withRaw, addRaw-named, addRaw-scratch}
-use Rattle.theory.proofs.Reasons.{OutcomeWithin, ReadWithin, WorldWithin, apply-within, test-within, parts-within}
+use Rattle.theory.proofs.Reasons.{ReadWithin, WorldWithin, at-within}
 use Rattle.theory.proofs.Simulation.{bind-done, both-stuck, is-stuck, Frame, Fit, fits-object, fits-raw, fits-scratch, fits-scratches, fits-take, Simulates, Sim, stop, last, reads-it, reads-known, writes-it, writes-known, shares, silent}
 
 module _ {Allowed : ℕ → Type 0} {W : World} (calm : WorldWithin Allowed W) (kind : ℕ → ℕ) (Φ : Frame W) {B : Type 0} (agree : State W → B → Type 0) where
@@ -53,14 +53,14 @@ module _ {Allowed : ℕ → Type 0} {W : World} {calm : WorldWithin Allowed W} {
       → ((made : W .Msg × W .Mem) → Sim calm kind Φ agree (withObject s v made) C (g made))
       → Sim calm kind Φ agree s (after (line row i ∷ []) C) (bind (at row (W .apply o (s .stores .memory))) g)
   makes-object row v i {C} {s} o p h =
-      shares row i C (at row (W .apply o (s .stores .memory))) _ _ (apply-within calm row o _) p λ made _. h made
+      shares row i C (at row (W .apply o (s .stores .memory))) _ _ (at-within row (calm .apply o _)) p λ made _. h made
 
   makes-accumulator : (row : ℕ) (i : Instruction) {C : Emitted} {s : State W} (o : Op (W .Msg)) {g : W .Msg × W .Mem → Outcome B}
       → step W kind row i s ≡ makeAccumulator W kind row s o
       → ((made : W .Msg × W .Mem) → Sim calm kind Φ agree (withMade s made) C (g made))
       → Sim calm kind Φ agree s (after (line row i ∷ []) C) (bind (at row (W .apply o (s .stores .memory))) g)
   makes-accumulator row i {C} {s} o p h =
-      shares row i C (at row (W .apply o (s .stores .memory))) _ _ (apply-within calm row o _) p λ made _. h made
+      shares row i C (at row (W .apply o (s .stores .memory))) _ _ (at-within row (calm .apply o _)) p λ made _. h made
 
   -- an instruction that puts a message to a test
   tests : (row : ℕ) (i : Instruction) {C : Emitted} {s t : State W} (c : Test (W .Msg)) {y : Outcome B}
@@ -68,7 +68,7 @@ module _ {Allowed : ℕ → Type 0} {W : World} {calm : WorldWithin Allowed W} {
       → Sim calm kind Φ agree t C y
       → Sim calm kind Φ agree s (after (line row i ∷ []) C) (bind (at row (W .test c (s .stores .memory))) λ _. y)
   tests row i {C} {s} {t} c p h =
-      shares row i C (at row (W .test c (s .stores .memory))) (λ _. t) _ (test-within calm row c _) p λ _ _. h
+      shares row i C (at row (W .test c (s .stores .memory))) (λ _. t) _ (at-within row (calm .test c _)) p λ _ _. h
 
   pub goes : {e : Env} {s : State W} {C : Emitted} {y : Outcome B} → (Fit W Φ e s → Sim calm kind Φ agree s C y) → Goes calm kind Φ agree e s C y
   goes h = record { go = h }
@@ -321,4 +321,4 @@ module _ {Allowed : ℕ → Type 0} {W : World} {calm : WorldWithin Allowed W} {
   analyze-tuple row t b n m K {s = s} above q h = goes λ F.
       reads-known row _ K (F .objects t ∙ ap isSome q)
       (shares row (ANALYZE-TUPLE t (scratch b) n) _ (at row (W .parts m n (s .stores .memory))) (withScratches W s b n) _
-      (parts-within calm row m n _) (rw q (simp setMessages-scratch)) λ parts _. h parts .go (fits-scratches F b n (λ i. some (parts i)) above))
+      (at-within row (calm .parts m n _)) (rw q (simp setMessages-scratch)) λ parts _. h parts .go (fits-scratches F b n (λ i. some (parts i)) above))
