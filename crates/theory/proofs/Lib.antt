@@ -7,3 +7,4 @@ pub mod Simulation
 pub mod Steps
 pub mod Matching
 pub mod Creating
+pub mod Compiled
