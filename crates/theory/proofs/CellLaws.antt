@@ -1,14 +1,14 @@
 -- Message cells by their numbers: named below 64, scratch from there on.
-use Prim.Native.Nat.{ℕ, zero, suc, _+_, _-_, _<_}
-use mathlib.Core.Path.{_≡_, refl, ap}
-use mathlib.Core.Bool.{Bool, true, false}
-use mathlib.Core.Option.{Option, some}
+use Prim.Native.Nat.{ℕ, zero, suc, _+_, _<_}
+use mathlib.Core.Path.{_≡_, refl}
+use mathlib.Core.Bool.{true, false}
+use mathlib.Core.Option.{some}
 use mathlib.Core.List.{List, _∷_}
 use native.Mathlib.Nat.{add-assoc, add-suc, add-sub-cancel-left}
 use native.Mathlib.Omega.{arith}
 use borrow.Author.Tests.{lt-ltb, le-ltb}
 use lib.Dec.{ltb}
-use Rattle.theory.specs.Outcome.{Outcome, done, bind, need}
+use Rattle.theory.specs.Outcome.{done}
 use Rattle.theory.specs.Store.{put, puts}
 use Rattle.theory.specs.World.{World}
 use Rattle.theory.specs.Machine.{namedCells, State, setRaw, withStores, withScratch, message, setMessage, setMessages, messages}

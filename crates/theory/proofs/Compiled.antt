@@ -15,9 +15,8 @@ use Rattle.theory.specs.Machine.{namedCells, Line, Stores, State, exec}
 use Rattle.theory.specs.Emission.{Env, Emitted, ok, refuse}
 use Rattle.theory.specs.Compilers.{compile↓, compile↑}
 use Rattle.theory.specs.Rules.{match, create, Made}
-use Rattle.theory.proofs.Reasons.{ReadWithin, WorldWithin, any-read, any-world, NotUnset, Calm}
-use Rattle.theory.proofs.Simulation.{Alike, both-done, both-stuck, both-room, NotDone, is-stuck, is-room, bind-done, Frame, Fit, Ends, Simulates, Sim}
-use Rattle.theory.proofs.Steps.{Goes}
+use Rattle.theory.proofs.Reasons.{ReadWithin, WorldWithin, any-read, any-world, Calm}
+use Rattle.theory.proofs.Simulation.{Alike, both-done, both-stuck, both-room, NotDone, is-stuck, is-room, bind-done, Frame, Fit, Ends, RunsAlike, Simulates}
 use Rattle.theory.proofs.Matching.{Matched, matches}
 use Rattle.theory.proofs.Creating.{With, InAccumulator, creates}
 
@@ -82,32 +81,32 @@ never is-stuck p = let z : _≡_ {A = ℕ} 0 1 = cc in omega arith
 never is-room p = let z : _≡_ {A = ℕ} 0 1 = cc in omega arith
 
 module _ {Allowed : ℕ → Type 0} {W : World} {calm : WorldWithin Allowed W} {kind : ℕ → ℕ} {Φ : Frame W} {B : Type 0} {agree : State W → B → Type 0}
-    {s : State W} {C : Emitted} {y : Outcome B} (sim : Sim calm kind Φ agree s C y) where
-  accepted : {c : List Line} {e : Env} → C ≡ ok c e → Alike Allowed (Ends calm kind Φ agree e) (exec W kind c s) y
-  unfolding Simulates
-  accepted q = subst (λ C. Sim calm kind Φ agree s C y) q sim .run
+    {s : State W} {code : Emitted} {y : Outcome B} (sim : Simulates calm kind Φ agree s code y) where
+  accepted : {c : List Line} {e : Env} → code ≡ ok c e → Alike Allowed (Ends calm kind Φ agree e) (exec W kind c s) y
+  unfolding RunsAlike
+  accepted q = subst (λ code. Simulates calm kind Φ agree s code y) q sim .run
 
-  turned-down : {answer : Compiled} → C ≡ refuse answer → NotDone y
-  unfolding Simulates
-  turned-down q = subst (λ C. Sim calm kind Φ agree s C y) q sim .run
+  turned-down : {answer : Compiled} → code ≡ refuse answer → NotDone y
+  unfolding RunsAlike
+  turned-down q = subst (λ code. Simulates calm kind Φ agree s code y) q sim .run
 
-  fits-end : {c : List Line} {e : Env} {t : State W} → C ≡ ok c e → exec W kind c s ≡ done t → Fit W Φ e t
+  fits-end : {c : List Line} {e : Env} {t : State W} → code ≡ ok c e → exec W kind c s ≡ done t → Fit W Φ e t
   fits-end q r = end-of (accepted q) r .1 .fits
 
 module _ {Allowed : ℕ → Type 0} {W : World} {calm : WorldWithin Allowed W} {kind : ℕ → ℕ} {B : Type 0} {agree : State W → B → Type 0} {b : ℕ}
-    {s t : State W} {C : Emitted} {y : Outcome B} where
-  keeps : Sim calm kind (whole W b s) agree s C y → {c : List Line} {e : Env} → C ≡ ok c e → exec W kind c s ≡ done t → Keeps W b s t
+    {s t : State W} {code : Emitted} {y : Outcome B} where
+  keeps : Simulates calm kind (whole W b s) agree s code y → {c : List Line} {e : Env} → code ≡ ok c e → exec W kind c s ≡ done t → Keeps W b s t
   keeps sim q r =
       let F = fits-end sim q r in
       record { objects = F .keeps-objects; raws = F .keeps-raws; scratch = F .keeps-scratch }
 
 module _ (W : World) (kind : ℕ → ℕ) (p : Pattern) (below : RawsBelow namedCells p) where
   matching : {Allowed : ℕ → Type 0} (calm : WorldWithin Allowed W) (b : ℕ) (s : State W) → ReadWithin Allowed (s .accumulator)
-      → Sim calm kind (whole W b s) (Matched W) s (compile↓ p (knownFrom W b (s .stores))) (match W kind p (s .accumulator) (s .stores))
+      → Simulates calm kind (whole W b s) (Matched W) s (compile↓ p (knownFrom W b (s .stores))) (match W kind p (s .accumulator) (s .stores))
   matching calm b s ready = matches calm kind p below _ _ s ready .go (fits W b s)
 
   matching-any : (b : ℕ) (s : State W)
-      → Sim (any-world W) kind (whole W b s) (Matched W) s (compile↓ p (knownFrom W b (s .stores))) (match W kind p (s .accumulator) (s .stores))
+      → Simulates (any-world W) kind (whole W b s) (Matched W) s (compile↓ p (knownFrom W b (s .stores))) (match W kind p (s .accumulator) (s .stores))
   matching-any b s = matching (any-world W) b s (any-read (s .accumulator))
 
   -- Matching. Code ends as the rule does: with its stores, or stuck or out of room at the same row for the same reason
@@ -137,7 +136,7 @@ module _ (W : World) (kind : ℕ → ℕ) (p : Pattern) (below : RawsBelow named
   matching-reads-set calm s m a q place r = reason-of (accepted (matching calm 0 s (rw a tt)) q) r refl
 
   creating : {Allowed : ℕ → Type 0} (calm : WorldWithin Allowed W) (b : ℕ) (s : State W)
-      → Sim calm kind (whole W b s) (With W (InAccumulator W)) s (compile↑ kind p (knownFrom W b (s .stores))) (create W kind p (s .stores))
+      → Simulates calm kind (whole W b s) (With W (InAccumulator W)) s (compile↑ kind p (knownFrom W b (s .stores))) (create W kind p (s .stores))
   creating calm b s = creates calm kind p below _ _ s .go (fits W b s)
 
   -- Creating. Code ends as the rule does: with its message and its stores, or stuck or out of room at the same row for the same reason

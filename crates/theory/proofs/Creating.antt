@@ -17,7 +17,7 @@ use Rattle.theory.specs.Rules.{getVariable, createKey, create, createPar
 use Rattle.theory.proofs.StoreLaws.{put-same}
 use Rattle.theory.proofs.CellLaws.{messages-scratch}
 use Rattle.theory.proofs.Reasons.{WorldWithin}
-use Rattle.theory.proofs.Simulation.{is-stuck, Frame, Fit, fits-from, fits-whole, Sim, refused, goes-on}
+use Rattle.theory.proofs.Simulation.{is-stuck, Frame, Fit, fits-from, fits-whole, Simulates, refused, goes-on}
 use Rattle.theory.proofs.Steps as Step
 use Rattle.theory.proofs.Steps.{Goes, goes, enter, by-bind, ends, lastly, takes}
 
@@ -41,18 +41,18 @@ module _ (W : World) where
 
 -- a part, and then the rest, which knows what the part has kept
 module _ {Allowed : ℕ → Type 0} {W : World} {calm : WorldWithin Allowed W} {kind : ℕ → ℕ} {Φ : Frame W} {X B : Type 0} (P : State W → X → Type 0)
-    {agree : State W → B → Type 0} {e : Env} {s : State W} {C : Emitted} (K : Env → Emitted) {x : Outcome (X × Stores W)} (g : X × Stores W → Outcome B) where
+    {agree : State W → B → Type 0} {e : Env} {s : State W} {code : Emitted} (rest : Env → Emitted) {x : Outcome (X × Stores W)} (g : X × Stores W → Outcome B) where
   above-then : (low : ℕ) → Φ .low ≤ low → low ≤ e .next
-      → Goes calm kind (here W s low) (With W P) e s C x
-      → ((d : Env) (t : State W) (m : X) → Fit W (here W s low) d t → P t m → Goes calm kind Φ agree d t (K d) (g (m, t .stores)))
-      → Goes calm kind Φ agree e s (andThen C K) (bind x g)
+      → Goes calm kind (here W s low) (With W P) e s code x
+      → ((d : Env) (t : State W) (m : X) → Fit W (here W s low) d t → P t m → Goes calm kind Φ agree d t (rest d) (g (m, t .stores)))
+      → Goes calm kind Φ agree e s (andThen code rest) (bind x g)
   above-then low above within made next = goes λ F.
-      goes-on K g (λ d t G. fits-whole F low above G) (made .go (fits-from F low within)) λ t d a F G q.
-      subst (λ n. Sim calm kind Φ agree t (K d) (g (a .0, n))) (q .1) (next d t (a .0) G (q .0) .go F)
+      goes-on (λ d t G. fits-whole F low above G) rest g (made .go (fits-from F low within)) λ d t a F G q.
+      subst (λ n. Simulates calm kind Φ agree t (rest d) (g (a .0, n))) (q .1) (next d t (a .0) G (q .0) .go F)
 
-  made-then : Goes calm kind (here W s (e .next)) (With W P) e s C x
-      → ((d : Env) (t : State W) (m : X) → Fit W (here W s (e .next)) d t → P t m → Goes calm kind Φ agree d t (K d) (g (m, t .stores)))
-      → Goes calm kind Φ agree e s (andThen C K) (bind x g)
+  made-then : Goes calm kind (here W s (e .next)) (With W P) e s code x
+      → ((d : Env) (t : State W) (m : X) → Fit W (here W s (e .next)) d t → P t m → Goes calm kind Φ agree d t (rest d) (g (m, t .stores)))
+      → Goes calm kind Φ agree e s (andThen code rest) (bind x g)
   made-then made next = goes λ F. above-then (e .next) (F .above) (le-refl _) made next .go F
 
 module _ {Allowed : ℕ → Type 0} {W : World} (calm : WorldWithin Allowed W) (kind : ℕ → ℕ) where

@@ -3,7 +3,6 @@ use Prim.Native.Nat.{ℕ, zero, suc, _+_, _<_, _≤_}
 use mathlib.Core.Path.{_≡_, refl, _∙_}
 use mathlib.Core.Bool.{Bool, true, false, cond, true≢false, false≢true}
 use mathlib.Core.Option.{Option, none, some}
-use mathlib.Core.List.{List, [], _∷_}
 use native.Mathlib.Nat.{add-zero, zero-add, suc-add, add-suc, le-refl}
 use native.Mathlib.Omega.{arith}
 use Rattle.patterns.specs.Pattern.{Key, plainKey, opKey, certifiedKey, Pattern, object, raw, constant, opposite, keyOf, encryption, signature, hash, tuple, letIn, Parts, end, part, count, RawsBelow, PartsBelow}
@@ -15,7 +14,7 @@ use Rattle.theory.specs.Compilers.{STORE, DECODE, ENCODE, MATCH, compile
 use Rattle.theory.specs.Rules.{match, matchParts, matchObject, matchRaw}
 use Rattle.theory.proofs.StoreLaws.{put-same, puts-at}
 use Rattle.theory.proofs.Reasons.{ReadWithin, WorldWithin}
-use Rattle.theory.proofs.Simulation.{is-stuck, Frame, Fits, Fit, fits-from, from, fits-whole, fits-take, Sim, writes-at, refused, goes-on, weaken}
+use Rattle.theory.proofs.Simulation.{is-stuck, Frame, fits-from, from, fits-whole, writes-at, refused, goes-on, weaken}
 use Rattle.theory.proofs.Steps as Step
 use Rattle.theory.proofs.Steps.{Goes, goes, enter, ends, lastly, takes}
 
@@ -25,11 +24,11 @@ Matched W s n = s .stores ≡ n
 
 -- a part of a pattern, and then the rest
 module _ {Allowed : ℕ → Type 0} {W : World} {calm : WorldWithin Allowed W} {kind : ℕ → ℕ} {Φ : Frame W} where
-  matched : {e : Env} {s : State W} {C : Emitted} (K : Env → Emitted) {x : Outcome (Stores W)} (g : Stores W → Outcome (Stores W))
-      → Goes calm kind Φ (Matched W) e s C x
-      → ((d : Env) (t : State W) → Goes calm kind Φ (Matched W) d t (K d) (g (t .stores)))
-      → Goes calm kind Φ (Matched W) e s (andThen C K) (bind x g)
-  matched K g h next = goes λ F. goes-on K g (λ d t G. G) (h .go F) λ t d n F G q. rw (← q) (next d t .go F)
+  matched : {e : Env} {s : State W} {code : Emitted} (rest : Env → Emitted) {x : Outcome (Stores W)} (g : Stores W → Outcome (Stores W))
+      → Goes calm kind Φ (Matched W) e s code x
+      → ((d : Env) (t : State W) → Goes calm kind Φ (Matched W) d t (rest d) (g (t .stores)))
+      → Goes calm kind Φ (Matched W) e s (andThen code rest) (bind x g)
+  matched rest g h next = goes λ F. goes-on (λ d t G. G) rest g (h .go F) λ d t n F G q. rw (← q) (next d t .go F)
 
 module _ {Allowed : ℕ → Type 0} {W : World} (calm : WorldWithin Allowed W) (kind : ℕ → ℕ) where
   -- what is shown of a pattern, where the accumulator may be read
@@ -124,10 +123,10 @@ module _ {Allowed : ℕ → Type 0} {W : World} (calm : WorldWithin Allowed W) (
 
   letIn-goes : (row r : ℕ) (p₁ p₂ : Pattern) → r < namedCells → Matches p₁ → Matches p₂ → Matches (letIn row r p₁ p₂)
   letIn-goes row r p₁ p₂ below first second Φ e s ready = goes λ F.
-      writes-at row (s .stores .ρ r) _ _ (F .raws r)
-      (enter F (matched _ _ (second Φ e s ready) λ d t.
+      writes-at row (s .stores .ρ r) _ _ (F .raws r) λ unset.
+      enter F (matched _ _ (second Φ e s ready) λ d t.
       Step.load-named row r _ below λ m.
-      first Φ _ _ tt))
+      first Φ _ _ tt)
 
   -- what is shown of the parts of a tuple: their messages stand in scratch that is kept
   unfoldable pub MatchesParts : Parts → Type 0

@@ -8,7 +8,7 @@ use native.Mathlib.Omega.{arith}
 use lib.ListN.{length}
 use lib.Dec.{eqb, ltb, lit<}
 use Rattle.answers.specs.Numbers.{reasonNumber}
-use Rattle.answers.specs.declared.Reason.the-variants.{Unset, OtherKind, Differs, PartCount, NoCertificate, NotOpened, NotVerified}
+use Rattle.answers.specs.declared.Reason.the-variants.{Unset, OtherKind, Differs, PartCount, NotOpened, NotVerified}
 use Rattle.terms.specs.Shape.{Shape, atom, encrypted, signed, hashed, tupled, kindOf}
 use Rattle.terms.specs.Row.{wordOf}
 use Rattle.terms.specs.Finder.{locate}

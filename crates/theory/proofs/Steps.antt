@@ -1,7 +1,6 @@
 -- One lemma for each instruction: what is emitted, what it does, and what the rule does at that point.
 use Prim.Native.Nat.{ℕ, _+_, _≤_, _<_}
 use mathlib.Core.Path.{_≡_, refl, _∙_, ap}
-use mathlib.Core.Bool.{true, false}
 use mathlib.Core.Option.{Option, none, some}
 use mathlib.Core.List.{List, [], _∷_}
 use Rattle.answers.specs.Numbers.{reasonNumber}
@@ -15,12 +14,13 @@ use Rattle.theory.specs.Emission.{Env, Emitted, ok, refuse, after, andTh
 use Rattle.theory.specs.Compilers.{LOAD, STORE, STORE-CONST, DECODE, ENCODE, CREATE, ANALYZE-TUPLE, CREATE-TUPLE, OPPOSITE, KEY-OF, MATCH, ENCRYPT, DECRYPT, SIGN, VERIFY, HASH}
 use Rattle.theory.proofs.CellLaws.{message-named, message-scratch, setMessage-named, setMessage-scratch, withScratches, setMessages-scratch, readable-named, readable-scratch, occupied-named, occupied-scratch, withRaw, addRaw-named, addRaw-scratch}
 use Rattle.theory.proofs.Reasons.{ReadWithin, WorldWithin, at-within}
-use Rattle.theory.proofs.Simulation.{bind-done, both-stuck, is-stuck, Frame, Fit, fits-object, fits-raw, fits-scratch, fits-scratches, fits-take, Simulates, Sim, stop, last, reads-it, reads-known, writes-it, writes-known, shares, silent}
+use Rattle.theory.proofs.Simulation.{bind-done, both-stuck, is-stuck, Frame, Fit, fits-object, fits-raw, fits-scratch, fits-scratches, fits-take, RunsAlike, Simulates, stop, last, reads-it, reads-known, writes-it, writes-known, shares, silent}
 
-module _ {Allowed : ℕ → Type 0} {W : World} (calm : WorldWithin Allowed W) (kind : ℕ → ℕ) (Φ : Frame W) {B : Type 0} (agree : State W → B → Type 0) where
+module _ {Allowed : ℕ → Type 0} {W : World} (calm : WorldWithin Allowed W) (kind : ℕ → ℕ) (Φ : Frame W)
+    {B : Type 0} (agree : State W → B → Type 0) where
   -- from an environment and a state that fit, code does what the rule does
-  pub record Goes (e : Env) (s : State W) (C : Emitted) (y : Outcome B) : Type 0 where
-    pub go : Fit W Φ e s → Sim calm kind Φ agree s C y
+  pub record Goes (e : Env) (s : State W) (code : Emitted) (y : Outcome B) : Type 0 where
+    pub go : Fit W Φ e s → Simulates calm kind Φ agree s code y
 
 module _ {W : World} where
   -- a made message becomes the value of a variable, or comes into the accumulator
@@ -30,295 +30,303 @@ module _ {W : World} where
   abbrev pub withMade : State W → W .Msg × W .Mem → State W
   withMade s made = withAccumulator W (withStores W s (setMemory W (s .stores) (made .1))) (made .0)
 
-module _ {Allowed : ℕ → Type 0} {W : World} {calm : WorldWithin Allowed W} {kind : ℕ → ℕ} {Φ : Frame W} {B : Type 0} {agree : State W → B → Type 0} where
+module _ {Allowed : ℕ → Type 0} {W : World} {calm : WorldWithin Allowed W} {kind : ℕ → ℕ} {Φ : Frame W}
+    {B : Type 0} {agree : State W → B → Type 0} where
   -- an instruction that reads the accumulator where the rule reads the message
-  reads-accumulator : (row : ℕ) (i : Instruction) (C : Emitted) {s : State W} (g : W .Msg → Outcome B)
+  reads-accumulator : (row : ℕ) (i : Instruction) (code : Emitted) {s : State W} (g : W .Msg → Outcome B)
       → ReadWithin Allowed (s .accumulator)
       → (s .accumulator ≡ none → step W kind row i s ≡ stuck row (reasonNumber Unset))
-      → ((m : W .Msg) → s .accumulator ≡ some m → Sim calm kind Φ agree s (after (line row i ∷ []) C) (g m))
-      → Sim calm kind Φ agree s (after (line row i ∷ []) C) (bind (need row (s .accumulator)) g)
-  unfolding Simulates after
-  reads-accumulator row i C {s} g ready unset h = go (s .accumulator) refl ready C h
+      → ((m : W .Msg) → s .accumulator ≡ some m → Simulates calm kind Φ agree s (after (line row i ∷ []) code) (g m))
+      → Simulates calm kind Φ agree s (after (line row i ∷ []) code) (bind (need row (s .accumulator)) g)
+  unfolding RunsAlike after
+  reads-accumulator row i code {s} g ready unset h = go (s .accumulator) refl ready code h
     where
-      go : (a : Option (W .Msg)) → s .accumulator ≡ a → ReadWithin Allowed a → (C : Emitted)
-          → ((m : W .Msg) → s .accumulator ≡ some m → Sim calm kind Φ agree s (after (line row i ∷ []) C) (g m))
-          → Sim calm kind Φ agree s (after (line row i ∷ []) C) (bind (need row a) g)
-      go (some m) p ready C h = h m p
+      go : (a : Option (W .Msg)) → s .accumulator ≡ a → ReadWithin Allowed a → (code : Emitted)
+          → ((m : W .Msg) → s .accumulator ≡ some m → Simulates calm kind Φ agree s (after (line row i ∷ []) code) (g m))
+          → Simulates calm kind Φ agree s (after (line row i ∷ []) code) (bind (need row a) g)
+      go (some m) p ready code h = h m p
       go none p ready (ok c e) h = record { run = rw (unset p) (both-stuck ready) }
       go none p ready (refuse answer) h = record { run = is-stuck }
 
   -- an instruction that makes a message for a variable, or for the accumulator
-  makes-object : (row v : ℕ) (i : Instruction) {C : Emitted} {s : State W} (o : Op (W .Msg)) {g : W .Msg × W .Mem → Outcome B}
+  makes-object : (row v : ℕ) (i : Instruction) {code : Emitted} {s : State W} (o : Op (W .Msg)) {g : W .Msg × W .Mem → Outcome B}
       → step W kind row i s ≡ makeObject W kind row s v o
-      → ((made : W .Msg × W .Mem) → Sim calm kind Φ agree (withObject s v made) C (g made))
-      → Sim calm kind Φ agree s (after (line row i ∷ []) C) (bind (at row (W .apply o (s .stores .memory))) g)
-  makes-object row v i {C} {s} o p h =
-      shares row i C (at row (W .apply o (s .stores .memory))) _ _ (at-within row (calm .apply o _)) p λ made _. h made
+      → ((made : W .Msg × W .Mem) → Simulates calm kind Φ agree (withObject s v made) code (g made))
+      → Simulates calm kind Φ agree s (after (line row i ∷ []) code) (bind (at row (W .apply o (s .stores .memory))) g)
+  makes-object row v i {code} o p h = shares row i code _ _ (at-within row (calm .apply o _)) p h
 
-  makes-accumulator : (row : ℕ) (i : Instruction) {C : Emitted} {s : State W} (o : Op (W .Msg)) {g : W .Msg × W .Mem → Outcome B}
+  makes-accumulator : (row : ℕ) (i : Instruction) {code : Emitted} {s : State W} (o : Op (W .Msg)) {g : W .Msg × W .Mem → Outcome B}
       → step W kind row i s ≡ makeAccumulator W kind row s o
-      → ((made : W .Msg × W .Mem) → Sim calm kind Φ agree (withMade s made) C (g made))
-      → Sim calm kind Φ agree s (after (line row i ∷ []) C) (bind (at row (W .apply o (s .stores .memory))) g)
-  makes-accumulator row i {C} {s} o p h =
-      shares row i C (at row (W .apply o (s .stores .memory))) _ _ (at-within row (calm .apply o _)) p λ made _. h made
+      → ((made : W .Msg × W .Mem) → Simulates calm kind Φ agree (withMade s made) code (g made))
+      → Simulates calm kind Φ agree s (after (line row i ∷ []) code) (bind (at row (W .apply o (s .stores .memory))) g)
+  makes-accumulator row i {code} o p h = shares row i code _ _ (at-within row (calm .apply o _)) p h
 
   -- an instruction that puts a message to a test
-  tests : (row : ℕ) (i : Instruction) {C : Emitted} {s t : State W} (c : Test (W .Msg)) {y : Outcome B}
+  tests : (row : ℕ) (i : Instruction) {code : Emitted} {s t : State W} (c : Test (W .Msg)) {y : Outcome B}
       → step W kind row i s ≡ bind (at row (W .test c (s .stores .memory))) (λ _. done t)
-      → Sim calm kind Φ agree t C y
-      → Sim calm kind Φ agree s (after (line row i ∷ []) C) (bind (at row (W .test c (s .stores .memory))) λ _. y)
-  tests row i {C} {s} {t} c p h =
-      shares row i C (at row (W .test c (s .stores .memory))) (λ _. t) _ (at-within row (calm .test c _)) p λ _ _. h
+      → Simulates calm kind Φ agree t code y
+      → Simulates calm kind Φ agree s (after (line row i ∷ []) code) (bind (at row (W .test c (s .stores .memory))) λ _. y)
+  tests row i {code} {t = t} c p h = shares row i code (λ _. t) _ (at-within row (calm .test c _)) p λ _. h
 
-  pub goes : {e : Env} {s : State W} {C : Emitted} {y : Outcome B} → (Fit W Φ e s → Sim calm kind Φ agree s C y) → Goes calm kind Φ agree e s C y
+  pub goes : {e : Env} {s : State W} {code : Emitted} {y : Outcome B}
+      → (Fit W Φ e s → Simulates calm kind Φ agree s code y) → Goes calm kind Φ agree e s code y
   goes h = record { go = h }
 
-  pub enter : {e : Env} {s : State W} {C : Emitted} {y : Outcome B} → Fit W Φ e s → Goes calm kind Φ agree e s C y → Sim calm kind Φ agree s C y
+  pub enter : {e : Env} {s : State W} {code : Emitted} {y : Outcome B}
+      → Fit W Φ e s → Goes calm kind Φ agree e s code y → Simulates calm kind Φ agree s code y
   enter F h = h .go F
 
-  pub by-bind : {e : Env} {s : State W} {C : Emitted} {y : Outcome B} → Goes calm kind Φ agree e s C (bind y done) → Goes calm kind Φ agree e s C y
+  pub by-bind : {e : Env} {s : State W} {code : Emitted} {y : Outcome B}
+      → Goes calm kind Φ agree e s code (bind y done) → Goes calm kind Φ agree e s code y
   by-bind h = rw bind-done at h
 
   -- the end of the code, and its last instruction
   pub ends : {e : Env} {s : State W} {b : B} → agree s b → Goes calm kind Φ agree e s (ok [] e) (done b)
   ends q = goes λ F. stop F q
 
-  pub lastly : {C : Emitted} {e : Env} {s : State W} {y : Outcome B} → Goes calm kind Φ agree e s (andThen C (ok [])) y → Goes calm kind Φ agree e s C y
+  pub lastly : {code : Emitted} {e : Env} {s : State W} {y : Outcome B}
+      → Goes calm kind Φ agree e s (andThen code (ok [])) y → Goes calm kind Φ agree e s code y
   lastly h = goes λ F. last (h .go F)
 
   -- scratch that is taken lies above what is kept
-  pub takes : (n : ℕ) {C : Emitted} {e : Env} {s : State W} {y : Outcome B}
-      → (Φ .low ≤ e .next → Goes calm kind Φ agree (record { objects = e .objects; raws = e .raws; next = e .next + n }) s C y)
-      → Goes calm kind Φ agree e s C y
+  pub takes : (n : ℕ) {code : Emitted} {e : Env} {s : State W} {y : Outcome B}
+      → (Φ .low ≤ e .next → Goes calm kind Φ agree (record { objects = e .objects; raws = e .raws; next = e .next + n }) s code y)
+      → Goes calm kind Φ agree e s code y
   takes n h = goes λ F. h (F .above) .go (fits-take F n)
 
   -- the message becomes the value of a variable: the rule reads it, or it is known
-  pub decode : (row v : ℕ) (K : Env → Emitted) {e : Env} {s : State W} {g : W .Msg → Outcome B} → ReadWithin Allowed (s .accumulator)
+  pub decode : (row v : ℕ) (rest : Env → Emitted) {e : Env} {s : State W} {g : W .Msg → Outcome B} → ReadWithin Allowed (s .accumulator)
       → ((m : W .Msg) → s .accumulator ≡ some m
-      → Goes calm kind Φ agree (addObject e v) (withStores W s (setObject W (s .stores) v m)) (K (addObject e v)) (g m))
-      → Goes calm kind Φ agree e s (andThen (emit row (DECODE v) e) K)
+      → Goes calm kind Φ agree (addObject e v) (withStores W s (setObject W (s .stores) v m)) (rest (addObject e v)) (g m))
+      → Goes calm kind Φ agree e s (andThen (emit row (DECODE v) e) rest)
       (bind (free row (s .stores .σ v)) λ _. bind (need row (s .accumulator)) λ m.
       bind (at row (W .test (Voc.is (kind v) m) (s .stores .memory))) λ _. g m)
   unfolding andThen emit
-  decode row v K {s = s} ready h = goes λ F.
-      writes-it row (s .stores .σ v) _ K _ (F .objects v) λ unset.
+  decode row v rest {s = s} ready h = goes λ F.
+      writes-it row (s .stores .σ v) _ rest _ (F .objects v) λ unset.
       reads-accumulator row (DECODE v) _ _ ready (λ p. rw p) λ m p.
       tests row (DECODE v) (Voc.is (kind v) m) (rw p) (h m p .go (fits-object F v m unset))
 
-  pub decode-known : (row v : ℕ) (m : W .Msg) (K : Env → Emitted) {e : Env} {s : State W} {y : Outcome B} → s .accumulator ≡ some m
-      → Goes calm kind Φ agree (addObject e v) (withStores W s (setObject W (s .stores) v m)) (K (addObject e v)) y
-      → Goes calm kind Φ agree e s (andThen (emit row (DECODE v) e) K)
+  pub decode-known : (row v : ℕ) (m : W .Msg) (rest : Env → Emitted) {e : Env} {s : State W} {y : Outcome B} → s .accumulator ≡ some m
+      → Goes calm kind Φ agree (addObject e v) (withStores W s (setObject W (s .stores) v m)) (rest (addObject e v)) y
+      → Goes calm kind Φ agree e s (andThen (emit row (DECODE v) e) rest)
       (bind (free row (s .stores .σ v)) λ _. bind (at row (W .test (Voc.is (kind v) m) (s .stores .memory))) λ _. y)
   unfolding andThen emit
-  decode-known row v m K {s = s} p h = goes λ F.
-      writes-it row (s .stores .σ v) _ K _ (F .objects v) λ unset.
+  decode-known row v m rest {s = s} p h = goes λ F.
+      writes-it row (s .stores .σ v) _ rest _ (F .objects v) λ unset.
       tests row (DECODE v) (Voc.is (kind v) m) (rw p) (h .go (fits-object F v m unset))
 
   -- the message goes to scratch: the rule reads it, or it is known
-  pub store-scratch : (row i : ℕ) (K : Env → Emitted) {e : Env} {s : State W} {g : W .Msg → Outcome B}
+  pub store-scratch : (row i : ℕ) (rest : Env → Emitted) {e : Env} {s : State W} {g : W .Msg → Outcome B}
       → Φ .low ≤ i → ReadWithin Allowed (s .accumulator)
-      → ((m : W .Msg) → Goes calm kind Φ agree e (withScratch W s i m) (K e) (g m))
-      → Goes calm kind Φ agree e s (andThen (emit row (STORE (scratch i)) e) K) (bind (need row (s .accumulator)) g)
+      → ((m : W .Msg) → Goes calm kind Φ agree e (withScratch W s i m) (rest e) (g m))
+      → Goes calm kind Φ agree e s (andThen (emit row (STORE (scratch i)) e) rest) (bind (need row (s .accumulator)) g)
   unfolding andThen emit
-  store-scratch row i K {e} {s} above ready h = goes λ F.
-      writes-known row _ K (occupied-scratch e i)
+  store-scratch row i rest {e} {s} above ready h = goes λ F.
+      writes-known row _ rest (occupied-scratch e i)
       (reads-accumulator row (STORE (scratch i)) _ _ ready (λ p. rw p) λ m p.
       silent (withScratch W s i m) row (STORE (scratch i)) _ (rw (p, setMessage-scratch))
       (rw (addRaw-scratch e i) (h m .go (fits-scratch F i m above))))
 
-  pub store-scratch-known : (row i : ℕ) (m : W .Msg) (K : Env → Emitted) {e : Env} {s : State W} {y : Outcome B} → Φ .low ≤ i → s .accumulator ≡ some m
-      → Goes calm kind Φ agree e (withScratch W s i m) (K e) y
-      → Goes calm kind Φ agree e s (andThen (emit row (STORE (scratch i)) e) K) y
+  pub store-scratch-known : (row i : ℕ) (m : W .Msg) (rest : Env → Emitted) {e : Env} {s : State W} {y : Outcome B}
+      → Φ .low ≤ i → s .accumulator ≡ some m
+      → Goes calm kind Φ agree e (withScratch W s i m) (rest e) y
+      → Goes calm kind Φ agree e s (andThen (emit row (STORE (scratch i)) e) rest) y
   unfolding andThen emit
-  store-scratch-known row i m K {e} {s} above p h = goes λ F.
-      writes-known row _ K (occupied-scratch e i)
+  store-scratch-known row i m rest {e} {s} above p h = goes λ F.
+      writes-known row _ rest (occupied-scratch e i)
       (silent (withScratch W s i m) row (STORE (scratch i)) _ (rw (p, setMessage-scratch))
       (rw (addRaw-scratch e i) (h .go (fits-scratch F i m above))))
 
   -- the message becomes the value of a raw variable
-  pub store-named : (row r : ℕ) (K : Env → Emitted) {e : Env} {s : State W} {g : W .Msg → Outcome B}
+  pub store-named : (row r : ℕ) (rest : Env → Emitted) {e : Env} {s : State W} {g : W .Msg → Outcome B}
       → r < namedCells → ReadWithin Allowed (s .accumulator)
       → ((m : W .Msg) → s .accumulator ≡ some m
-      → Goes calm kind Φ agree (withRaw e r) (withStores W s (setRaw W (s .stores) r m)) (K (withRaw e r)) (g m))
-      → Goes calm kind Φ agree e s (andThen (emit row (STORE (named r)) e) K)
+      → Goes calm kind Φ agree (withRaw e r) (withStores W s (setRaw W (s .stores) r m)) (rest (withRaw e r)) (g m))
+      → Goes calm kind Φ agree e s (andThen (emit row (STORE (named r)) e) rest)
       (bind (free row (s .stores .ρ r)) λ _. bind (need row (s .accumulator)) g)
   unfolding andThen emit
-  store-named row r K {e} {s} below ready h = goes λ F.
-      writes-it row (s .stores .ρ r) _ K _ (occupied-named e r below ∙ F .raws r) λ unset.
+  store-named row r rest {e} {s} below ready h = goes λ F.
+      writes-it row (s .stores .ρ r) _ rest _ (occupied-named e r below ∙ F .raws r) λ unset.
       reads-accumulator row (STORE (named r)) _ _ ready (λ p. rw p) λ m p.
       silent (withStores W s (setRaw W (s .stores) r m)) row (STORE (named r)) _ (rw (p, setMessage-named))
       (rw (addRaw-named e r below) (h m p .go (fits-raw F r m unset)))
 
-  pub store-named-known : (row r : ℕ) (m : W .Msg) (K : Env → Emitted) {e : Env} {s : State W} {y : Outcome B} → r < namedCells → s .accumulator ≡ some m
-      → Goes calm kind Φ agree (withRaw e r) (withStores W s (setRaw W (s .stores) r m)) (K (withRaw e r)) y
-      → Goes calm kind Φ agree e s (andThen (emit row (STORE (named r)) e) K) (bind (free row (s .stores .ρ r)) λ _. y)
+  pub store-named-known : (row r : ℕ) (m : W .Msg) (rest : Env → Emitted) {e : Env} {s : State W} {y : Outcome B}
+      → r < namedCells → s .accumulator ≡ some m
+      → Goes calm kind Φ agree (withRaw e r) (withStores W s (setRaw W (s .stores) r m)) (rest (withRaw e r)) y
+      → Goes calm kind Φ agree e s (andThen (emit row (STORE (named r)) e) rest) (bind (free row (s .stores .ρ r)) λ _. y)
   unfolding andThen emit
-  store-named-known row r m K {e} {s} below p h = goes λ F.
-      writes-it row (s .stores .ρ r) _ K _ (occupied-named e r below ∙ F .raws r) λ unset.
+  store-named-known row r m rest {e} {s} below p h = goes λ F.
+      writes-it row (s .stores .ρ r) _ rest _ (occupied-named e r below ∙ F .raws r) λ unset.
       silent (withStores W s (setRaw W (s .stores) r m)) row (STORE (named r)) _ (rw (p, setMessage-named))
       (rw (addRaw-named e r below) (h .go (fits-raw F r m unset)))
 
   -- a message comes from a cell
-  pub load-scratch : (row i : ℕ) (m : W .Msg) (K : Env → Emitted) {e : Env} {s : State W} {y : Outcome B} → s .scratches i ≡ some m
-      → Goes calm kind Φ agree e (withAccumulator W s m) (K e) y
-      → Goes calm kind Φ agree e s (andThen (emit row (LOAD (scratch i)) e) K) y
+  pub load-scratch : (row i : ℕ) (m : W .Msg) (rest : Env → Emitted) {e : Env} {s : State W} {y : Outcome B} → s .scratches i ≡ some m
+      → Goes calm kind Φ agree e (withAccumulator W s m) (rest e) y
+      → Goes calm kind Φ agree e s (andThen (emit row (LOAD (scratch i)) e) rest) y
   unfolding andThen emit
-  load-scratch row i m K {e} {s} p h = goes λ F.
-      reads-known row _ K (readable-scratch e i)
+  load-scratch row i m rest {e} {s} p h = goes λ F.
+      reads-known row _ rest (readable-scratch e i)
       (silent (withAccumulator W s m) row (LOAD (scratch i)) _ (rw (message-scratch, p)) (h .go F))
 
-  pub load-named : (row r : ℕ) (K : Env → Emitted) {e : Env} {s : State W} {g : W .Msg → Outcome B} → r < namedCells
-      → ((m : W .Msg) → Goes calm kind Φ agree e (withAccumulator W s m) (K e) (g m))
-      → Goes calm kind Φ agree e s (andThen (emit row (LOAD (named r)) e) K) (bind (need row (s .stores .ρ r)) g)
+  pub load-named : (row r : ℕ) (rest : Env → Emitted) {e : Env} {s : State W} {g : W .Msg → Outcome B} → r < namedCells
+      → ((m : W .Msg) → Goes calm kind Φ agree e (withAccumulator W s m) (rest e) (g m))
+      → Goes calm kind Φ agree e s (andThen (emit row (LOAD (named r)) e) rest) (bind (need row (s .stores .ρ r)) g)
   unfolding andThen emit
-  load-named row r K {e} {s} below h = goes λ F.
-      reads-it row (s .stores .ρ r) _ K _ (readable-named e r below ∙ F .raws r) λ m p.
+  load-named row r rest {e} {s} below h = goes λ F.
+      reads-it row (s .stores .ρ r) _ rest _ (readable-named e r below ∙ F .raws r) λ m p.
       silent (withAccumulator W s m) row (LOAD (named r)) _ (rw (message-named, p)) (h m .go F)
 
   -- the value of a variable: the rule reads it, or it is known
-  pub encode : (row v : ℕ) (K : Env → Emitted) {e : Env} {s : State W} {g : W .Msg → Outcome B}
-      → ((m : W .Msg) → Goes calm kind Φ agree e (withAccumulator W s m) (K e) (g m))
-      → Goes calm kind Φ agree e s (andThen (emit row (ENCODE v) e) K) (bind (need row (s .stores .σ v)) g)
+  pub encode : (row v : ℕ) (rest : Env → Emitted) {e : Env} {s : State W} {g : W .Msg → Outcome B}
+      → ((m : W .Msg) → Goes calm kind Φ agree e (withAccumulator W s m) (rest e) (g m))
+      → Goes calm kind Φ agree e s (andThen (emit row (ENCODE v) e) rest) (bind (need row (s .stores .σ v)) g)
   unfolding andThen emit
-  encode row v K {s = s} h = goes λ F.
-      reads-it row (s .stores .σ v) _ K _ (F .objects v) λ m p.
+  encode row v rest {s = s} h = goes λ F.
+      reads-it row (s .stores .σ v) _ rest _ (F .objects v) λ m p.
       silent (withAccumulator W s m) row (ENCODE v) _ (rw p) (h m .go F)
 
-  pub encode-known : (row v : ℕ) (m : W .Msg) (K : Env → Emitted) {e : Env} {s : State W} {y : Outcome B} → s .stores .σ v ≡ some m
-      → Goes calm kind Φ agree e (withAccumulator W s m) (K e) y
-      → Goes calm kind Φ agree e s (andThen (emit row (ENCODE v) e) K) y
+  pub encode-known : (row v : ℕ) (m : W .Msg) (rest : Env → Emitted) {e : Env} {s : State W} {y : Outcome B} → s .stores .σ v ≡ some m
+      → Goes calm kind Φ agree e (withAccumulator W s m) (rest e) y
+      → Goes calm kind Φ agree e s (andThen (emit row (ENCODE v) e) rest) y
   unfolding andThen emit
-  encode-known row v m K {s = s} p h = goes λ F.
-      reads-known row _ K (F .objects v ∙ ap isSome p) (silent (withAccumulator W s m) row (ENCODE v) _ (rw p) (h .go F))
+  encode-known row v m rest {s = s} p h = goes λ F.
+      reads-known row _ rest (F .objects v ∙ ap isSome p) (silent (withAccumulator W s m) row (ENCODE v) _ (rw p) (h .go F))
 
-  pub store-const : (row c b : ℕ) (K : Env → Emitted) {e : Env} {s : State W} {g : W .Msg × W .Mem → Outcome B}
-      → ((made : W .Msg × W .Mem) → Goes calm kind Φ agree (addObject e c) (withObject s c made) (K (addObject e c)) (g made))
-      → Goes calm kind Φ agree e s (andThen (emit row (STORE-CONST c b) e) K)
+  pub store-const : (row c b : ℕ) (rest : Env → Emitted) {e : Env} {s : State W} {g : W .Msg × W .Mem → Outcome B}
+      → ((made : W .Msg × W .Mem) → Goes calm kind Φ agree (addObject e c) (withObject s c made) (rest (addObject e c)) (g made))
+      → Goes calm kind Φ agree e s (andThen (emit row (STORE-CONST c b) e) rest)
       (bind (free row (s .stores .σ c)) λ _. bind (at row (W .apply (Voc.byte b) (s .stores .memory))) g)
   unfolding andThen emit
-  store-const row c b K {s = s} h = goes λ F.
-      writes-it row (s .stores .σ c) _ K _ (F .objects c) λ unset.
+  store-const row c b rest {s = s} h = goes λ F.
+      writes-it row (s .stores .σ c) _ rest _ (F .objects c) λ unset.
       makes-object row c (STORE-CONST c b) (Voc.byte b) refl λ made. h made .go (fits-object F c (made .0) unset)
 
-  pub create : (row v : ℕ) (K : Env → Emitted) {e : Env} {s : State W} {g : W .Msg × W .Mem → Outcome B} → s .stores .σ v ≡ none
-      → ((made : W .Msg × W .Mem) → Goes calm kind Φ agree (addObject e v) (withObject s v made) (K (addObject e v)) (g made))
-      → Goes calm kind Φ agree e s (andThen (emit row (CREATE v) e) K) (bind (at row (W .apply (Voc.create (kind v)) (s .stores .memory))) g)
+  pub create : (row v : ℕ) (rest : Env → Emitted) {e : Env} {s : State W} {g : W .Msg × W .Mem → Outcome B} → s .stores .σ v ≡ none
+      → ((made : W .Msg × W .Mem) → Goes calm kind Φ agree (addObject e v) (withObject s v made) (rest (addObject e v)) (g made))
+      → Goes calm kind Φ agree e s (andThen (emit row (CREATE v) e) rest) (bind (at row (W .apply (Voc.create (kind v)) (s .stores .memory))) g)
   unfolding andThen emit
-  create row v K unset h = goes λ F.
-      writes-known row _ K (F .objects v ∙ ap isSome unset)
+  create row v rest unset h = goes λ F.
+      writes-known row _ rest (F .objects v ∙ ap isSome unset)
       (makes-object row v (CREATE v) (Voc.create (kind v)) refl λ made. h made .go (fits-object F v (made .0) unset))
 
-  pub create-tuple : (row t b n : ℕ) (ms : List (W .Msg)) (K : Env → Emitted) {e : Env} {s : State W} {g : W .Msg × W .Mem → Outcome B}
+  pub create-tuple : (row t b n : ℕ) (ms : List (W .Msg)) (rest : Env → Emitted) {e : Env} {s : State W} {g : W .Msg × W .Mem → Outcome B}
       → messages W row s (namedCells + b) n ≡ done ms
-      → ((made : W .Msg × W .Mem) → Goes calm kind Φ agree (addObject e t) (withObject s t made) (K (addObject e t)) (g made))
-      → Goes calm kind Φ agree e s (andThen (emit row (CREATE-TUPLE t (scratch b) n) e) K)
+      → ((made : W .Msg × W .Mem) → Goes calm kind Φ agree (addObject e t) (withObject s t made) (rest (addObject e t)) (g made))
+      → Goes calm kind Φ agree e s (andThen (emit row (CREATE-TUPLE t (scratch b) n) e) rest)
       (bind (free row (s .stores .σ t)) λ _. bind (at row (W .apply (Voc.tuple ms) (s .stores .memory))) g)
   unfolding andThen emit
-  create-tuple row t b n ms K {s = s} p h = goes λ F.
-      writes-it row (s .stores .σ t) _ K _ (F .objects t) λ unset.
+  create-tuple row t b n ms rest {s = s} p h = goes λ F.
+      writes-it row (s .stores .σ t) _ rest _ (F .objects t) λ unset.
       makes-object row t (CREATE-TUPLE t (scratch b) n) (Voc.tuple ms) (rw p) λ made. h made .go (fits-object F t (made .0) unset)
 
   -- the opposite of a key: the rule reads the key, or it is known
-  pub opposite : (row K₀ k : ℕ) (K : Env → Emitted) {e : Env} {s : State W} {g : W .Msg × W .Mem → Outcome B}
-      → ((made : W .Msg × W .Mem) → Goes calm kind Φ agree (addObject e k) (withObject s k made) (K (addObject e k)) (g made))
-      → Goes calm kind Φ agree e s (andThen (emit row (OPPOSITE K₀ k) e) K)
-      (bind (need row (s .stores .σ K₀)) λ a. bind (free row (s .stores .σ k)) λ _. bind (at row (W .apply (Voc.op a) (s .stores .memory))) g)
+  pub opposite : (row K k : ℕ) (rest : Env → Emitted) {e : Env} {s : State W} {g : W .Msg × W .Mem → Outcome B}
+      → ((made : W .Msg × W .Mem) → Goes calm kind Φ agree (addObject e k) (withObject s k made) (rest (addObject e k)) (g made))
+      → Goes calm kind Φ agree e s (andThen (emit row (OPPOSITE K k) e) rest)
+      (bind (need row (s .stores .σ K)) λ a. bind (free row (s .stores .σ k)) λ _. bind (at row (W .apply (Voc.op a) (s .stores .memory))) g)
   unfolding andThen emit
-  opposite row K₀ k K {s = s} h = goes λ F.
-      reads-it row (s .stores .σ K₀) _ K _ (F .objects K₀) λ a p.
-      writes-it row (s .stores .σ k) _ K _ (F .objects k) λ unset.
-      makes-object row k (OPPOSITE K₀ k) (Voc.op a) (rw p) λ made. h made .go (fits-object F k (made .0) unset)
+  opposite row K k rest {s = s} h = goes λ F.
+      reads-it row (s .stores .σ K) _ rest _ (F .objects K) λ a p.
+      writes-it row (s .stores .σ k) _ rest _ (F .objects k) λ unset.
+      makes-object row k (OPPOSITE K k) (Voc.op a) (rw p) λ made. h made .go (fits-object F k (made .0) unset)
 
-  pub opposite-known : (row K₀ k : ℕ) (a : W .Msg) (K : Env → Emitted) {e : Env} {s : State W} {g : W .Msg × W .Mem → Outcome B}
-      → s .stores .σ K₀ ≡ some a
-      → ((made : W .Msg × W .Mem) → Goes calm kind Φ agree (addObject e k) (withObject s k made) (K (addObject e k)) (g made))
-      → Goes calm kind Φ agree e s (andThen (emit row (OPPOSITE K₀ k) e) K)
+  pub opposite-known : (row K k : ℕ) (a : W .Msg) (rest : Env → Emitted) {e : Env} {s : State W} {g : W .Msg × W .Mem → Outcome B}
+      → s .stores .σ K ≡ some a
+      → ((made : W .Msg × W .Mem) → Goes calm kind Φ agree (addObject e k) (withObject s k made) (rest (addObject e k)) (g made))
+      → Goes calm kind Φ agree e s (andThen (emit row (OPPOSITE K k) e) rest)
       (bind (free row (s .stores .σ k)) λ _. bind (at row (W .apply (Voc.op a) (s .stores .memory))) g)
-  opposite-known row K₀ k a K {s = s} p h = goes λ F. rw p at (opposite row K₀ k K {s = s} h .go F)
+  opposite-known row K k a rest {s = s} p h = goes λ F. rw p at (opposite row K k rest {s = s} h .go F)
 
-  pub key-of : (row : ℕ) (a : W .Msg) (K : Env → Emitted) {e : Env} {s : State W} {g : W .Msg × W .Mem → Outcome B} → s .accumulator ≡ some a
-      → ((made : W .Msg × W .Mem) → Goes calm kind Φ agree e (withMade s made) (K e) (g made))
-      → Goes calm kind Φ agree e s (andThen (emit row KEY-OF e) K) (bind (at row (W .apply (Voc.keyOf a) (s .stores .memory))) g)
+  pub key-of : (row : ℕ) (a : W .Msg) (rest : Env → Emitted) {e : Env} {s : State W} {g : W .Msg × W .Mem → Outcome B}
+      → s .accumulator ≡ some a
+      → ((made : W .Msg × W .Mem) → Goes calm kind Φ agree e (withMade s made) (rest e) (g made))
+      → Goes calm kind Φ agree e s (andThen (emit row KEY-OF e) rest) (bind (at row (W .apply (Voc.keyOf a) (s .stores .memory))) g)
   unfolding andThen emit
-  key-of row a K p h = goes λ F. makes-accumulator row KEY-OF (Voc.keyOf a) (rw p) λ made. h made .go F
+  key-of row a rest p h = goes λ F. makes-accumulator row KEY-OF (Voc.keyOf a) (rw p) λ made. h made .go F
 
-  pub hash : (row h : ℕ) (m : W .Msg) (K : Env → Emitted) {e : Env} {s : State W} {g : W .Msg × W .Mem → Outcome B} → s .accumulator ≡ some m
-      → ((made : W .Msg × W .Mem) → Goes calm kind Φ agree e (withMade s made) (K e) (g made))
-      → Goes calm kind Φ agree e s (andThen (emit row (HASH h) e) K) (bind (at row (W .apply (Voc.hash m) (s .stores .memory))) g)
+  pub hash : (row h : ℕ) (m : W .Msg) (rest : Env → Emitted) {e : Env} {s : State W} {g : W .Msg × W .Mem → Outcome B}
+      → s .accumulator ≡ some m
+      → ((made : W .Msg × W .Mem) → Goes calm kind Φ agree e (withMade s made) (rest e) (g made))
+      → Goes calm kind Φ agree e s (andThen (emit row (HASH h) e) rest) (bind (at row (W .apply (Voc.hash m) (s .stores .memory))) g)
   unfolding andThen emit
-  hash row h m K p next = goes λ F. makes-accumulator row (HASH h) (Voc.hash m) (rw p) λ made. next made .go F
+  hash row h m rest p next = goes λ F. makes-accumulator row (HASH h) (Voc.hash m) (rw p) λ made. next made .go F
 
-  pub encrypt : (row v : ℕ) (k m : W .Msg) (K : Env → Emitted) {e : Env} {s : State W} {g : W .Msg × W .Mem → Outcome B}
+  pub encrypt : (row v : ℕ) (k m : W .Msg) (rest : Env → Emitted) {e : Env} {s : State W} {g : W .Msg × W .Mem → Outcome B}
       → s .stores .σ v ≡ some k → s .accumulator ≡ some m
-      → ((made : W .Msg × W .Mem) → Goes calm kind Φ agree e (withMade s made) (K e) (g made))
-      → Goes calm kind Φ agree e s (andThen (emit row (ENCRYPT v) e) K) (bind (at row (W .apply (Voc.encrypt k m) (s .stores .memory))) g)
+      → ((made : W .Msg × W .Mem) → Goes calm kind Φ agree e (withMade s made) (rest e) (g made))
+      → Goes calm kind Φ agree e s (andThen (emit row (ENCRYPT v) e) rest) (bind (at row (W .apply (Voc.encrypt k m) (s .stores .memory))) g)
   unfolding andThen emit
-  encrypt row v k m K q p h = goes λ F.
-      reads-known row _ K (F .objects v ∙ ap isSome q) (makes-accumulator row (ENCRYPT v) (Voc.encrypt k m) (rw (q, p)) λ made. h made .go F)
+  encrypt row v k m rest q p h = goes λ F.
+      reads-known row _ rest (F .objects v ∙ ap isSome q) (makes-accumulator row (ENCRYPT v) (Voc.encrypt k m) (rw (q, p)) λ made. h made .go F)
 
-  pub sign : (row v : ℕ) (k m : W .Msg) (K : Env → Emitted) {e : Env} {s : State W} {g : W .Msg × W .Mem → Outcome B}
+  pub sign : (row v : ℕ) (k m : W .Msg) (rest : Env → Emitted) {e : Env} {s : State W} {g : W .Msg × W .Mem → Outcome B}
       → s .stores .σ v ≡ some k → s .accumulator ≡ some m
-      → ((made : W .Msg × W .Mem) → Goes calm kind Φ agree e (withMade s made) (K e) (g made))
-      → Goes calm kind Φ agree e s (andThen (emit row (SIGN v) e) K) (bind (at row (W .apply (Voc.sign k m) (s .stores .memory))) g)
+      → ((made : W .Msg × W .Mem) → Goes calm kind Φ agree e (withMade s made) (rest e) (g made))
+      → Goes calm kind Φ agree e s (andThen (emit row (SIGN v) e) rest) (bind (at row (W .apply (Voc.sign k m) (s .stores .memory))) g)
   unfolding andThen emit
-  sign row v k m K q p h = goes λ F.
-      reads-known row _ K (F .objects v ∙ ap isSome q) (makes-accumulator row (SIGN v) (Voc.sign k m) (rw (q, p)) λ made. h made .go F)
+  sign row v k m rest q p h = goes λ F.
+      reads-known row _ rest (F .objects v ∙ ap isSome q) (makes-accumulator row (SIGN v) (Voc.sign k m) (rw (q, p)) λ made. h made .go F)
 
-  pub decrypt : (row v : ℕ) (m : W .Msg) (K : Env → Emitted) {e : Env} {s : State W} {g : W .Msg × W .Mem → Outcome B} → s .accumulator ≡ some m
-      → ((made : W .Msg × W .Mem) → Goes calm kind Φ agree e (withMade s made) (K e) (g made))
-      → Goes calm kind Φ agree e s (andThen (emit row (DECRYPT v) e) K)
+  pub decrypt : (row v : ℕ) (m : W .Msg) (rest : Env → Emitted) {e : Env} {s : State W} {g : W .Msg × W .Mem → Outcome B}
+      → s .accumulator ≡ some m
+      → ((made : W .Msg × W .Mem) → Goes calm kind Φ agree e (withMade s made) (rest e) (g made))
+      → Goes calm kind Φ agree e s (andThen (emit row (DECRYPT v) e) rest)
       (bind (need row (s .stores .σ v)) λ k. bind (at row (W .apply (Voc.decrypt k m) (s .stores .memory))) g)
   unfolding andThen emit
-  decrypt row v m K {s = s} p h = goes λ F.
-      reads-it row (s .stores .σ v) _ K _ (F .objects v) λ k q.
+  decrypt row v m rest {s = s} p h = goes λ F.
+      reads-it row (s .stores .σ v) _ rest _ (F .objects v) λ k q.
       makes-accumulator row (DECRYPT v) (Voc.decrypt k m) (rw (q, p)) λ made. h made .go F
 
-  pub match-scratch : (row i : ℕ) (a b : W .Msg) (K : Env → Emitted) {e : Env} {s : State W} {y : Outcome B}
+  pub match-scratch : (row i : ℕ) (a b : W .Msg) (rest : Env → Emitted) {e : Env} {s : State W} {y : Outcome B}
       → s .accumulator ≡ some a → s .scratches i ≡ some b
-      → Goes calm kind Φ agree e s (K e) y
-      → Goes calm kind Φ agree e s (andThen (emit row (MATCH (scratch i)) e) K)
+      → Goes calm kind Φ agree e s (rest e) y
+      → Goes calm kind Φ agree e s (andThen (emit row (MATCH (scratch i)) e) rest)
       (bind (at row (W .test (Voc.same a b) (s .stores .memory))) λ _. y)
   unfolding andThen emit
-  match-scratch row i a b K {e} {s} p q h = goes λ F.
-      reads-known row _ K (readable-scratch e i)
+  match-scratch row i a b rest {e} {s} p q h = goes λ F.
+      reads-known row _ rest (readable-scratch e i)
       (tests row (MATCH (scratch i)) (Voc.same a b) (rw (p, message-scratch, q)) (h .go F))
 
-  pub match-named : (row r : ℕ) (b : W .Msg) (K : Env → Emitted) {e : Env} {s : State W} {g : W .Msg → Outcome B}
+  pub match-named : (row r : ℕ) (b : W .Msg) (rest : Env → Emitted) {e : Env} {s : State W} {g : W .Msg → Outcome B}
       → r < namedCells → ReadWithin Allowed (s .accumulator) → s .stores .ρ r ≡ some b
-      → ((m : W .Msg) → Goes calm kind Φ agree e s (K e) (g m))
-      → Goes calm kind Φ agree e s (andThen (emit row (MATCH (named r)) e) K)
+      → ((m : W .Msg) → Goes calm kind Φ agree e s (rest e) (g m))
+      → Goes calm kind Φ agree e s (andThen (emit row (MATCH (named r)) e) rest)
       (bind (need row (s .accumulator)) λ m. bind (at row (W .test (Voc.same m b) (s .stores .memory))) λ _. g m)
   unfolding andThen emit
-  match-named row r b K {e} {s} below ready q h = goes λ F.
-      reads-known row _ K (readable-named e r below ∙ F .raws r ∙ ap isSome q)
+  match-named row r b rest {e} {s} below ready q h = goes λ F.
+      reads-known row _ rest (readable-named e r below ∙ F .raws r ∙ ap isSome q)
       (reads-accumulator row (MATCH (named r)) _ _ ready (λ p. rw p) λ m p.
       tests row (MATCH (named r)) (Voc.same m b) (rw (p, message-named, q)) (h m .go F))
 
   -- the body is read by the rule; the key is too, or it is known
-  pub verify : (row v r : ℕ) (m : W .Msg) (K : Env → Emitted) {e : Env} {s : State W} {y : Outcome B} → r < namedCells → s .accumulator ≡ some m
-      → Goes calm kind Φ agree e s (K e) y
-      → Goes calm kind Φ agree e s (andThen (emit row (VERIFY v (named r)) e) K)
+  pub verify : (row v r : ℕ) (m : W .Msg) (rest : Env → Emitted) {e : Env} {s : State W} {y : Outcome B}
+      → r < namedCells → s .accumulator ≡ some m
+      → Goes calm kind Φ agree e s (rest e) y
+      → Goes calm kind Φ agree e s (andThen (emit row (VERIFY v (named r)) e) rest)
       (bind (need row (s .stores .σ v)) λ k. bind (need row (s .stores .ρ r)) λ b.
       bind (at row (W .test (Voc.verify k b m) (s .stores .memory))) λ _. y)
   unfolding andThen emit
-  verify row v r m K {e} {s} below p h = goes λ F.
-      reads-it row (s .stores .σ v) _ K _ (F .objects v) λ k q.
-      reads-it row (s .stores .ρ r) _ K _ (readable-named e r below ∙ F .raws r) λ b u.
+  verify row v r m rest {e} {s} below p h = goes λ F.
+      reads-it row (s .stores .σ v) _ rest _ (F .objects v) λ k q.
+      reads-it row (s .stores .ρ r) _ rest _ (readable-named e r below ∙ F .raws r) λ b u.
       tests row (VERIFY v (named r)) (Voc.verify k b m) (rw (q, message-named, u, p)) (h .go F)
 
-  pub verify-known : (row v r : ℕ) (k m : W .Msg) (K : Env → Emitted) {e : Env} {s : State W} {y : Outcome B}
+  pub verify-known : (row v r : ℕ) (k m : W .Msg) (rest : Env → Emitted) {e : Env} {s : State W} {y : Outcome B}
       → r < namedCells → s .stores .σ v ≡ some k → s .accumulator ≡ some m
-      → Goes calm kind Φ agree e s (K e) y
-      → Goes calm kind Φ agree e s (andThen (emit row (VERIFY v (named r)) e) K)
+      → Goes calm kind Φ agree e s (rest e) y
+      → Goes calm kind Φ agree e s (andThen (emit row (VERIFY v (named r)) e) rest)
       (bind (need row (s .stores .ρ r)) λ b. bind (at row (W .test (Voc.verify k b m) (s .stores .memory))) λ _. y)
-  verify-known row v r k m K below q p h = goes λ F. rw q at (verify row v r m K below p h .go F)
+  verify-known row v r k m rest below q p h = goes λ F. rw q at (verify row v r m rest below p h .go F)
 
-  pub analyze-tuple : (row t b n : ℕ) (m : W .Msg) (K : Env → Emitted) {e : Env} {s : State W} {g : (ℕ → W .Msg) → Outcome B}
+  pub analyze-tuple : (row t b n : ℕ) (m : W .Msg) (rest : Env → Emitted) {e : Env} {s : State W} {g : (ℕ → W .Msg) → Outcome B}
       → Φ .low ≤ b → s .stores .σ t ≡ some m
-      → ((parts : ℕ → W .Msg) → Goes calm kind Φ agree e (withScratches W s b n parts) (K e) (g parts))
-      → Goes calm kind Φ agree e s (andThen (emit row (ANALYZE-TUPLE t (scratch b) n) e) K) (bind (at row (W .parts m n (s .stores .memory))) g)
+      → ((parts : ℕ → W .Msg) → Goes calm kind Φ agree e (withScratches W s b n parts) (rest e) (g parts))
+      → Goes calm kind Φ agree e s (andThen (emit row (ANALYZE-TUPLE t (scratch b) n) e) rest) (bind (at row (W .parts m n (s .stores .memory))) g)
   unfolding andThen emit
-  analyze-tuple row t b n m K {s = s} above q h = goes λ F.
-      reads-known row _ K (F .objects t ∙ ap isSome q)
-      (shares row (ANALYZE-TUPLE t (scratch b) n) _ (at row (W .parts m n (s .stores .memory))) (withScratches W s b n) _
-      (at-within row (calm .parts m n _)) (rw q (simp setMessages-scratch)) λ parts _. h parts .go (fits-scratches F b n (λ i. some (parts i)) above))
+  analyze-tuple row t b n m rest {s = s} above q h = goes λ F.
+      reads-known row _ rest (F .objects t ∙ ap isSome q)
+      (shares row (ANALYZE-TUPLE t (scratch b) n) _ (withScratches W s b n) _ (at-within row (calm .parts m n _)) (rw q (simp setMessages-scratch)) λ parts.
+      h parts .go (fits-scratches F b n (λ i. some (parts i)) above))
