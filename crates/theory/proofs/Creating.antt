@@ -1,25 +1,23 @@
 -- Creating: figure 6 does what figure 3 says, a lemma a form.
 use Prim.Native.Nat.{ℕ, suc, _+_, _<_, _≤_}
 use mathlib.Core.Path.{_≡_, refl, _∙_, subst}
-use mathlib.Core.Bool.{Bool, true, false, cond, true≢false, false≢true}
-use mathlib.Core.Option.{Option, none, some}
-use mathlib.Core.List.{List, []}
+use mathlib.Core.Option.{some}
+use mathlib.Core.List.{List}
 use native.Mathlib.Nat.{le-refl}
 use native.Mathlib.Omega.{arith}
-use Rattle.answers.specs.declared.Compiled.the-variants.{ReadWhileUnset}
 use Rattle.patterns.specs.Pattern.{Key, plainKey, opKey, certifiedKey, Pattern, object, raw, constant, opposite, keyOf, encryption, signature, hash, tuple, letIn, Parts, end, part, count, RawsBelow, PartsBelow}
-use Rattle.theory.specs.Outcome.{Outcome, done, bind, isSome}
+use Rattle.theory.specs.Outcome.{Outcome, done, bind}
 use Rattle.theory.specs.World.{World, creatable}
 use Rattle.theory.specs.Machine.{namedCells, Stores, State, messages}
-use Rattle.theory.specs.Emission.{Env, Emitted, ok, refuse, andThen, emit}
-use Rattle.theory.specs.Compilers.{CREATE, keyVar, creating, compile↑K, compile↑, compile↑parts}
+use Rattle.theory.specs.Emission.{Env, Emitted, andThen}
+use Rattle.theory.specs.Compilers.{keyVar, creating, compile↑K, compile↑, compile↑parts}
 use Rattle.theory.specs.Rules.{getVariable, createKey, create, createParts}
 use Rattle.theory.proofs.StoreLaws.{put-same}
 use Rattle.theory.proofs.CellLaws.{messages-scratch}
 use Rattle.theory.proofs.Reasons.{WorldWithin}
 use Rattle.theory.proofs.Simulation.{is-stuck, Frame, Fit, fits-from, fits-whole, Simulates, refused, goes-on}
 use Rattle.theory.proofs.Steps as Step
-use Rattle.theory.proofs.Steps.{Goes, goes, enter, by-bind, ends, lastly, takes}
+use Rattle.theory.proofs.Steps.{Goes, goes, by-bind, ends, lastly, chooses, either, takes}
 
 module _ (W : World) where
   -- what the rule makes, held somewhere by the machine, and the rule's stores
@@ -40,8 +38,9 @@ module _ (W : World) where
   here s low = record { low = low; σ = s .stores .σ; ρ = s .stores .ρ; scratches = s .scratches }
 
 -- a part, and then the rest, which knows what the part has kept
-module _ {Allowed : ℕ → Type 0} {W : World} {calm : WorldWithin Allowed W} {kind : ℕ → ℕ} {Φ : Frame W} {X B : Type 0} (P : State W → X → Type 0)
-    {agree : State W → B → Type 0} {e : Env} {s : State W} {code : Emitted} (rest : Env → Emitted) {x : Outcome (X × Stores W)} (g : X × Stores W → Outcome B) where
+module _ {Allowed : ℕ → Type 0} {W : World} {calm : WorldWithin Allowed W} {kind : ℕ → ℕ} {Φ : Frame W} {X B : Type 0}
+    (P : State W → X → Type 0) {agree : State W → B → Type 0} {e : Env} {s : State W} {code : Emitted} (rest : Env → Emitted)
+    {x : Outcome (X × Stores W)} (g : X × Stores W → Outcome B) where
   above-then : (low : ℕ) → Φ .low ≤ low → low ≤ e .next
       → Goes calm kind (here W s low) (With W P) e s code x
       → ((d : Env) (t : State W) (m : X) → Fit W (here W s low) d t → P t m → Goes calm kind Φ agree d t (rest d) (g (m, t .stores)))
@@ -67,22 +66,10 @@ module _ {Allowed : ℕ → Type 0} {W : World} (calm : WorldWithin Allowed W) (
 
   variable-goes : (Φ : Frame W) (e : Env) (s : State W) (row v : ℕ)
       → Goes calm kind Φ (With W (InVariable W v)) e s (creating kind row v e) (getVariable W kind row v (s .stores .σ v) (s .stores))
-  variable-goes Φ e s row v = goes λ F. enter F (choose (e .objects v) (s .stores .σ v) refl (F .objects v))
-    where
-      new : s .stores .σ v ≡ none → (test : Bool) → creatable (kind v) ≡ test
-          → Goes calm kind Φ (With W (InVariable W v)) e s
-          (cond (creatable (kind v)) (emit row (CREATE v) e) (refuse (ReadWhileUnset row))) (getVariable W kind row v none (s .stores))
-      new p true q = rw q (lastly (Step.create row v _ p λ made. ends (put-same _ _ _, refl)))
-      new p false q = rw q (goes λ F. refused is-stuck)
-
-      choose : (known : Bool) (value : Option (W .Msg)) → s .stores .σ v ≡ value → known ≡ isSome value
-          → Goes calm kind Φ (With W (InVariable W v)) e s
-          (cond known (ok [] e) (cond (creatable (kind v)) (emit row (CREATE v) e) (refuse (ReadWhileUnset row))))
-          (getVariable W kind row v value (s .stores))
-      choose true (some a) p q = ends (p, refl)
-      choose false none p q = new p (creatable (kind v)) refl
-      choose true none p q = absurd (true≢false q)
-      choose false (some a) p q = absurd (false≢true q)
+  variable-goes Φ e s row v =
+      chooses (s .stores .σ v) (λ value. getVariable W kind row v value (s .stores)) (λ F. F .objects v)
+      (λ a p. ends (p, refl))
+      λ p. either (creatable (kind v)) (lastly (Step.create row v _ p λ made. ends (put-same _ _ _, refl))) (goes λ F. refused is-stuck)
 
   -- a key ends in its variable
   key-goes : (Φ : Frame W) (e : Env) (s : State W) (row : ℕ) (key : Key)

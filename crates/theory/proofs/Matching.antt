@@ -1,22 +1,21 @@
 -- Matching: figure 5 does what figure 2 says, a lemma a form.
 use Prim.Native.Nat.{ℕ, zero, suc, _+_, _<_, _≤_}
 use mathlib.Core.Path.{_≡_, refl, _∙_}
-use mathlib.Core.Bool.{Bool, true, false, cond, true≢false, false≢true}
-use mathlib.Core.Option.{Option, none, some}
+use mathlib.Core.Option.{some}
 use native.Mathlib.Nat.{add-zero, zero-add, suc-add, add-suc, le-refl}
 use native.Mathlib.Omega.{arith}
 use Rattle.patterns.specs.Pattern.{Key, plainKey, opKey, certifiedKey, Pattern, object, raw, constant, opposite, keyOf, encryption, signature, hash, tuple, letIn, Parts, end, part, count, RawsBelow, PartsBelow}
-use Rattle.theory.specs.Outcome.{Outcome, bind, isSome}
+use Rattle.theory.specs.Outcome.{Outcome, bind}
 use Rattle.theory.specs.World.{World}
-use Rattle.theory.specs.Machine.{namedCells, scratch, named, Stores, State}
-use Rattle.theory.specs.Emission.{Env, Emitted, andThen, emit, take, _then_}
-use Rattle.theory.specs.Compilers.{STORE, DECODE, ENCODE, MATCH, compile↓, compile↓parts}
+use Rattle.theory.specs.Machine.{namedCells, Stores, State}
+use Rattle.theory.specs.Emission.{Env, Emitted, andThen}
+use Rattle.theory.specs.Compilers.{compile↓, compile↓parts}
 use Rattle.theory.specs.Rules.{match, matchParts, matchObject, matchRaw}
 use Rattle.theory.proofs.StoreLaws.{put-same, puts-at}
 use Rattle.theory.proofs.Reasons.{ReadWithin, WorldWithin}
 use Rattle.theory.proofs.Simulation.{is-stuck, Frame, fits-from, from, fits-whole, writes-at, refused, goes-on, weaken}
 use Rattle.theory.proofs.Steps as Step
-use Rattle.theory.proofs.Steps.{Goes, goes, enter, ends, lastly, takes}
+use Rattle.theory.proofs.Steps.{Goes, goes, enter, ends, lastly, chooses, takes}
 
 -- matching ends where the stores are the rule's
 abbrev pub Matched : (W : World) → State W → Stores W → Type 0
@@ -95,31 +94,20 @@ module _ {Allowed : ℕ → Type 0} {W : World} (calm : WorldWithin Allowed W) (
       body Φ _ _ tt
 
   object-goes : (row v : ℕ) → Matches (object row v)
-  object-goes row v Φ e s ready = goes λ F. enter F (choose (e .objects v) (s .stores .σ v) refl (F .objects v))
-    where
-      choose : (known : Bool) (value : Option (W .Msg)) → s .stores .σ v ≡ value → known ≡ isSome value
-          → Goes calm kind Φ (Matched W) e s
-          (cond known ((take 1 λ rˢ. emit row (STORE (scratch rˢ)) then emit row (ENCODE v) then emit row (MATCH (scratch rˢ))) e) (emit row (DECODE v) e))
-          (matchObject W kind row v value (s .accumulator) (s .stores))
-      choose true (some a) p q =
-          takes 1 λ above.
-          Step.store-scratch row (e .next) _ above ready λ m.
-          Step.encode-known row v a _ p
-          (lastly (Step.match-scratch row (e .next) a m _ refl (put-same _ _ _) (ends refl)))
-      choose false none p q = lastly (Step.decode row v _ ready λ m _. ends refl)
-      choose true none p q = absurd (true≢false q)
-      choose false (some a) p q = absurd (false≢true q)
+  object-goes row v Φ e s ready =
+      chooses (s .stores .σ v) (λ value. matchObject W kind row v value (s .accumulator) (s .stores)) (λ F. F .objects v)
+      (λ a p.
+      takes 1 λ above.
+      Step.store-scratch row (e .next) _ above ready λ m.
+      Step.encode-known row v a _ p
+      (lastly (Step.match-scratch row (e .next) a m _ refl (put-same _ _ _) (ends refl))))
+      λ p. lastly (Step.decode row v _ ready λ m _. ends refl)
 
   raw-goes : (row r : ℕ) → r < namedCells → Matches (raw row r)
-  raw-goes row r below Φ e s ready = goes λ F. enter F (choose (e .raws r) (s .stores .ρ r) refl (F .raws r))
-    where
-      choose : (known : Bool) (value : Option (W .Msg)) → s .stores .ρ r ≡ value → known ≡ isSome value
-          → Goes calm kind Φ (Matched W) e s (cond known (emit row (MATCH (named r)) e) (emit row (STORE (named r)) e))
-          (matchRaw W kind row r value (s .accumulator) (s .stores))
-      choose true (some a) p q = lastly (Step.match-named row r a _ below ready p λ m. ends refl)
-      choose false none p q = lastly (Step.store-named row r _ below ready λ m _. ends refl)
-      choose true none p q = absurd (true≢false q)
-      choose false (some a) p q = absurd (false≢true q)
+  raw-goes row r below Φ e s ready =
+      chooses (s .stores .ρ r) (λ value. matchRaw W kind row r value (s .accumulator) (s .stores)) (λ F. F .raws r)
+      (λ a p. lastly (Step.match-named row r a _ below ready p λ m. ends refl))
+      λ p. lastly (Step.store-named row r _ below ready λ m _. ends refl)
 
   letIn-goes : (row r : ℕ) (p₁ p₂ : Pattern) → r < namedCells → Matches p₁ → Matches p₂ → Matches (letIn row r p₁ p₂)
   letIn-goes row r p₁ p₂ below first second Φ e s ready = goes λ F.

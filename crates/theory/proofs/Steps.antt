@@ -1,6 +1,7 @@
 -- One lemma for each instruction: what is emitted, what it does, and what the rule does at that point.
 use Prim.Native.Nat.{ℕ, _+_, _≤_, _<_}
 use mathlib.Core.Path.{_≡_, refl, _∙_, ap}
+use mathlib.Core.Bool.{Bool, true, false, cond, true≢false, false≢true}
 use mathlib.Core.Option.{Option, none, some}
 use mathlib.Core.List.{List, [], _∷_}
 use Rattle.answers.specs.Numbers.{reasonNumber}
@@ -87,6 +88,23 @@ module _ {Allowed : ℕ → Type 0} {W : World} {calm : WorldWithin Allowed W} {
   pub lastly : {code : Emitted} {e : Env} {s : State W} {y : Outcome B}
       → Goes calm kind Φ agree e s (andThen code (ok [])) y → Goes calm kind Φ agree e s code y
   lastly h = goes λ F. last (h .go F)
+
+  -- code by whether a variable is set, and by a test that the rule makes too
+  pub chooses : {known : Bool} (value : Option (W .Msg)) (y : Option (W .Msg) → Outcome B) {set unset : Emitted} {e : Env} {s : State W}
+      → (Fit W Φ e s → known ≡ isSome value)
+      → ((a : W .Msg) → value ≡ some a → Goes calm kind Φ agree e s set (y (some a)))
+      → (value ≡ none → Goes calm kind Φ agree e s unset (y none))
+      → Goes calm kind Φ agree e s (cond known set unset) (y value)
+  chooses {known = true} (some a) y knows if-set if-unset = if-set a refl
+  chooses {known = false} none y knows if-set if-unset = if-unset refl
+  chooses {known = true} none y knows if-set if-unset = goes λ F. absurd (true≢false (knows F))
+  chooses {known = false} (some a) y knows if-set if-unset = goes λ F. absurd (false≢true (knows F))
+
+  pub either : (test : Bool) {code code′ : Emitted} {e : Env} {s : State W} {y y′ : Outcome B}
+      → Goes calm kind Φ agree e s code y → Goes calm kind Φ agree e s code′ y′
+      → Goes calm kind Φ agree e s (cond test code code′) (cond test y y′)
+  either true h h′ = h
+  either false h h′ = h′
 
   -- scratch that is taken lies above what is kept
   pub takes : (n : ℕ) {code : Emitted} {e : Env} {s : State W} {y : Outcome B}
@@ -328,5 +346,5 @@ module _ {Allowed : ℕ → Type 0} {W : World} {calm : WorldWithin Allowed W} {
   unfolding andThen emit
   analyze-tuple row t b n m rest {s = s} above q h = goes λ F.
       reads-known row _ rest (F .objects t ∙ ap isSome q)
-      (shares row (ANALYZE-TUPLE t (scratch b) n) _ (withScratches W s b n) _ (at-within row (calm .parts m n _)) (rw q (simp setMessages-scratch)) λ parts.
+      (shares row (ANALYZE-TUPLE t (scratch b) n) _ _ _ (at-within row (calm .parts m n _)) (rw q (simp setMessages-scratch)) λ parts.
       h parts .go (fits-scratches F b n (λ i. some (parts i)) above))
