@@ -4,7 +4,6 @@ use mathlib.Core.Path.{_≡_, refl, sym, _∙_, subst}
 use mathlib.Core.Option.{Option, none, some}
 use mathlib.Core.List.{List}
 use native.Mathlib.Nat.{le-refl}
-use native.Mathlib.Omega.{arith}
 use Rattle.answers.specs.Numbers.{reasonNumber}
 use Rattle.answers.specs.declared.Reason.the-variants.{Unset}
 use Rattle.answers.specs.declared.Compiled.{Compiled}
@@ -16,7 +15,8 @@ use Rattle.theory.specs.Emission.{Env, Emitted, ok, refuse}
 use Rattle.theory.specs.Compilers.{compile↓, compile↑}
 use Rattle.theory.specs.Rules.{match, create, Made}
 use Rattle.theory.proofs.Reasons.{ReadWithin, WorldWithin, any-read, any-world, Calm}
-use Rattle.theory.proofs.Simulation.{Alike, both-done, both-stuck, both-room, NotDone, is-stuck, is-room, bind-done, Frame, Fit, Ends, RunsAlike, Simulates}
+use Rattle.theory.proofs.Simulation.{bind-done, here, fits-here, Simulates}
+use Rattle.theory.proofs.Adequacy.{same-outcome, reason-of, accepted, no-end, fits-end}
 use Rattle.theory.proofs.Matching.{Matched, matches}
 use Rattle.theory.proofs.Creating.{With, InAccumulator, creates}
 
@@ -44,69 +44,21 @@ module _ (W : World) where
     pub raws : (r : ℕ) (m : W .Msg) → s .stores .ρ r ≡ some m → t .stores .ρ r ≡ some m
     pub scratch : (i : ℕ) → i < b → t .scratches i ≡ s .scratches i
 
-  -- the frame of the whole code
-  abbrev whole : ℕ → State W → Frame W
-  whole b s = record { low = b; σ = s .stores .σ; ρ = s .stores .ρ; scratches = s .scratches }
-
-  fits : (b : ℕ) (s : State W) → Fit W (whole b s) (knownFrom b (s .stores)) s
-  fits b s =
-      record {
-        objects = λ v. refl;
-        raws = λ r. refl;
-        above = le-refl _;
-        keeps-objects = λ v a p. p;
-        keeps-raws = λ r a p. p;
-        keeps-scratch = λ i below. refl;
-      }
-
-module _ {A B : Type 0} {Allowed : ℕ → Type 0} {R : A → B → Type 0} where
-  same-outcome : {D : Type 0} {x : Outcome A} {y : Outcome B} (f : A → D) (g : B → D) → ((a : A) (b : B) → R a b → f a ≡ g b)
-      → Alike Allowed R x y → bind x (λ a. done (f a)) ≡ bind y (λ b. done (g b))
-  same-outcome f g same (both-done {a = a} {b = b} r) = λ i. done (same a b r i)
-  same-outcome f g same (both-stuck within) = refl
-  same-outcome f g same both-room = refl
-
-  end-of : {x : Outcome A} {y : Outcome B} {a : A} → Alike Allowed R x y → x ≡ done a → (b : B) × R a b
-  end-of (both-done {a = a′} {b = b} r) p = (b, subst (λ a. R a b) (cc) r)
-  end-of (both-stuck within) p = absurd (let z : _≡_ {A = ℕ} 0 1 = cc in omega arith)
-  end-of both-room p = absurd (let z : _≡_ {A = ℕ} 0 1 = cc in omega arith)
-
-  reason-of : {x : Outcome A} {y : Outcome B} {place why : ℕ} → Alike Allowed R x y → x ≡ stuck place why → Allowed why
-  reason-of (both-stuck {why = why′} within) p = subst Allowed (cc) within
-  reason-of (both-done r) p = absurd (let z : _≡_ {A = ℕ} 0 1 = cc in omega arith)
-  reason-of both-room p = absurd (let z : _≡_ {A = ℕ} 0 1 = cc in omega arith)
-
-never : {B : Type 0} {y : Outcome B} {b : B} → NotDone y → y ≡ done b → ⊥
-never is-stuck p = let z : _≡_ {A = ℕ} 0 1 = cc in omega arith
-never is-room p = let z : _≡_ {A = ℕ} 0 1 = cc in omega arith
-
-module _ {Allowed : ℕ → Type 0} {W : World} {calm : WorldWithin Allowed W} {kind : ℕ → ℕ} {Φ : Frame W} {B : Type 0} {agree : State W → B → Type 0}
-    {s : State W} {code : Emitted} {y : Outcome B} (sim : Simulates calm kind Φ agree s code y) where
-  accepted : {c : List Line} {e : Env} → code ≡ ok c e → Alike Allowed (Ends calm kind Φ agree e) (exec W kind c s) y
-  unfolding RunsAlike
-  accepted q = subst (λ code. Simulates calm kind Φ agree s code y) q sim .run
-
-  turned-down : {answer : Compiled} → code ≡ refuse answer → NotDone y
-  unfolding RunsAlike
-  turned-down q = subst (λ code. Simulates calm kind Φ agree s code y) q sim .run
-
-  fits-end : {c : List Line} {e : Env} {t : State W} → code ≡ ok c e → exec W kind c s ≡ done t → Fit W Φ e t
-  fits-end q r = end-of (accepted q) r .1 .fits
-
-module _ {Allowed : ℕ → Type 0} {W : World} {calm : WorldWithin Allowed W} {kind : ℕ → ℕ} {B : Type 0} {agree : State W → B → Type 0} {b : ℕ}
-    {s t : State W} {code : Emitted} {y : Outcome B} where
-  keeps : Simulates calm kind (whole W b s) agree s code y → {c : List Line} {e : Env} → code ≡ ok c e → exec W kind c s ≡ done t → Keeps W b s t
+module _ {Allowed : ℕ → Type 0} {W : World} {calm : WorldWithin Allowed W} {kind : ℕ → ℕ} {B : Type 0}
+    {agree : State W → B → Type 0} {b : ℕ} {s t : State W} {code : Emitted} {y : Outcome B} where
+  keeps : Simulates calm kind (here W s b) agree s code y → {c : List Line} {e : Env} → code ≡ ok c e → exec W kind c s ≡ done t → Keeps W b s t
   keeps sim q r =
       let F = fits-end sim q r in
       record { objects = F .keeps-objects; raws = F .keeps-raws; scratch = F .keeps-scratch }
 
 module _ (W : World) (kind : ℕ → ℕ) (p : Pattern) (below : RawsBelow namedCells p) where
   matching : {Allowed : ℕ → Type 0} (calm : WorldWithin Allowed W) (b : ℕ) (s : State W) → ReadWithin Allowed (s .accumulator)
-      → Simulates calm kind (whole W b s) (Matched W) s (compile↓ p (knownFrom W b (s .stores))) (match W kind p (s .accumulator) (s .stores))
-  matching calm b s ready = matches calm kind p below _ _ s ready .go (fits W b s)
+      → Simulates calm kind (here W s b) (Matched W) s (compile↓ p (knownFrom W b (s .stores))) (match W kind p (s .accumulator) (s .stores))
+  matching calm b s ready = matches calm kind p below _ _ s ready .go (fits-here s b (λ v. refl) (λ r. refl) (le-refl _))
 
   matching-any : (b : ℕ) (s : State W)
-      → Simulates (any-world W) kind (whole W b s) (Matched W) s (compile↓ p (knownFrom W b (s .stores))) (match W kind p (s .accumulator) (s .stores))
+      → Simulates (any-world W) kind (here W s b) (Matched W) s
+      (compile↓ p (knownFrom W b (s .stores))) (match W kind p (s .accumulator) (s .stores))
   matching-any b s = matching (any-world W) b s (any-read (s .accumulator))
 
   -- Matching. Code ends as the rule does: with its stores, or stuck or out of room at the same row for the same reason
@@ -117,7 +69,7 @@ module _ (W : World) (kind : ℕ → ℕ) (p : Pattern) (below : RawsBelow named
   -- what is refused matches no message
   pub matching-refused : (n : Stores W) {answer : Compiled} → compile↓ p (known W n) ≡ refuse answer
       → (m : Option (W .Msg)) (t : Stores W) → match W kind p m n ≡ done t → ⊥
-  matching-refused n q m t = never (turned-down (matching-any 0 (record { accumulator = m; scratches = λ i. none; stores = n })) q)
+  matching-refused n q m t = no-end (matching-any 0 (record { accumulator = m; scratches = λ i. none; stores = n })) q
 
   pub matching-keeps : (b : ℕ) (s t : State W) {c : List Line} {e : Env} → compile↓ p (knownFrom W b (s .stores)) ≡ ok c e
       → exec W kind c s ≡ done t → Keeps W b s t
@@ -136,8 +88,8 @@ module _ (W : World) (kind : ℕ → ℕ) (p : Pattern) (below : RawsBelow named
   matching-reads-set calm s m a q place r = reason-of (accepted (matching calm 0 s (rw a tt)) q) r refl
 
   creating : {Allowed : ℕ → Type 0} (calm : WorldWithin Allowed W) (b : ℕ) (s : State W)
-      → Simulates calm kind (whole W b s) (With W (InAccumulator W)) s (compile↑ kind p (knownFrom W b (s .stores))) (create W kind p (s .stores))
-  creating calm b s = creates calm kind p below _ _ s .go (fits W b s)
+      → Simulates calm kind (here W s b) (With W (InAccumulator W)) s (compile↑ kind p (knownFrom W b (s .stores))) (create W kind p (s .stores))
+  creating calm b s = creates calm kind p below _ _ s .go (fits-here s b (λ v. refl) (λ r. refl) (le-refl _))
 
   -- Creating. Code ends as the rule does: with its message and its stores, or stuck or out of room at the same row for the same reason
   pub creating-runs : (s : State W) {c : List Line} {e : Env} → compile↑ kind p (known W (s .stores)) ≡ ok c e
@@ -146,7 +98,7 @@ module _ (W : World) (kind : ℕ → ℕ) (p : Pattern) (below : RawsBelow named
 
   pub creating-refused : (n : Stores W) {answer : Compiled} → compile↑ kind p (known W n) ≡ refuse answer
       → (b : Made W kind) → create W kind p n ≡ done b → ⊥
-  creating-refused n q b = never (turned-down (creating (any-world W) 0 (record { accumulator = none; scratches = λ i. none; stores = n })) q)
+  creating-refused n q b = no-end (creating (any-world W) 0 (record { accumulator = none; scratches = λ i. none; stores = n })) q
 
   pub creating-keeps : (b : ℕ) (s t : State W) {c : List Line} {e : Env} → compile↑ kind p (knownFrom W b (s .stores)) ≡ ok c e
       → exec W kind c s ≡ done t → Keeps W b s t

@@ -15,9 +15,9 @@ use Rattle.theory.specs.Rules.{getVariable, createKey, create, createPar
 use Rattle.theory.proofs.StoreLaws.{put-same}
 use Rattle.theory.proofs.CellLaws.{messages-scratch}
 use Rattle.theory.proofs.Reasons.{WorldWithin}
-use Rattle.theory.proofs.Simulation.{is-stuck, Frame, Fit, fits-from, fits-whole, Simulates, refused, goes-on}
+use Rattle.theory.proofs.Simulation.{is-stuck, Frame, Fit, here, refused}
 use Rattle.theory.proofs.Steps as Step
-use Rattle.theory.proofs.Steps.{Goes, goes, by-bind, ends, lastly, chooses, either, takes}
+use Rattle.theory.proofs.Steps.{Goes, goes, enter, by-bind, part-then, ends, lastly, chooses, either, takes}
 
 module _ (W : World) where
   -- what the rule makes, held somewhere by the machine, and the rule's stores
@@ -33,10 +33,6 @@ module _ (W : World) where
   abbrev pub InScratch : ℕ → ℕ → ℕ → State W → List (W .Msg) → Type 0
   InScratch row b n s ms = messages W row s (namedCells + b) n ≡ done ms
 
-  -- the frame of a part that starts here
-  abbrev here : State W → ℕ → Frame W
-  here s low = record { low = low; σ = s .stores .σ; ρ = s .stores .ρ; scratches = s .scratches }
-
 -- a part, and then the rest, which knows what the part has kept
 module _ {Allowed : ℕ → Type 0} {W : World} {calm : WorldWithin Allowed W} {kind : ℕ → ℕ} {Φ : Frame W} {X B : Type 0}
     (P : State W → X → Type 0) {agree : State W → B → Type 0} {e : Env} {s : State W} {code : Emitted} (rest : Env → Emitted)
@@ -45,14 +41,14 @@ module _ {Allowed : ℕ → Type 0} {W : World} {calm : WorldWithin Allowed W} {
       → Goes calm kind (here W s low) (With W P) e s code x
       → ((d : Env) (t : State W) (m : X) → Fit W (here W s low) d t → P t m → Goes calm kind Φ agree d t (rest d) (g (m, t .stores)))
       → Goes calm kind Φ agree e s (andThen code rest) (bind x g)
-  above-then low above within made next = goes λ F.
-      goes-on (λ d t G. fits-whole F low above G) rest g (made .go (fits-from F low within)) λ d t a F G q.
-      subst (λ n. Simulates calm kind Φ agree t (rest d) (g (a .0, n))) (q .1) (next d t (a .0) G (q .0) .go F)
+  above-then low above within made next =
+      part-then rest g low above within made λ d t a G q.
+      subst (λ n. Goes calm kind Φ agree d t (rest d) (g (a .0, n))) (q .1) (next d t (a .0) G (q .0))
 
   made-then : Goes calm kind (here W s (e .next)) (With W P) e s code x
       → ((d : Env) (t : State W) (m : X) → Fit W (here W s (e .next)) d t → P t m → Goes calm kind Φ agree d t (rest d) (g (m, t .stores)))
       → Goes calm kind Φ agree e s (andThen code rest) (bind x g)
-  made-then made next = goes λ F. above-then (e .next) (F .above) (le-refl _) made next .go F
+  made-then made next = goes λ F. enter F (above-then (e .next) (F .above) (le-refl _) made next)
 
 module _ {Allowed : ℕ → Type 0} {W : World} (calm : WorldWithin Allowed W) (kind : ℕ → ℕ) where
   -- what is shown of a pattern, and of the parts of a tuple

@@ -7,4 +7,5 @@ pub mod Simulation
 pub mod Steps
 pub mod Matching
 pub mod Creating
+pub mod Adequacy
 pub mod Compiled

@@ -13,9 +13,9 @@ use Rattle.theory.specs.Compilers.{compile↓, compile↓parts}
 use Rattle.theory.specs.Rules.{match, matchParts, matchObject, matchRaw}
 use Rattle.theory.proofs.StoreLaws.{put-same, puts-at}
 use Rattle.theory.proofs.Reasons.{ReadWithin, WorldWithin}
-use Rattle.theory.proofs.Simulation.{is-stuck, Frame, fits-from, from, fits-whole, writes-at, refused, goes-on, weaken}
+use Rattle.theory.proofs.Simulation.{is-stuck, Frame, here, writes-at, refused}
 use Rattle.theory.proofs.Steps as Step
-use Rattle.theory.proofs.Steps.{Goes, goes, enter, ends, lastly, chooses, takes}
+use Rattle.theory.proofs.Steps.{Goes, goes, enter, part-then, inside, ends, lastly, chooses, takes}
 
 -- matching ends where the stores are the rule's
 abbrev pub Matched : (W : World) → State W → Stores W → Type 0
@@ -24,10 +24,10 @@ Matched W s n = s .stores ≡ n
 -- a part of a pattern, and then the rest
 module _ {Allowed : ℕ → Type 0} {W : World} {calm : WorldWithin Allowed W} {kind : ℕ → ℕ} {Φ : Frame W} where
   matched : {e : Env} {s : State W} {code : Emitted} (rest : Env → Emitted) {x : Outcome (Stores W)} (g : Stores W → Outcome (Stores W))
-      → Goes calm kind Φ (Matched W) e s code x
+      → Goes calm kind (here W s (e .next)) (Matched W) e s code x
       → ((d : Env) (t : State W) → Goes calm kind Φ (Matched W) d t (rest d) (g (t .stores)))
       → Goes calm kind Φ (Matched W) e s (andThen code rest) (bind x g)
-  matched rest g h next = goes λ F. goes-on (λ d t G. G) rest g (h .go F) λ d t n F G q. rw (← q) (next d t .go F)
+  matched {e} rest g h next = goes λ F. enter F (part-then rest g (e .next) (F .above) (le-refl _) h λ d t n G q. rw (← q) (next d t))
 
 module _ {Allowed : ℕ → Type 0} {W : World} (calm : WorldWithin Allowed W) (kind : ℕ → ℕ) where
   -- what is shown of a pattern, where the accumulator may be read
@@ -112,7 +112,7 @@ module _ {Allowed : ℕ → Type 0} {W : World} (calm : WorldWithin Allowed W) (
   letIn-goes : (row r : ℕ) (p₁ p₂ : Pattern) → r < namedCells → Matches p₁ → Matches p₂ → Matches (letIn row r p₁ p₂)
   letIn-goes row r p₁ p₂ below first second Φ e s ready = goes λ F.
       writes-at row (s .stores .ρ r) _ _ (F .raws r) λ unset.
-      enter F (matched _ _ (second Φ e s ready) λ d t.
+      enter F (matched _ _ (second _ e s ready) λ d t.
       Step.load-named row r _ below λ m.
       first Φ _ _ tt)
 
@@ -130,7 +130,7 @@ module _ {Allowed : ℕ → Type 0} {W : World} (calm : WorldWithin Allowed W) (
   unfolding MatchesParts count
   part-goes p ps first rest Φ e s row b i g kept cells = goes λ F.
       enter F (Step.load-scratch row b (g i) _ (F .keeps-scratch b (omega arith) ∙ (simp add-zero at (cells zero (omega arith))))
-      (matched _ _ (first Φ _ _ tt) λ d t.
+      (matched _ _ (first _ _ _ tt) λ d t.
       rest Φ d t row (suc b) (suc i) g (omega arith) λ j below.
       simp suc-add (simp add-suc at (cells (suc j) (omega arith)))))
 
@@ -140,10 +140,9 @@ module _ {Allowed : ℕ → Type 0} {W : World} (calm : WorldWithin Allowed W) (
   tuple-goes row t ps parts Φ e s ready =
       Step.decode row t _ ready λ m p.
       takes (count ps) λ above.
-      Step.analyze-tuple row t (e .next) (count ps) m _ above (put-same _ _ _) λ g. goes λ F.
-      weaken (λ d u G. fits-whole F (e .next + count ps) (omega arith) G)
-      (enter (fits-from F (e .next + count ps) (le-refl _))
-      (parts (from F (e .next + count ps)) _ _ row (e .next) zero g (le-refl _) λ j below. rw zero-add (puts-at _ _ _ _ _ below)))
+      Step.analyze-tuple row t (e .next) (count ps) m _ above (put-same _ _ _) λ g.
+      inside (e .next + count ps) (omega arith) (le-refl _)
+      (parts _ _ _ row (e .next) zero g (le-refl _) λ j below. rw zero-add (puts-at _ _ _ _ _ below))
 
   mutual
     unfolding RawsBelow PartsBelow

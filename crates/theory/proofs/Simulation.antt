@@ -1,6 +1,6 @@
 -- How code, environment and rule go together: the relation of the induction, and one lemma for each way to go on.
 use Prim.Native.Nat.{ℕ, _+_, _<_, _≤_}
-use mathlib.Core.Path.{_≡_, refl, _∙_, ap, subst, fun-ext}
+use mathlib.Core.Path.{_≡_, refl, _∙_, ap, fun-ext}
 use mathlib.Core.Bool.{Bool, true, false, true≢false, false≢true}
 use mathlib.Core.Option.{Option, none, some}
 use mathlib.Core.List.{List, [], _∷_, _++_, append-nil}
@@ -84,6 +84,10 @@ module _ (W : World) where
   abbrev pub Fit : Frame → Env → State W → Type 0
   Fit Φ e s = Fits Φ e (s .stores .σ) (s .stores .ρ) (s .scratches)
 
+  -- the frame of a part that starts here
+  abbrev pub here : State W → ℕ → Frame
+  here s low = record { low = low; σ = s .stores .σ; ρ = s .stores .ρ; scratches = s .scratches }
+
 module _ {W : World} {Φ : Frame W} {e : Env} {σ ρ c : ℕ → Option (W .Msg)} (F : Fits W Φ e σ ρ c) where
   pub fits-object : (v : ℕ) (m : W .Msg) → σ v ≡ none → Fits W Φ (addObject e v) (put σ v (some m)) ρ c
   fits-object v m unset =
@@ -136,32 +140,30 @@ module _ {W : World} {Φ : Frame W} {e : Env} {σ ρ c : ℕ → Option (W .Msg)
         keeps-scratch = F .keeps-scratch;
       }
 
-  -- the frame of a part that starts here, and keeps scratch below a number
-  abbrev pub from : ℕ → Frame W
-  from low = record { low = low; σ = σ; ρ = ρ; scratches = c }
-
-  pub fits-from : (low : ℕ) → low ≤ e .next → Fits W (from low) e σ ρ c
-  fits-from low within =
+module _ {W : World} (s : State W) (low : ℕ) where
+  -- a part starts here
+  pub fits-here : {e : Env} → ((v : ℕ) → e .objects v ≡ isSome (s .stores .σ v)) → ((r : ℕ) → e .raws r ≡ isSome (s .stores .ρ r))
+      → low ≤ e .next → Fit W (here W s low) e s
+  fits-here objects raws within =
       record {
-        objects = F .objects;
-        raws = F .raws;
+        objects = objects;
+        raws = raws;
         above = within;
         keeps-objects = λ v a p. p;
         keeps-raws = λ r a p. p;
         keeps-scratch = λ i below. refl;
       }
 
-  -- what such a part keeps is kept by the whole
-  pub fits-whole : (low : ℕ) → Φ .low ≤ low → {d : Env} {σ′ ρ′ c′ : ℕ → Option (W .Msg)}
-      → Fits W (from low) d σ′ ρ′ c′ → Fits W Φ d σ′ ρ′ c′
-  fits-whole low within G =
+  -- what the part keeps is kept by the whole
+  pub fits-whole : {Φ : Frame W} {e d : Env} (t : State W) → Fit W Φ e s → Φ .low ≤ low → Fit W (here W s low) d t → Fit W Φ d t
+  fits-whole t F above G =
       record {
         objects = G .objects;
         raws = G .raws;
-        above = le-trans within (G .above);
+        above = le-trans above (G .above);
         keeps-objects = λ v a p. G .keeps-objects v a (F .keeps-objects v a p);
         keeps-raws = λ r a p. G .keeps-raws r a (F .keeps-raws r a p);
-        keeps-scratch = λ i below. G .keeps-scratch i (le-trans below within) ∙ F .keeps-scratch i below;
+        keeps-scratch = λ i below. G .keeps-scratch i (le-trans below above) ∙ F .keeps-scratch i below;
       }
 
 module _ (W : World) (kind : ℕ → ℕ) where
@@ -254,22 +256,16 @@ module _ {Allowed : ℕ → Type 0} {W : World} {calm : WorldWithin Allowed W} {
   silent t row i (refuse answer) p h = record { run = h .run }
 
 -- a part of a pattern, in a frame of its own, and then the rest
-module _ {Allowed : ℕ → Type 0} {W : World} {calm : WorldWithin Allowed W} {kind : ℕ → ℕ} {Φ Ψ : Frame W}
-    (whole : (d : Env) (t : State W) → Fit W Ψ d t → Fit W Φ d t) where
+module _ {Allowed : ℕ → Type 0} {W : World} {calm : WorldWithin Allowed W} {kind : ℕ → ℕ} {Φ Ψ : Frame W} where
   pub goes-on : {A B : Type 0} {agree : State W → A → Type 0} {agree′ : State W → B → Type 0} {s : State W}
       {code : Emitted} (rest : Env → Emitted) {x : Outcome A} (g : A → Outcome B) → Simulates calm kind Ψ agree s code x
-      → ((d : Env) (t : State W) (a : A) → Fit W Φ d t → Fit W Ψ d t → agree t a → Simulates calm kind Φ agree′ t (rest d) (g a))
+      → ((d : Env) (t : State W) (a : A) → Fit W Ψ d t → agree t a → Simulates calm kind Φ agree′ t (rest d) (g a))
       → Simulates calm kind Φ agree′ s (andThen code rest) (bind x g)
   unfolding RunsAlike after andThen
   goes-on {code = refuse answer} rest {x} g h next = record { run = not-done x g (h .run) }
-  goes-on {agree = agree} {agree′} {s} {code = ok c d} rest {x} g h next = go (rest d) (λ t a G q. next d t a (whole d t G) G q)
+  goes-on {agree = agree} {agree′} {s} {code = ok c d} rest {x} g h next = go (rest d) (next d)
     where
-      go : (after-it : Emitted) → ((t : State W) (a : _) → Fit W Ψ d t → agree t a → Simulates calm kind Φ agree′ t after-it (g a))
-          → Simulates calm kind Φ agree′ s (after c after-it) (bind x g)
+      go : (then : Emitted) → ((t : State W) (a : _) → Fit W Ψ d t → agree t a → Simulates calm kind Φ agree′ t then (g a))
+          → Simulates calm kind Φ agree′ s (after c then) (bind x g)
       go (ok c′ e′) next = record { run = rw exec-append (alike-bind (h .run) λ t a E. next t a (E .fits) (E .agrees) .run) }
       go (refuse answer) next = record { run = alike-not-done (h .run) λ t a E. next t a (E .fits) (E .agrees) .run }
-
-  pub weaken : {B : Type 0} {agree : State W → B → Type 0} {s : State W} {code : Emitted} {y : Outcome B}
-      → Simulates calm kind Ψ agree s code y → Simulates calm kind Φ agree s code y
-  weaken {agree = agree} {s} {code} {y} h =
-      subst (Simulates calm kind Φ agree s code) (bind-done y) (last (goes-on (ok []) done h λ d t a F G q. stop F q))

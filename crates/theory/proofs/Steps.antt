@@ -15,7 +15,7 @@ use Rattle.theory.specs.Emission.{Env, Emitted, ok, refuse, after, andTh
 use Rattle.theory.specs.Compilers.{LOAD, STORE, STORE-CONST, DECODE, ENCODE, CREATE, ANALYZE-TUPLE, CREATE-TUPLE, OPPOSITE, KEY-OF, MATCH, ENCRYPT, DECRYPT, SIGN, VERIFY, HASH}
 use Rattle.theory.proofs.CellLaws.{message-named, message-scratch, setMessage-named, setMessage-scratch, withScratches, setMessages-scratch, readable-named, readable-scratch, occupied-named, occupied-scratch, withRaw, addRaw-named, addRaw-scratch}
 use Rattle.theory.proofs.Reasons.{ReadWithin, WorldWithin, at-within}
-use Rattle.theory.proofs.Simulation.{bind-done, both-stuck, is-stuck, Frame, Fit, fits-object, fits-raw, fits-scratch, fits-scratches, fits-take, RunsAlike, Simulates, stop, last, reads-it, reads-known, writes-it, writes-known, shares, silent}
+use Rattle.theory.proofs.Simulation.{bind-done, both-stuck, is-stuck, Frame, Fit, fits-object, fits-raw, fits-scratch, fits-scratches, fits-take, here, fits-here, fits-whole, RunsAlike, Simulates, stop, last, reads-it, reads-known, writes-it, writes-known, shares, silent, goes-on}
 
 module _ {Allowed : ℕ → Type 0} {W : World} (calm : WorldWithin Allowed W) (kind : ℕ → ℕ) (Φ : Frame W)
     {B : Type 0} (agree : State W → B → Type 0) where
@@ -81,6 +81,15 @@ module _ {Allowed : ℕ → Type 0} {W : World} {calm : WorldWithin Allowed W} {
       → Goes calm kind Φ agree e s code (bind y done) → Goes calm kind Φ agree e s code y
   by-bind h = rw bind-done at h
 
+  -- a part, in the frame that starts here, and then the rest
+  pub part-then : {A : Type 0} {agree′ : State W → A → Type 0} {e : Env} {s : State W} {code : Emitted} (rest : Env → Emitted)
+      {x : Outcome A} (g : A → Outcome B) (low : ℕ) → Φ .low ≤ low → low ≤ e .next → Goes calm kind (here W s low) agree′ e s code x
+      → ((d : Env) (t : State W) (a : A) → Fit W (here W s low) d t → agree′ t a → Goes calm kind Φ agree d t (rest d) (g a))
+      → Goes calm kind Φ agree e s (andThen code rest) (bind x g)
+  part-then {s = s} rest g low above within h next = goes λ F.
+      goes-on rest g (h .go (fits-here s low (F .objects) (F .raws) within)) λ d t a G q.
+      next d t a G q .go (fits-whole s low t F above G)
+
   -- the end of the code, and its last instruction
   pub ends : {e : Env} {s : State W} {b : B} → agree s b → Goes calm kind Φ agree e s (ok [] e) (done b)
   ends q = goes λ F. stop F q
@@ -88,6 +97,11 @@ module _ {Allowed : ℕ → Type 0} {W : World} {calm : WorldWithin Allowed W} {
   pub lastly : {code : Emitted} {e : Env} {s : State W} {y : Outcome B}
       → Goes calm kind Φ agree e s (andThen code (ok [])) y → Goes calm kind Φ agree e s code y
   lastly h = goes λ F. last (h .go F)
+
+  -- a frame that keeps more
+  pub inside : {e : Env} {s : State W} {code : Emitted} {y : Outcome B} (low : ℕ) → Φ .low ≤ low → low ≤ e .next
+      → Goes calm kind (here W s low) agree e s code y → Goes calm kind Φ agree e s code y
+  inside low above within h = by-bind (lastly (part-then (ok []) done low above within h λ d t b G q. ends q))
 
   -- code by whether a variable is set, and by a test that the rule makes too
   pub chooses : {known : Bool} (value : Option (W .Msg)) (y : Option (W .Msg) → Outcome B) {set unset : Emitted} {e : Env} {s : State W}
