@@ -2,14 +2,13 @@
 use Prim.Native.Nat.{ℕ}
 use mathlib.Core.Path.{_≡_, refl, subst}
 use mathlib.Core.List.{List}
-use native.Mathlib.Omega.{arith}
 use Rattle.answers.specs.declared.Compiled.{Compiled}
 use Rattle.theory.specs.Outcome.{Outcome, done, stuck, bind}
 use Rattle.theory.specs.World.{World}
 use Rattle.theory.specs.Machine.{Line, State, exec}
 use Rattle.theory.specs.Emission.{Env, Emitted, ok, refuse}
 use Rattle.theory.proofs.Reasons.{WorldWithin}
-use Rattle.theory.proofs.Simulation.{Alike, both-done, both-stuck, both-room, NotDone, is-stuck, is-room, Frame, Fit, Ends, RunsAlike, Simulates}
+use Rattle.theory.proofs.Simulation.{Alike, both-done, both-stuck, both-room, NotDone, Frame, Fit, Ends, RunsAlike, Simulates}
 
 module _ {A B : Type 0} {Allowed : ℕ → Type 0} {R : A → B → Type 0} where
   pub same-outcome : {D : Type 0} {x : Outcome A} {y : Outcome B} (f : A → D) (g : B → D) → ((a : A) (b : B) → R a b → f a ≡ g b)
@@ -18,19 +17,14 @@ module _ {A B : Type 0} {Allowed : ℕ → Type 0} {R : A → B → Type 0} wher
   same-outcome f g same (both-stuck within) = refl
   same-outcome f g same both-room = refl
 
-  end-of : {x : Outcome A} {y : Outcome B} {a : A} → Alike Allowed R x y → x ≡ done a → (b : B) × R a b
-  end-of (both-done {a = a′} {b = b} r) p = (b, subst (λ a. R a b) (cc) r)
-  end-of (both-stuck within) p = absurd (let z : _≡_ {A = ℕ} 0 1 = cc in omega arith)
-  end-of both-room p = absurd (let z : _≡_ {A = ℕ} 0 1 = cc in omega arith)
+  end-of : {y : Outcome B} {a : A} → Alike Allowed R (done a) y → (b : B) × R a b
+  end-of (both-done {b = b} r) = (b, r)
 
-  pub reason-of : {x : Outcome A} {y : Outcome B} {place why : ℕ} → Alike Allowed R x y → x ≡ stuck place why → Allowed why
-  reason-of (both-stuck {why = why′} within) p = subst Allowed (cc) within
-  reason-of (both-done r) p = absurd (let z : _≡_ {A = ℕ} 0 1 = cc in omega arith)
-  reason-of both-room p = absurd (let z : _≡_ {A = ℕ} 0 1 = cc in omega arith)
+  reason-of : {y : Outcome B} {place why : ℕ} → Alike Allowed R (stuck place why) y → Allowed why
+  reason-of (both-stuck within) = within
 
-never : {B : Type 0} {y : Outcome B} {b : B} → NotDone y → y ≡ done b → ⊥
-never is-stuck p = let z : _≡_ {A = ℕ} 0 1 = cc in omega arith
-never is-room p = let z : _≡_ {A = ℕ} 0 1 = cc in omega arith
+never : {B : Type 0} {b : B} → NotDone (done b) → ⊥
+never h = elim h [ ]
 
 module _ {Allowed : ℕ → Type 0} {W : World} {calm : WorldWithin Allowed W} {kind : ℕ → ℕ} {Φ : Frame W} {B : Type 0}
     {agree : State W → B → Type 0} {s : State W} {code : Emitted} {y : Outcome B} (sim : Simulates calm kind Φ agree s code y) where
@@ -39,9 +33,12 @@ module _ {Allowed : ℕ → Type 0} {W : World} {calm : WorldWithin Allowed W} {
   unfolding RunsAlike
   accepted q = subst (λ code. Simulates calm kind Φ agree s code y) q sim .run
 
-  pub no-end : {answer : Compiled} → code ≡ refuse answer → {b : B} → y ≡ done b → ⊥
-  unfolding RunsAlike
-  no-end q = never (subst (λ code. Simulates calm kind Φ agree s code y) q sim .run)
+  pub reason : {c : List Line} {e : Env} {place why : ℕ} → code ≡ ok c e → exec W kind c s ≡ stuck place why → Allowed why
+  reason q r = reason-of (rw r at (accepted q))
 
   pub fits-end : {c : List Line} {e : Env} {t : State W} → code ≡ ok c e → exec W kind c s ≡ done t → Fit W Φ e t
-  fits-end q r = end-of (accepted q) r .1 .fits
+  fits-end q r = end-of (rw r at (accepted q)) .1 .fits
+
+  pub no-end : {answer : Compiled} → code ≡ refuse answer → {b : B} → y ≡ done b → ⊥
+  unfolding RunsAlike
+  no-end q r = never (rw r at (subst (λ code. Simulates calm kind Φ agree s code y) q sim .run))

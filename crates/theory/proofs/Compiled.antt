@@ -16,7 +16,7 @@ use Rattle.theory.specs.Compilers.{compile↓, compile↑}
 use Rattle.theory.specs.Rules.{match, create, Made}
 use Rattle.theory.proofs.Reasons.{ReadWithin, WorldWithin, any-read, any-world, Calm}
 use Rattle.theory.proofs.Simulation.{bind-done, here, fits-here, Simulates}
-use Rattle.theory.proofs.Adequacy.{same-outcome, reason-of, accepted, no-end, fits-end}
+use Rattle.theory.proofs.Adequacy.{same-outcome, accepted, reason, fits-end, no-end}
 use Rattle.theory.proofs.Matching.{Matched, matches}
 use Rattle.theory.proofs.Creating.{With, InAccumulator, creates}
 
@@ -85,7 +85,7 @@ module _ (W : World) (kind : ℕ → ℕ) (p : Pattern) (below : RawsBelow named
   -- with a set accumulator, code never reads an unset cell
   pub matching-reads-set : Calm W → (s : State W) (m : W .Msg) {c : List Line} {e : Env} → s .accumulator ≡ some m
       → compile↓ p (known W (s .stores)) ≡ ok c e → (place : ℕ) → exec W kind c s ≡ stuck place (reasonNumber Unset) → ⊥
-  matching-reads-set calm s m a q place r = reason-of (accepted (matching calm 0 s (rw a tt)) q) r refl
+  matching-reads-set calm s m a q place r = reason (matching calm 0 s (rw a tt)) q r refl
 
   creating : {Allowed : ℕ → Type 0} (calm : WorldWithin Allowed W) (b : ℕ) (s : State W)
       → Simulates calm kind (here W s b) (With W (InAccumulator W)) s (compile↑ kind p (knownFrom W b (s .stores))) (create W kind p (s .stores))
@@ -112,4 +112,4 @@ module _ (W : World) (kind : ℕ → ℕ) (p : Pattern) (below : RawsBelow named
 
   pub creating-reads-set : Calm W → (s : State W) {c : List Line} {e : Env} → compile↑ kind p (known W (s .stores)) ≡ ok c e
       → (place : ℕ) → exec W kind c s ≡ stuck place (reasonNumber Unset) → ⊥
-  creating-reads-set calm s q place r = reason-of (accepted (creating calm 0 s) q) r refl
+  creating-reads-set calm s q place r = reason (creating calm 0 s) q r refl
