@@ -82,10 +82,15 @@ module _ (W : World) (kind : ℕ → ℕ) (p : Pattern) (below : RawsBelow named
   matching-scratch-free s t {c} {e} a n q =
       matching-runs s q ∙ (λ i. match W kind p (a i) (n i)) ∙ sym (matching-runs t (subst (λ n. compile↓ p (known W n) ≡ ok c e) n q))
 
-  -- with a set accumulator, code never reads an unset cell
+  -- code is stuck only for the world's own reasons, or because it has no message
+  pub matching-reasons : {Allowed : ℕ → Type 0} → WorldWithin Allowed W → (s : State W) → ReadWithin Allowed (s .accumulator)
+      → {c : List Line} {e : Env} → compile↓ p (known W (s .stores)) ≡ ok c e → {place why : ℕ} → exec W kind c s ≡ stuck place why → Allowed why
+  matching-reasons calm s ready q r = reason (matching calm 0 s ready) q r
+
+  -- so with a set accumulator it never reads an unset cell
   pub matching-reads-set : Calm W → (s : State W) (m : W .Msg) {c : List Line} {e : Env} → s .accumulator ≡ some m
       → compile↓ p (known W (s .stores)) ≡ ok c e → (place : ℕ) → exec W kind c s ≡ stuck place (reasonNumber Unset) → ⊥
-  matching-reads-set calm s m a q place r = reason (matching calm 0 s (rw a tt)) q r refl
+  matching-reads-set calm s m a q place r = matching-reasons calm s (rw a tt) q r refl
 
   creating : {Allowed : ℕ → Type 0} (calm : WorldWithin Allowed W) (b : ℕ) (s : State W)
       → Simulates calm kind (here W s b) (With W (InAccumulator W)) s (compile↑ kind p (knownFrom W b (s .stores))) (create W kind p (s .stores))
@@ -110,6 +115,10 @@ module _ (W : World) (kind : ℕ → ℕ) (p : Pattern) (below : RawsBelow named
       creating-runs s q ∙ (λ i. bind (create W kind p (n i)) (madeOf W))
       ∙ sym (creating-runs t (subst (λ n. compile↑ kind p (known W n) ≡ ok c e) n q))
 
+  pub creating-reasons : {Allowed : ℕ → Type 0} → WorldWithin Allowed W → (s : State W)
+      → {c : List Line} {e : Env} → compile↑ kind p (known W (s .stores)) ≡ ok c e → {place why : ℕ} → exec W kind c s ≡ stuck place why → Allowed why
+  creating-reasons calm s q r = reason (creating calm 0 s) q r
+
   pub creating-reads-set : Calm W → (s : State W) {c : List Line} {e : Env} → compile↑ kind p (known W (s .stores)) ≡ ok c e
       → (place : ℕ) → exec W kind c s ≡ stuck place (reasonNumber Unset) → ⊥
-  creating-reads-set calm s q place r = reason (creating calm 0 s) q r refl
+  creating-reads-set calm s q place r = creating-reasons calm s q r refl

@@ -16,8 +16,8 @@ use Rattle.theory.proofs.StoreLaws.{put-same}
 use Rattle.theory.proofs.CellLaws.{messages-scratch}
 use Rattle.theory.proofs.Reasons.{WorldWithin}
 use Rattle.theory.proofs.Simulation.{is-stuck, Frame, Fit, here, refused}
+use Rattle.theory.proofs.Goes.{Goes, goes, enter, by-bind, part-then, ends, lastly, chooses, either, takes}
 use Rattle.theory.proofs.Steps as Step
-use Rattle.theory.proofs.Steps.{Goes, goes, enter, by-bind, part-then, ends, lastly, chooses, either, takes}
 
 module _ (W : World) where
   -- what the rule makes, held somewhere by the machine, and the rule's stores

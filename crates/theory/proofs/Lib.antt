@@ -4,6 +4,7 @@ pub mod CellLaws
 pub mod Reasons
 pub mod Models
 pub mod Simulation
+pub mod Goes
 pub mod Steps
 pub mod Matching
 pub mod Creating

@@ -13,9 +13,9 @@ use Rattle.theory.specs.Compilers.{compile↓, compile↓parts}
 use Rattle.theory.specs.Rules.{match, matchParts, matchObject, matchRaw}
 use Rattle.theory.proofs.StoreLaws.{put-same, puts-at}
 use Rattle.theory.proofs.Reasons.{ReadWithin, WorldWithin}
-use Rattle.theory.proofs.Simulation.{is-stuck, Frame, here, writes-at, refused}
+use Rattle.theory.proofs.Simulation.{is-stuck, Frame, here, refused}
+use Rattle.theory.proofs.Goes.{Goes, goes, enter, part-then, ends, lastly, inside, chooses, checks, takes}
 use Rattle.theory.proofs.Steps as Step
-use Rattle.theory.proofs.Steps.{Goes, goes, enter, part-then, inside, ends, lastly, chooses, takes}
 
 -- matching ends where the stores are the rule's
 abbrev pub Matched : (W : World) → State W → Stores W → Type 0
@@ -110,9 +110,9 @@ module _ {Allowed : ℕ → Type 0} {W : World} (calm : WorldWithin Allowed W) (
       λ p. lastly (Step.store-named row r _ below ready λ m _. ends refl)
 
   letIn-goes : (row r : ℕ) (p₁ p₂ : Pattern) → r < namedCells → Matches p₁ → Matches p₂ → Matches (letIn row r p₁ p₂)
-  letIn-goes row r p₁ p₂ below first second Φ e s ready = goes λ F.
-      writes-at row (s .stores .ρ r) _ _ (F .raws r) λ unset.
-      enter F (matched _ _ (second _ e s ready) λ d t.
+  letIn-goes row r p₁ p₂ below first second Φ e s ready =
+      checks row (s .stores .ρ r) _ (λ F. F .raws r)
+      (matched _ _ (second _ e s ready) λ d t.
       Step.load-named row r _ below λ m.
       first Φ _ _ tt)
 

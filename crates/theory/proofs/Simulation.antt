@@ -3,7 +3,7 @@ use Prim.Native.Nat.{ℕ, _+_, _<_, _≤_}
 use mathlib.Core.Path.{_≡_, refl, _∙_, ap, fun-ext}
 use mathlib.Core.Bool.{Bool, true, false, true≢false, false≢true}
 use mathlib.Core.Option.{Option, none, some}
-use mathlib.Core.List.{List, [], _∷_, _++_, append-nil}
+use mathlib.Core.List.{List, [], _∷_, _++_}
 use native.Mathlib.Nat.{le-trans}
 use native.Mathlib.Omega.{arith}
 use Rattle.answers.specs.declared.Compiled.{Compiled}
@@ -188,17 +188,7 @@ module _ {Allowed : ℕ → Type 0} {W : World} (calm : WorldWithin Allowed W) (
 
 module _ {Allowed : ℕ → Type 0} {W : World} {calm : WorldWithin Allowed W} {kind : ℕ → ℕ} {Φ : Frame W}
     {B : Type 0} {agree : State W → B → Type 0} where
-  -- the end of the code
-  pub stop : {e : Env} {s : State W} {b : B} → Fit W Φ e s → agree s b → Simulates calm kind Φ agree s (ok [] e) (done b)
-  unfolding RunsAlike
-  stop F q = record { run = both-done (record { agrees = q; fits = F }) }
-
-  pub last : {s : State W} {code : Emitted} {y : Outcome B}
-      → Simulates calm kind Φ agree s (andThen code (ok [])) y → Simulates calm kind Φ agree s code y
-  unfolding RunsAlike after andThen
-  last {code = ok c e} h = record { run = rw append-nil at (h .run) }
-  last {code = refuse answer} h = record { run = h .run }
-
+  -- refused where the rule has no end
   pub refused : {s : State W} {answer : Compiled} {y : Outcome B} → NotDone y → Simulates calm kind Φ agree s (refuse answer) y
   unfolding RunsAlike
   refused never = record { run = never }

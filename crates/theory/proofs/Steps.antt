@@ -1,7 +1,6 @@
 -- One lemma for each instruction: what is emitted, what it does, and what the rule does at that point.
 use Prim.Native.Nat.{ℕ, _+_, _≤_, _<_}
 use mathlib.Core.Path.{_≡_, refl, _∙_, ap}
-use mathlib.Core.Bool.{Bool, true, false, cond, true≢false, false≢true}
 use mathlib.Core.Option.{Option, none, some}
 use mathlib.Core.List.{List, [], _∷_}
 use Rattle.answers.specs.Numbers.{reasonNumber}
@@ -15,13 +14,8 @@ use Rattle.theory.specs.Emission.{Env, Emitted, ok, refuse, after, andTh
 use Rattle.theory.specs.Compilers.{LOAD, STORE, STORE-CONST, DECODE, ENCODE, CREATE, ANALYZE-TUPLE, CREATE-TUPLE, OPPOSITE, KEY-OF, MATCH, ENCRYPT, DECRYPT, SIGN, VERIFY, HASH}
 use Rattle.theory.proofs.CellLaws.{message-named, message-scratch, setMessage-named, setMessage-scratch, withScratches, setMessages-scratch, readable-named, readable-scratch, occupied-named, occupied-scratch, withRaw, addRaw-named, addRaw-scratch}
 use Rattle.theory.proofs.Reasons.{ReadWithin, WorldWithin, at-within}
-use Rattle.theory.proofs.Simulation.{bind-done, both-stuck, is-stuck, Frame, Fit, fits-object, fits-raw, fits-scratch, fits-scratches, fits-take, here, fits-here, fits-whole, RunsAlike, Simulates, stop, last, reads-it, reads-known, writes-it, writes-known, shares, silent, goes-on}
-
-module _ {Allowed : ℕ → Type 0} {W : World} (calm : WorldWithin Allowed W) (kind : ℕ → ℕ) (Φ : Frame W)
-    {B : Type 0} (agree : State W → B → Type 0) where
-  -- from an environment and a state that fit, code does what the rule does
-  pub record Goes (e : Env) (s : State W) (code : Emitted) (y : Outcome B) : Type 0 where
-    pub go : Fit W Φ e s → Simulates calm kind Φ agree s code y
+use Rattle.theory.proofs.Simulation.{both-stuck, is-stuck, Frame, fits-object, fits-raw, fits-scratch, fits-scratches, RunsAlike, Simulates, reads-it, reads-known, writes-it, writes-known, shares, silent}
+use Rattle.theory.proofs.Goes.{Goes, goes}
 
 module _ {W : World} where
   -- a made message becomes the value of a variable, or comes into the accumulator
@@ -68,63 +62,6 @@ module _ {Allowed : ℕ → Type 0} {W : World} {calm : WorldWithin Allowed W} {
       → Simulates calm kind Φ agree t code y
       → Simulates calm kind Φ agree s (after (line row i ∷ []) code) (bind (at row (W .test c (s .stores .memory))) λ _. y)
   tests row i {code} {t = t} c p h = shares row i code (λ _. t) _ (at-within row (calm .test c _)) p λ _. h
-
-  pub goes : {e : Env} {s : State W} {code : Emitted} {y : Outcome B}
-      → (Fit W Φ e s → Simulates calm kind Φ agree s code y) → Goes calm kind Φ agree e s code y
-  goes h = record { go = h }
-
-  pub enter : {e : Env} {s : State W} {code : Emitted} {y : Outcome B}
-      → Fit W Φ e s → Goes calm kind Φ agree e s code y → Simulates calm kind Φ agree s code y
-  enter F h = h .go F
-
-  pub by-bind : {e : Env} {s : State W} {code : Emitted} {y : Outcome B}
-      → Goes calm kind Φ agree e s code (bind y done) → Goes calm kind Φ agree e s code y
-  by-bind h = rw bind-done at h
-
-  -- a part, in the frame that starts here, and then the rest
-  pub part-then : {A : Type 0} {agree′ : State W → A → Type 0} {e : Env} {s : State W} {code : Emitted} (rest : Env → Emitted)
-      {x : Outcome A} (g : A → Outcome B) (low : ℕ) → Φ .low ≤ low → low ≤ e .next → Goes calm kind (here W s low) agree′ e s code x
-      → ((d : Env) (t : State W) (a : A) → Fit W (here W s low) d t → agree′ t a → Goes calm kind Φ agree d t (rest d) (g a))
-      → Goes calm kind Φ agree e s (andThen code rest) (bind x g)
-  part-then {s = s} rest g low above within h next = goes λ F.
-      goes-on rest g (h .go (fits-here s low (F .objects) (F .raws) within)) λ d t a G q.
-      next d t a G q .go (fits-whole s low t F above G)
-
-  -- the end of the code, and its last instruction
-  pub ends : {e : Env} {s : State W} {b : B} → agree s b → Goes calm kind Φ agree e s (ok [] e) (done b)
-  ends q = goes λ F. stop F q
-
-  pub lastly : {code : Emitted} {e : Env} {s : State W} {y : Outcome B}
-      → Goes calm kind Φ agree e s (andThen code (ok [])) y → Goes calm kind Φ agree e s code y
-  lastly h = goes λ F. last (h .go F)
-
-  -- a frame that keeps more
-  pub inside : {e : Env} {s : State W} {code : Emitted} {y : Outcome B} (low : ℕ) → Φ .low ≤ low → low ≤ e .next
-      → Goes calm kind (here W s low) agree e s code y → Goes calm kind Φ agree e s code y
-  inside low above within h = by-bind (lastly (part-then (ok []) done low above within h λ d t b G q. ends q))
-
-  -- code by whether a variable is set, and by a test that the rule makes too
-  pub chooses : {known : Bool} (value : Option (W .Msg)) (y : Option (W .Msg) → Outcome B) {set unset : Emitted} {e : Env} {s : State W}
-      → (Fit W Φ e s → known ≡ isSome value)
-      → ((a : W .Msg) → value ≡ some a → Goes calm kind Φ agree e s set (y (some a)))
-      → (value ≡ none → Goes calm kind Φ agree e s unset (y none))
-      → Goes calm kind Φ agree e s (cond known set unset) (y value)
-  chooses {known = true} (some a) y knows if-set if-unset = if-set a refl
-  chooses {known = false} none y knows if-set if-unset = if-unset refl
-  chooses {known = true} none y knows if-set if-unset = goes λ F. absurd (true≢false (knows F))
-  chooses {known = false} (some a) y knows if-set if-unset = goes λ F. absurd (false≢true (knows F))
-
-  pub either : (test : Bool) {code code′ : Emitted} {e : Env} {s : State W} {y y′ : Outcome B}
-      → Goes calm kind Φ agree e s code y → Goes calm kind Φ agree e s code′ y′
-      → Goes calm kind Φ agree e s (cond test code code′) (cond test y y′)
-  either true h h′ = h
-  either false h h′ = h′
-
-  -- scratch that is taken lies above what is kept
-  pub takes : (n : ℕ) {code : Emitted} {e : Env} {s : State W} {y : Outcome B}
-      → (Φ .low ≤ e .next → Goes calm kind Φ agree (record { objects = e .objects; raws = e .raws; next = e .next + n }) s code y)
-      → Goes calm kind Φ agree e s code y
-  takes n h = goes λ F. h (F .above) .go (fits-take F n)
 
   -- the message becomes the value of a variable: the rule reads it, or it is known
   pub decode : (row v : ℕ) (rest : Env → Emitted) {e : Env} {s : State W} {g : W .Msg → Outcome B} → ReadWithin Allowed (s .accumulator)
