@@ -35,6 +35,28 @@ module _ {Allowed : ℕ → Type 0} {W : World} (calm : WorldWithin Allowed W) (
   Matches p = (Φ : Frame W) (e : Env) (s : State W) → ReadWithin Allowed (s .accumulator)
       → Goes calm kind Φ (Matched W) e s (compile↓ p e) (match W kind p (s .accumulator) (s .stores))
 
+  -- what is shown of the parts of a tuple: their messages stand in scratch that is kept
+  abbrev pub MatchesParts : Parts → Type 0
+  MatchesParts ps = (Φ : Frame W) (e : Env) (s : State W) (row b i : ℕ) (g : ℕ → W .Msg) → b + count ps ≤ Φ .low
+      → ((j : ℕ) → j < count ps → Φ .scratches (b + j) ≡ some (g (i + j)))
+      → Goes calm kind Φ (Matched W) e s (compile↓parts ps row b e) (matchParts W kind ps i g (s .stores))
+
+  object-goes : (row v : ℕ) → Matches (object row v)
+  object-goes row v Φ e s ready =
+      chooses (s .stores .σ v) (λ value. matchObject W kind row v value (s .accumulator) (s .stores)) (λ F. F .objects v)
+      (λ a p.
+      takes 1 λ above.
+      Step.store-scratch row (e .next) _ above ready λ m.
+      Step.encode-known row v a _ p
+      (lastly (Step.match-scratch row (e .next) a m _ refl (put-same _ _ _) (ends refl))))
+      λ p. lastly (Step.decode row v _ ready λ m _. ends refl)
+
+  raw-goes : (row r : ℕ) → r < namedCells → Matches (raw row r)
+  raw-goes row r below Φ e s ready =
+      chooses (s .stores .ρ r) (λ value. matchRaw W kind row r value (s .accumulator) (s .stores)) (λ F. F .raws r)
+      (λ a p. lastly (Step.match-named row r a _ below ready p λ m. ends refl))
+      λ p. lastly (Step.store-named row r _ below ready λ m _. ends refl)
+
   constant-goes : (row c b : ℕ) → Matches (constant row c b)
   constant-goes row c b Φ e s ready =
       takes 1 λ above.
@@ -60,14 +82,11 @@ module _ {Allowed : ℕ → Type 0} {W : World} (calm : WorldWithin Allowed W) (
       Step.key-of row x _ refl λ made.
       lastly (Step.match-scratch row (e .next) (made .0) m _ refl (put-same _ _ _) (ends refl)))
 
-  hash-goes : (row h r : ℕ) → r < namedCells → Matches (hash row h r)
-  hash-goes row h r below Φ e s ready =
-      Step.decode row h _ ready λ m p.
-      takes 1 λ above.
-      Step.store-scratch-known row (e .next) m _ above p
-      (Step.load-named row r _ below λ b.
-      Step.hash row h b _ refl λ made.
-      lastly (Step.match-scratch row (e .next) (made .0) m _ refl (put-same _ _ _) (ends refl)))
+  encryption-goes : (row v dk : ℕ) (p : Pattern) → Matches p → Matches (encryption row v (plainKey dk) p)
+  encryption-goes row v dk p body Φ e s ready =
+      Step.decode row v _ ready λ m q.
+      Step.decrypt row dk m _ q λ made.
+      body Φ _ _ tt
 
   signature-goes : (row v : ℕ) (key : Key) (r : ℕ) → r < namedCells → Matches (signature row v key r)
   signature-goes row v (plainKey vk) r below Φ e s ready =
@@ -87,27 +106,23 @@ module _ {Allowed : ℕ → Type 0} {W : World} (calm : WorldWithin Allowed W) (
       (Step.load-scratch row (e .next) m _ (put-same _ _ _)
       (lastly (Step.verify-known row k r (made .0) m _ below (put-same _ _ _) refl (ends refl)))))
 
-  encryption-goes : (row v dk : ℕ) (p : Pattern) → Matches p → Matches (encryption row v (plainKey dk) p)
-  encryption-goes row v dk p body Φ e s ready =
-      Step.decode row v _ ready λ m q.
-      Step.decrypt row dk m _ q λ made.
-      body Φ _ _ tt
-
-  object-goes : (row v : ℕ) → Matches (object row v)
-  object-goes row v Φ e s ready =
-      chooses (s .stores .σ v) (λ value. matchObject W kind row v value (s .accumulator) (s .stores)) (λ F. F .objects v)
-      (λ a p.
+  hash-goes : (row h r : ℕ) → r < namedCells → Matches (hash row h r)
+  hash-goes row h r below Φ e s ready =
+      Step.decode row h _ ready λ m p.
       takes 1 λ above.
-      Step.store-scratch row (e .next) _ above ready λ m.
-      Step.encode-known row v a _ p
-      (lastly (Step.match-scratch row (e .next) a m _ refl (put-same _ _ _) (ends refl))))
-      λ p. lastly (Step.decode row v _ ready λ m _. ends refl)
+      Step.store-scratch-known row (e .next) m _ above p
+      (Step.load-named row r _ below λ b.
+      Step.hash row h b _ refl λ made.
+      lastly (Step.match-scratch row (e .next) (made .0) m _ refl (put-same _ _ _) (ends refl)))
 
-  raw-goes : (row r : ℕ) → r < namedCells → Matches (raw row r)
-  raw-goes row r below Φ e s ready =
-      chooses (s .stores .ρ r) (λ value. matchRaw W kind row r value (s .accumulator) (s .stores)) (λ F. F .raws r)
-      (λ a p. lastly (Step.match-named row r a _ below ready p λ m. ends refl))
-      λ p. lastly (Step.store-named row r _ below ready λ m _. ends refl)
+  -- the parts run in a frame that keeps their cells
+  tuple-goes : (row t : ℕ) (ps : Parts) → MatchesParts ps → Matches (tuple row t ps)
+  tuple-goes row t ps parts Φ e s ready =
+      Step.decode row t _ ready λ m p.
+      takes (count ps) λ above.
+      Step.analyze-tuple row t (e .next) (count ps) m _ above (put-same _ _ _) λ g.
+      inside (e .next + count ps) (omega arith) (le-refl _)
+      (parts _ _ _ row (e .next) zero g (le-refl _) λ j below. rw zero-add (puts-at _ _ _ _ _ below))
 
   letIn-goes : (row r : ℕ) (p₁ p₂ : Pattern) → r < namedCells → Matches p₁ → Matches p₂ → Matches (letIn row r p₁ p₂)
   letIn-goes row r p₁ p₂ below first second Φ e s ready =
@@ -116,33 +131,16 @@ module _ {Allowed : ℕ → Type 0} {W : World} (calm : WorldWithin Allowed W) (
       Step.load-named row r _ below λ m.
       first Φ _ _ tt)
 
-  -- what is shown of the parts of a tuple: their messages stand in scratch that is kept
-  unfoldable pub MatchesParts : Parts → Type 0
-  MatchesParts ps = (Φ : Frame W) (e : Env) (s : State W) (row b i : ℕ) (g : ℕ → W .Msg) → b + count ps ≤ Φ .low
-      → ((j : ℕ) → j < count ps → Φ .scratches (b + j) ≡ some (g (i + j)))
-      → Goes calm kind Φ (Matched W) e s (compile↓parts ps row b e) (matchParts W kind ps i g (s .stores))
-
   end-goes : MatchesParts end
-  unfolding MatchesParts
   end-goes Φ e s row b i g kept cells = ends refl
 
   part-goes : (p : Pattern) (ps : Parts) → Matches p → MatchesParts ps → MatchesParts (part p ps)
-  unfolding MatchesParts count
+  unfolding count
   part-goes p ps first rest Φ e s row b i g kept cells = goes λ F.
       enter F (Step.load-scratch row b (g i) _ (F .keeps-scratch b (omega arith) ∙ (simp add-zero at (cells zero (omega arith))))
       (matched _ _ (first _ _ _ tt) λ d t.
       rest Φ d t row (suc b) (suc i) g (omega arith) λ j below.
       simp suc-add (simp add-suc at (cells (suc j) (omega arith)))))
-
-  -- the parts run in a frame that keeps their cells
-  tuple-goes : (row t : ℕ) (ps : Parts) → MatchesParts ps → Matches (tuple row t ps)
-  unfolding MatchesParts
-  tuple-goes row t ps parts Φ e s ready =
-      Step.decode row t _ ready λ m p.
-      takes (count ps) λ above.
-      Step.analyze-tuple row t (e .next) (count ps) m _ above (put-same _ _ _) λ g.
-      inside (e .next + count ps) (omega arith) (le-refl _)
-      (parts _ _ _ row (e .next) zero g (le-refl _) λ j below. rw zero-add (puts-at _ _ _ _ _ below))
 
   mutual
     unfolding RawsBelow PartsBelow
