@@ -1,11 +1,22 @@
 -- The theorems of the paper.
 pub mod Cases
 pub mod StoreLaws
+pub mod CellLaws
+pub mod Reasons
+pub mod Models
+pub mod Simulation
+pub mod Goes
+pub mod Steps
+pub mod Matching
+pub mod Creating
+pub mod Adequacy
+pub mod Compiled
 pub mod FigureLaws
 pub mod MatchingRules
 pub mod CreatingRules
 pub mod InLimits
 pub mod SetCells
+pub mod Places
 pub mod Fitting
 pub mod Related
 pub mod Refinement
@@ -15,4 +26,3 @@ pub mod ValidMemory
 pub mod RowsAreTerms
 pub mod RowsRunAsTerms
 pub mod Room
-pub mod Places
