@@ -52,6 +52,12 @@ pub record InRange (kind : ℕ → ℕ) (i : Instruction) : Type 0 where
 abbrev pub AllInRange : (ℕ → ℕ) → List Line → Type 0
 AllInRange kind c = All (λ l. InRange kind (l .instruction)) c
 
+-- what a compiler that does not refuse has taken: at most 767 words, the scratch numbers up to 190, which are the cells up to 254, and lines in range
+pub record InLimits (kind : ℕ → ℕ) (c : List Line) (e : Env) : Type 0 where
+  pub words : length c ≤ 767
+  pub scratch-numbers : e .next ≤ 191
+  pub lines : AllInRange kind c
+
 -- at most so many words, scratch numbers below one, and fitting lines
 module _ (kind : ℕ → ℕ) where
   unfoldable TakesT : ℕ → ℕ → Emitted → Type 0
@@ -430,19 +436,13 @@ module _ (kind : ℕ → ℕ) (declared : (v : ℕ) → 64 ≤ v → kind v ≡ 
         first kind row _ (store-fits i (omega arith)) (e .next + 2 * size p - 1) _ n _ e₁ (omega arith) h₁ λ e₂ h₂.
         takes↑parts ps row (suc i) (w - (8 * size p - 1) - 1) n e₂ (k .1) (r .1) (b .1) m (omega arith) (omega arith) (omega arith)
 
-  -- what a compiler that does not refuse has taken: at most 767 words, the scratch numbers up to 190, which are the cells up to 254, and lines that fit
-  pub record InLimits (c : List Line) (e : Env) : Type 0 where
-    pub words : length c ≤ 767
-    pub scratch-numbers : e .next ≤ 191
-    pub lines : AllInRange kind c
-
-  within : (E : Emitted) (c : List Line) (e : Env) → Takes kind 767 191 E → E ≡ ok c e → InLimits c e
+  within : (E : Emitted) (c : List Line) (e : Env) → Takes kind 767 191 E → E ≡ ok c e → InLimits kind c e
   unfolding TakesT
   within E c e t p = let (w, n, f) = (rw p at t) .taken in record { words = w; scratch-numbers = n; lines = f }
 
   -- with at most 96 rows
-  pub matching-in-limits : (p : Pattern) (e e′ : Env) (c : List Line) → RightKinds false kind p → RawsBelow 64 p → Packed p → size p ≤ 96 → e .next ≡ 0 → compile↓ p e ≡ ok c e′ → InLimits c e′
+  pub matching-in-limits : (p : Pattern) (e e′ : Env) (c : List Line) → RightKinds false kind p → RawsBelow 64 p → Packed p → size p ≤ 96 → e .next ≡ 0 → compile↓ p e ≡ ok c e′ → InLimits kind c e′
   matching-in-limits p e e′ c k r b s z q = within _ c e′ (takes↓ p 767 191 e k r b (omega arith) (omega arith) (omega arith)) q
 
-  pub creating-in-limits : (p : Pattern) (e e′ : Env) (c : List Line) → RightKinds true kind p → RawsBelow 64 p → Packed p → size p ≤ 96 → e .next ≡ 0 → compile↑ kind p e ≡ ok c e′ → InLimits c e′
+  pub creating-in-limits : (p : Pattern) (e e′ : Env) (c : List Line) → RightKinds true kind p → RawsBelow 64 p → Packed p → size p ≤ 96 → e .next ≡ 0 → compile↑ kind p e ≡ ok c e′ → InLimits kind c e′
   creating-in-limits p e e′ c k r b s z q = within _ c e′ (takes↑ p 767 191 e k r b (omega arith) (omega arith) (omega arith)) q

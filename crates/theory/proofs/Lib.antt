@@ -26,3 +26,4 @@ pub mod ValidMemory
 pub mod RowsAreTerms
 pub mod RowsRunAsTerms
 pub mod Room
+pub mod Theorems
