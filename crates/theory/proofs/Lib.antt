@@ -27,3 +27,4 @@ pub mod RowsAreTerms
 pub mod RowsRunAsTerms
 pub mod Room
 pub mod Theorems
+pub mod ValidLent
