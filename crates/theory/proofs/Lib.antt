@@ -25,6 +25,8 @@ pub mod Meaning
 pub mod ValidMemory
 pub mod RowsAreTerms
 pub mod RowsRunAsTerms
+pub mod RowSteps
 pub mod Room
 pub mod Theorems
 pub mod ValidLent
+pub mod RowsKept

@@ -96,6 +96,15 @@ pub record Accepted (x : Lent) : Type 0 where
 six : (a b c d e f : Bool) → T (a && b && c && d && e && f) ↔ ((T a × T b × T c) × T (d && e) × T f)
 six a b c d e f = simp both (λ h. ((h .0 .0 .0 .0 .0, h .0 .0 .0 .0 .1, h .0 .0 .0 .1), (h .0 .0 .1, h .0 .1), h .1), λ h. (((((h .0 .0, h .0 .1), h .0 .2), h .1 .0), h .1 .1), h .2))
 
+stores-parts : (rows : List ℕ) (used : ℕ) (kinds objects messages certificates : List ℕ) (accumulator : ℕ)
+    → T (valid rows used kinds objects messages certificates accumulator)
+    ↔ ((T (kindsFit kinds) × T (eachVariable (objectFits rows used) kinds objects) × T (each (cellFits used) messages))
+    × T (each (pairFits rows used) certificates && agentsOnce certificates) × T (cellFits used accumulator))
+unfolding valid
+stores-parts rows used kinds objects messages certificates accumulator =
+    six (kindsFit kinds) (eachVariable (objectFits rows used) kinds objects) (each (cellFits used) messages) (each (pairFits rows used) certificates) (agentsOnce certificates)
+    (cellFits used accumulator)
+
 -- no used row of a valid table has tag 0
 tagged : {rows : List ℕ} {counter : ℕ} → ValidTable rows counter → (row : ℕ) → row < usedRows rows → tagOf (getD rows row 0) ≡ 0 → ⊥
 tagged v row h e = omega (arith, v .good row h .known .0)
@@ -118,10 +127,10 @@ inside-or-past P cells i h = go (ltb i (length cells)) (ltb→lt i (length cells
 
 module _ (x : Lent) (a : Accepted x) where
   pub accepted-state : ValidState (kindIn (x .kinds)) (stateOf x)
-  unfolding stateOver storeOf valid
+  unfolding stateOver storeOf
   accepted-state =
       let table = valid-table (x .terms) (x .counter) .0 (a .good-rows) in
-      let ((kinds, objects, messages), certificates, accumulator) = six _ _ _ _ _ _ .0 (a .good-stores) in
+      let ((kinds, objects, messages), certificates, accumulator) = stores-parts (x .terms) (usedRows (x .terms)) (x .kinds) (x .objects) (x .messages) (x .certificates) (x .accumulator) .0 (a .good-stores) in
       let cells = cells-held (usedRows (x .terms)) (x .messages) messages in
       record {
         table = record {
