@@ -30,3 +30,4 @@ pub mod Room
 pub mod Theorems
 pub mod ValidLent
 pub mod RowsKept
+pub mod ValidAgain

@@ -29,7 +29,7 @@ use Rattle.theory.proofs.ValidMemory.{ValidMemory}
 use Rattle.theory.proofs.RowsRunAsTerms.{Held, IsUsed, HasTag, ValidState}
 
 -- a cell that fits is unset or a used row
-cell-held : (used cell : ℕ) → T (cellFits used cell) ↔ Held (λ row. row < used) (held cell)
+pub cell-held : (used cell : ℕ) → T (cellFits used cell) ↔ Held (λ row. row < used) (held cell)
 unfolding held
 cell-held used cell = go (eqb cell 65535)
   where
@@ -38,7 +38,7 @@ cell-held used cell = go (eqb cell 65535)
     go false = is-below cell used
 
 -- an object cell besides has its variable's kind; no used row has tag 0
-object-held : (rows : List ℕ) (used kind cell : ℕ) → ((row : ℕ) → row < used → tagOf (getD rows row 0) ≡ 0 → ⊥)
+pub object-held : (rows : List ℕ) (used kind cell : ℕ) → ((row : ℕ) → row < used → tagOf (getD rows row 0) ≡ 0 → ⊥)
     → T (objectFits rows used kind cell) ↔ Held (λ row. (row < used) × (tagOf (getD rows row 0) ≡ kind)) (held cell)
 unfolding held
 object-held rows used kind cell known = go (eqb cell 65535)
@@ -65,7 +65,7 @@ object-held rows used kind cell known = go (eqb cell 65535)
     )
 
 -- a test of each variable, variable by variable
-each-variable : (test : ℕ → ℕ → Bool) (kinds cells : List ℕ) → length kinds ≡ length cells
+pub each-variable : (test : ℕ → ℕ → Bool) (kinds cells : List ℕ) → length kinds ≡ length cells
     → T (eachVariable test kinds cells) ↔ ((v : ℕ) → v < length cells → T (test (getD kinds v 0) (getD cells v unset)))
 unfolding eachVariable
 each-variable test [] [] l = (λ _ v h. absurd (omega arith), λ _. tt)
@@ -96,7 +96,7 @@ pub record Accepted (x : Lent) : Type 0 where
 six : (a b c d e f : Bool) → T (a && b && c && d && e && f) ↔ ((T a × T b × T c) × T (d && e) × T f)
 six a b c d e f = simp both (λ h. ((h .0 .0 .0 .0 .0, h .0 .0 .0 .0 .1, h .0 .0 .0 .1), (h .0 .0 .1, h .0 .1), h .1), λ h. (((((h .0 .0, h .0 .1), h .0 .2), h .1 .0), h .1 .1), h .2))
 
-stores-parts : (rows : List ℕ) (used : ℕ) (kinds objects messages certificates : List ℕ) (accumulator : ℕ)
+pub stores-parts : (rows : List ℕ) (used : ℕ) (kinds objects messages certificates : List ℕ) (accumulator : ℕ)
     → T (valid rows used kinds objects messages certificates accumulator)
     ↔ ((T (kindsFit kinds) × T (eachVariable (objectFits rows used) kinds objects) × T (each (cellFits used) messages))
     × T (each (pairFits rows used) certificates && agentsOnce certificates) × T (cellFits used accumulator))
@@ -106,7 +106,7 @@ stores-parts rows used kinds objects messages certificates accumulator =
     (cellFits used accumulator)
 
 -- no used row of a valid table has tag 0
-tagged : {rows : List ℕ} {counter : ℕ} → ValidTable rows counter → (row : ℕ) → row < usedRows rows → tagOf (getD rows row 0) ≡ 0 → ⊥
+pub tagged : {rows : List ℕ} {counter : ℕ} → ValidTable rows counter → (row : ℕ) → row < usedRows rows → tagOf (getD rows row 0) ≡ 0 → ⊥
 tagged v row h e = omega (arith, v .good row h .known .0)
 
 -- a cell of a list of fitting cells, also one past it
