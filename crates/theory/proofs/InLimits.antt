@@ -12,6 +12,7 @@ use Rattle.word.proofs.All.{All}
 use Rattle.word.proofs.TestLaws.{both, at-most}
 use Rattle.word.proofs.LowestLaws.{one-of-two}
 use Rattle.answers.specs.declared.Compiled.{Compiled}
+use Rattle.answers.specs.declared.Compiled.the-variants.{WrongKind, WrittenWhileSet, ReadWhileUnset}
 use Rattle.code.specs.Instruction.{asObject}
 use Rattle.code.specs.Words.{hasKind, operandsFit}
 use Rattle.code.specs.declared.Instruction.{Instruction}
@@ -52,6 +53,12 @@ pub record InRange (kind : ℕ → ℕ) (i : Instruction) : Type 0 where
 abbrev pub AllInRange : (ℕ → ℕ) → List Line → Type 0
 AllInRange kind c = All (λ l. InRange kind (l .instruction)) c
 
+-- what emission refuses with
+pub data Refusal : Compiled → Type 0 where
+  wrong : {row : ℕ} → Refusal (WrongKind row)
+  written : {row : ℕ} → Refusal (WrittenWhileSet row)
+  read : {row : ℕ} → Refusal (ReadWhileUnset row)
+
 -- what a compiler that does not refuse has taken: at most 767 words, the scratch numbers up to 190, which are the cells up to 254, and lines in range
 pub record InLimits (kind : ℕ → ℕ) (c : List Line) (e : Env) : Type 0 where
   pub words : length c ≤ 767
@@ -62,14 +69,14 @@ pub record InLimits (kind : ℕ → ℕ) (c : List Line) (e : Env) : Type 0 wher
 module _ (kind : ℕ → ℕ) where
   unfoldable TakesT : ℕ → ℕ → Emitted → Type 0
   TakesT w n (ok c e) = (length c ≤ w) × (e .next ≤ n) × AllInRange kind c
-  TakesT w n (refuse answer) = Unit {0}
+  TakesT w n (refuse answer) = Refusal answer
 
   record Takes (w n : ℕ) (E : Emitted) : Type 0 where
     taken : TakesT w n E
 
-  refused : (w n : ℕ) (answer : Compiled) → Takes w n (refuse answer)
+  refused : (w n : ℕ) {answer : Compiled} → Refusal answer → Takes w n (refuse answer)
   unfolding TakesT
-  refused w n answer = record { taken = tt }
+  refused w n r = record { taken = r }
 
   nothing : (w n : ℕ) (e : Env) → e .next ≤ n → Takes w n (ok [] e)
   unfolding TakesT
@@ -86,11 +93,11 @@ module _ (kind : ℕ → ℕ) where
   -- a part of w₁ words, and then
   follows : (w₁ n₁ w n : ℕ) (C : Emitted) (K : Env → Emitted) → w₁ ≤ w → Takes w₁ n₁ C → ((e : Env) → e .next ≤ n₁ → Takes (w - w₁) n (K e)) → Takes w n (andThen C K)
   unfolding TakesT andThen after
-  follows w₁ n₁ w n (refuse answer) K h t k = record { taken = tt }
+  follows w₁ n₁ w n (refuse answer) K h t k = record { taken = t .taken }
   follows w₁ n₁ w n (ok c e) K h t k = go (K e) (k e (t .taken .1))
     where
       go : (D : Emitted) → Takes (w - w₁) n D → Takes w n (after c D)
-      go (refuse answer) u = record { taken = tt }
+      go (refuse answer) u = record { taken = u .taken }
       go (ok d e′) u = record { taken = (simp length-append (omega (arith, t .taken .0, u .taken .0)), u .taken .1, range-append c d (t .taken .2) (u .taken .2)) }
 
   -- an instruction is one word, if any, and takes no scratch
@@ -109,10 +116,10 @@ added e cell = go (ltb cell 64)
 
 module _ (kind : ℕ → ℕ) (row n : ℕ) (e : Env) (h : e .next ≤ n) where
   reads-word : (b : Bool) (i : Instruction) → InRange kind i → Takes kind 1 n (reads row b (one row i e))
-  reads-word b i f = choice kind b 1 n _ _ (λ _. one-word kind row i e e n refl h f) (refused kind 1 n _)
+  reads-word b i f = choice kind b 1 n _ _ (λ _. one-word kind row i e e n refl h f) (refused kind 1 n read)
 
   writes-word : (b : Bool) (i : Instruction) (e′ : Env) → e′ .next ≡ e .next → InRange kind i → Takes kind 1 n (writes row b (one row i e′))
-  writes-word b i e′ p f = choice kind b 1 n _ _ (λ _. refused kind 1 n _) (one-word kind row i e e′ n p h f)
+  writes-word b i e′ p f = choice kind b 1 n _ _ (λ _. refused kind 1 n written) (one-word kind row i e e′ n p h f)
 
   emit-word : (i : Instruction) → InRange kind i → Takes kind 1 n (emit row i e)
   unfolding emit
@@ -125,13 +132,13 @@ module _ (kind : ℕ → ℕ) (row n : ℕ) (e : Env) (h : e .next ≤ n) where
   emit-word (AnalyzeTuple t b k) = reads-word (e .objects (t .0)) (AnalyzeTuple t b k)
   emit-word (CreateTuple t b k) = writes-word (e .objects (t .0)) (CreateTuple t b k) (addObject e (t .0)) refl
   emit-word (Opposite K k) = λ f.
-      choice kind (e .objects (K .0)) 1 n _ _ (λ _. writes-word (e .objects (k .0)) (Opposite K k) (addObject e (k .0)) refl f) (refused kind 1 n _)
+      choice kind (e .objects (K .0)) 1 n _ _ (λ _. writes-word (e .objects (k .0)) (Opposite K k) (addObject e (k .0)) refl f) (refused kind 1 n read)
   emit-word KeyOf = one-word kind row KeyOf e e n refl h
   emit-word (Match r) = reads-word (readable e (r .0)) (Match r)
   emit-word (Encrypt v) = reads-word (e .objects (v .0)) (Encrypt v)
   emit-word (Decrypt v) = reads-word (e .objects (v .0)) (Decrypt v)
   emit-word (Sign v) = reads-word (e .objects (v .0)) (Sign v)
-  emit-word (Verify v r) = λ f. choice kind (e .objects (v .0)) 1 n _ _ (λ _. reads-word (readable e (r .0)) (Verify v r) f) (refused kind 1 n _)
+  emit-word (Verify v r) = λ f. choice kind (e .objects (v .0)) 1 n _ _ (λ _. reads-word (readable e (r .0)) (Verify v r) f) (refused kind 1 n read)
   emit-word (Hash v) = one-word kind row (Hash v) e e n refl h
 
 -- an instruction, and then; and the last one
@@ -142,7 +149,7 @@ module _ (kind : ℕ → ℕ) (row : ℕ) where
   wider : (v w n : ℕ) (C : Emitted) → v ≤ w → Takes kind v n C → Takes kind w n C
   unfolding TakesT
   wider v w n (ok c e) l t = record { taken = (omega (arith, t .taken .0), t .taken .1, t .taken .2) }
-  wider v w n (refuse answer) l t = record { taken = tt }
+  wider v w n (refuse answer) l t = record { taken = t .taken }
 
   final : (i : Instruction) → InRange kind i → (w n : ℕ) (e : Env) → 1 ≤ w → e .next ≤ n → Takes kind w n (emit row i e)
   final i f w n e l h = wider 1 w n (emit row i e) l (emit-word kind row n e h i f)
@@ -302,8 +309,8 @@ module _ (kind : ℕ → ℕ) (declared : (v : ℕ) → 64 ≤ v → kind v ≡ 
         first kind row _ (decode-fits v 6 (eqb→eq _ _ q) tt) (e .next) w n _ e (omega arith) (omega arith) λ e₁ h₁.
         first kind row _ (record { operands = has-either dk 4 5 (5 ∷ 6 ∷ []) t tt tt; cells = tt }) (e .next) (w - 1) n _ e₁ (omega arith) h₁ λ e₂ h₂.
         takes↓ p (w - 1 - 1) n e₂ (k .1) r b m (omega arith) (omega arith)
-    takes↓ (encryption row v (opKey x y) p) w n e k r b m l h = refused kind w n _
-    takes↓ (encryption row v (certifiedKey x y) p) w n e k r b m l h = refused kind w n _
+    takes↓ (encryption row v (opKey x y) p) w n e k r b m l h = refused kind w n wrong
+    takes↓ (encryption row v (certifiedKey x y) p) w n e k r b m l h = refused kind w n wrong
     takes↓ (signature row s key r) w n e k d b m l h =
         let (q, t) = both (eqb (kind s) 8) (publicSide kind key) .0 k in
         first kind row _ (decode-fits s 7 (eqb→eq _ _ q) tt) (e .next) w n _ e (omega arith) (omega arith) λ e₁ h₁.
@@ -323,7 +330,7 @@ module _ (kind : ℕ → ℕ) (declared : (v : ℕ) → 64 ≤ v → kind v ≡ 
     takes↓ (letIn row r p₁ p₂) w n e k d b m l h =
         let s₁ = size-positive p₁ in
         let s₂ = size-positive p₂ in
-        choice kind (e .raws r) w n _ _ (λ _. refused kind w n _)
+        choice kind (e .raws r) w n _ _ (λ _. refused kind w n written)
         (follows kind (8 * size p₂ - 1) (e .next + 2 * size p₂ - 1) w n _ _ (omega arith) (takes↓ p₂ _ _ e (k .1) (d .2) (b .1) (omega arith) (omega arith) (omega arith)) λ e₁ h₁.
         first kind row _ (load-named-fits r (d .0)) (e .next + 2 * size p₂ - 1) _ n _ e₁ (omega arith) h₁ λ e₂ h₂.
         takes↓ p₁ _ n e₂ (k .0) (d .1) (b .0) m (omega arith) (omega arith))
@@ -344,7 +351,7 @@ module _ (kind : ℕ → ℕ) (declared : (v : ℕ) → 64 ≤ v → kind v ≡ 
   unfolding creatable oneOf
   creating-takes row v w n e l h =
       choice kind (e .objects v) w n _ _ (λ _. nothing kind w n e h)
-      (choice kind (creatable (kind v)) w n _ _ (λ c. final kind row _ (record { operands = created v c; cells = tt }) w n e l h) (refused kind w n _))
+      (choice kind (creatable (kind v)) w n _ _ (λ c. final kind row _ (record { operands = created v c; cells = tt }) w n e l h) (refused kind w n read))
     where
       created : (v : ℕ) → T (oneOf (2 ∷ 5 ∷ 6 ∷ []) (kind v)) → T (hasKind kind (asObject v) (2 ∷ 5 ∷ 6 ∷ []))
       created v c = both (ltb v 64) (oneOf (2 ∷ 5 ∷ 6 ∷ []) (kind v)) .1 (inside v (λ z. rw z at c), c)
@@ -446,3 +453,14 @@ module _ (kind : ℕ → ℕ) (declared : (v : ℕ) → 64 ≤ v → kind v ≡ 
 
   pub creating-in-limits : (p : Pattern) (e e′ : Env) (c : List Line) → RightKinds true kind p → RawsBelow 64 p → Packed p → size p ≤ 96 → e .next ≡ 0 → compile↑ kind p e ≡ ok c e′ → InLimits kind c e′
   creating-in-limits p e e′ c k r b s z q = within _ c e′ (takes↑ p 767 191 e k r b (omega arith) (omega arith) (omega arith)) q
+
+  -- and where it refuses, that is with 5, 6 or 7
+  refusal : (E : Emitted) (answer : Compiled) → Takes kind 767 191 E → E ≡ refuse answer → Refusal answer
+  unfolding TakesT
+  refusal E answer t p = (rw p at t) .taken
+
+  pub matching-refuses : (p : Pattern) (e : Env) (answer : Compiled) → RightKinds false kind p → RawsBelow 64 p → Packed p → size p ≤ 96 → e .next ≡ 0 → compile↓ p e ≡ refuse answer → Refusal answer
+  matching-refuses p e answer k r b s z q = refusal _ answer (takes↓ p 767 191 e k r b (omega arith) (omega arith) (omega arith)) q
+
+  pub creating-refuses : (p : Pattern) (e : Env) (answer : Compiled) → RightKinds true kind p → RawsBelow 64 p → Packed p → size p ≤ 96 → e .next ≡ 0 → compile↑ kind p e ≡ refuse answer → Refusal answer
+  creating-refuses p e answer k r b s z q = refusal _ answer (takes↑ p 767 191 e k r b (omega arith) (omega arith) (omega arith)) q
