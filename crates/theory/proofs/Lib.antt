@@ -31,3 +31,4 @@ pub mod Theorems
 pub mod ValidLent
 pub mod RowsKept
 pub mod ValidAgain
+pub mod CompileLaws
