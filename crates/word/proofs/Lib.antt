@@ -1,3 +1,4 @@
--- The laws of words in memory and of lowest places.
+-- The laws of words in memory, of lowest places and of numbers that are one of several.
 pub mod ByteLaws
 pub mod LowestLaws
+pub mod OneOfLaws

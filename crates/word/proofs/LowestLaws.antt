@@ -1,13 +1,14 @@
 -- The lowest place is one where the test holds, with none before it. Stated once over any test.
 use Prim.Native.Nat.{ℕ, zero, suc, _+_, _<_, _≤_}
-use mathlib.Core.Bool.{Bool, true, false}
+use mathlib.Core.Bool.{Bool, true, false, not}
 use mathlib.Core.Path.{_≡_, refl, _∙_}
-use mathlib.Core.Logic.{_↔_, _⊎_, inl, inr, ⊎-elim}
+use mathlib.Core.Logic.{_↔_, Iff·trans, _⊎_, inl, inr, ⊎-elim}
 use mathlib.Core.Option.{none, some}
 use mathlib.Core.List.{List}
 use native.Mathlib.Numerals.{add-one}
 use native.Mathlib.Omega.{arith}
 use borrow.Author.Count.{below-none, below-more}
+use lib.Dec.{T}
 use lib.ListN.{length, getD, drop}
 use lib.Seq.{drop-cons, drop-length}
 use Rattle.word.specs.Lowest.{lowestFrom, lowest, placeOf}
@@ -88,3 +89,41 @@ module _ {A : Type 0} (absent : A) (test : ℕ → A → Bool) (all : List A) wh
       none-found e =
           ⊎-elim (λ so-far. so-far) (λ at. let z : _≡_ {A = ℕ} 0 1 = cc (lowest-is (at .0) (at .1)) in absurd (omega arith))
           (somewhere (length all) (omega arith))
+
+-- a test that something fails: this one is bad and all before it are good
+pub record LowestBad {A : Type 0} (Good : ℕ → A → Type 0) (absent : A) (all : List A) (place : ℕ) : Type 0 where
+  pub within : place < length all
+  pub bad : Good place (getD all place absent) → ⊥
+  pub before : (k : ℕ) → k < place → Good k (getD all k absent)
+
+abbrev pub AllGood : {A : Type 0} → (ℕ → A → Type 0) → A → List A → Type 0
+AllGood Good absent all = (k : ℕ) → k < length all → Good k (getD all k absent)
+
+passes : (good : Bool) → (not good ≡ false) ↔ T good
+passes true = (λ e. tt, λ holds. refl)
+passes false = (λ e. let z : _≡_ {A = ℕ} 0 1 = cc in absurd (omega arith), λ holds. absurd holds)
+
+fails : (good : Bool) → (not good ≡ true) ↔ (T good → ⊥)
+fails true = (λ e. let z : _≡_ {A = ℕ} 0 1 = cc in absurd (omega arith), λ bad. absurd (bad tt))
+fails false = (λ e holds. holds, λ bad. refl)
+
+module _ {A : Type 0} (Good : ℕ → A → Type 0) (good : ℕ → A → Bool) (means : (k : ℕ) (a : A) → T (good k a) ↔ Good k a) (absent : A) (all : List A) where
+  good-at : (k : ℕ) → (not (good k (getD all k absent)) ≡ false) ↔ Good k (getD all k absent)
+  good-at k = Iff·trans (passes (good k (getD all k absent))) (means k (getD all k absent))
+
+  bad-at : (k : ℕ) → (not (good k (getD all k absent)) ≡ true) ↔ (Good k (getD all k absent) → ⊥)
+  bad-at k = Iff·trans (fails (good k (getD all k absent))) (λ bad is. bad (means k (getD all k absent) .1 is), λ bad holds. bad (means k (getD all k absent) .0 holds))
+
+  pub lowest-bad-iff : (place : ℕ) → (lowest (λ k a. not (good k a)) all ≡ some place) ↔ LowestBad Good absent all place
+  lowest-bad-iff place = Iff·trans (lowest-iff absent (λ k a. not (good k a)) all place) (to, back)
+    where
+      to : Lowest absent (λ k a. not (good k a)) all place → LowestBad Good absent all place
+      to at = record { within = at .within; bad = bad-at place .0 (at .here); before = λ k less. good-at k .0 (at .before k less) }
+
+      back : LowestBad Good absent all place → Lowest absent (λ k a. not (good k a)) all place
+      back at = record { within = at .within; here = bad-at place .1 (at .bad); before = λ k less. good-at k .1 (at .before k less) }
+
+  pub none-bad-iff : (lowest (λ k a. not (good k a)) all ≡ none) ↔ AllGood Good absent all
+  none-bad-iff =
+      Iff·trans (nowhere-iff absent (λ k a. not (good k a)) all)
+      (λ at k less. good-at k .0 (at .before k less), λ every. record { within = omega arith; before = λ k less. good-at k .1 (every k less) })
