@@ -12,7 +12,7 @@ use lib.ListN.{length, getD, drop, drop-of-length-le}
 use lib.Seq.{drop-cons}
 use lib.Dec.{eqb}
 use borrow.Author.Tests.{eq-eqb, ne-eqb}
-use Rattle.word.specs.Lowest.{lowest, lowestFrom, placeOf}
+use Rattle.word.specs.Lowest.{lowest, lowestFrom, each, placeOf}
 use Rattle.word.specs.declared.Place.{Place}
 use Rattle.word.specs.declared.Place.the-variants.{At, Nowhere}
 use Rattle.terms.specs.Rules.{usedRows}
@@ -72,6 +72,23 @@ module _ (test : ℕ → ℕ → Bool) (all : List ℕ) where
 
   pub lowest-is : (answer : Option ℕ) → lowest test all ≡ answer → Is 0 answer
   lowest-is answer e = rw e at (is-from (length all) 0 (zero-add _))
+
+module _ (test : ℕ → Bool) (all : List ℕ) (i : ℕ) where
+  -- a loop that has passed so many elements, at each of which the test holds
+  abbrev pub Held : Type 0
+  Held = each test all ≡ each test (drop i all)
+
+  pub held-stop : i < length all → Held → test (getD all i 0) ≡ false → each test all ≡ false
+  unfolding each
+  held-stop h held e = held ∙ rw (drop-cons all i 0 h, e, each)
+
+  pub held-more : i < length all → Held → test (getD all i 0) ≡ true → each test all ≡ each test (drop (i + 1) all)
+  unfolding each
+  held-more h held e = held ∙ rw (drop-cons all i 0 h, e, add-one i, each)
+
+  pub held-end : length all ≤ i → Held → each test all ≡ true
+  unfolding each
+  held-end h held = held ∙ rw (drop-of-length-le all {i = i} h)
 
 module _ (rows : List ℕ) (i : ℕ) where
   -- so many rows are used at least
