@@ -15,12 +15,13 @@ use Rattle.word.specs.Fields.{split, at}
 use Rattle.word.specs.Lowest.{oneOf, lowestFrom, placeOf}
 use Rattle.word.specs.declared.Place.{Place}
 use Rattle.word.specs.declared.Place.the-variants.{At, Nowhere}
+use Rattle.terms.specs.declared.Checked.the-variants.{Bad, Used}
 use Rattle.terms.specs.Shape.{Shape, atom, encrypted, signed, hashed, tupled, partsOf}
 use Rattle.terms.specs.Row.{rowWidths, atomWidths, wordOf, tagOf, shapeOf}
 use Rattle.terms.specs.Finder.{equalRow}
-use Rattle.terms.specs.Rules.{knownTag, unusedZero, numberFits, partsBelow, keyFits, earlierEqual}
+use Rattle.terms.specs.Rules.{knownTag, unusedZero, numberFits, partsBelow, keyFits, earlierEqual, usedRows, fits, badRow, badTerm, checkedBy, checked}
 use Rattle.terms.proofs.ShapeLaws.{shape-encrypted, shape-signed, shape-hashed, shape-tupled, shape-atom, by-tag, parts-taken, parts-at}
-use Rattle.terms.proofs.ScanLaws.{placed-at, placed-nowhere, Held, held-stop, held-more, held-end}
+use Rattle.terms.proofs.ScanLaws.{placed-at, placed-nowhere, Passed, passed-hit, passed-end, Held, held-stop, held-more, held-end}
 
 -- a flag that goes through `&&`: the next rule was looked at, or the flag was false already
 pub and-more : {flag all next rule : Bool} → flag ≡ all → flag ≡ true → next ≡ rule → next ≡ all && rule
@@ -40,25 +41,25 @@ known-high word tag is high = rw (← is, le-leb 1 tag high)
 pub ruleset known-ways = (known-low, known-high)
 
 module _ (word tag : ℕ) (is : tag ≡ tagOf word) where
-  pub size-encrypted : tag ≡ 7 → 2 ≡ length (partsOf (shapeOf word))
-  size-encrypted e = rw (shape-encrypted word (sym is ∙ e))
+  pub slots-encrypted : tag ≡ 7 → 2 ≡ length (partsOf (shapeOf word))
+  slots-encrypted e = rw (shape-encrypted word (sym is ∙ e))
 
-  pub size-signed : tag ≡ 8 → 2 ≡ length (partsOf (shapeOf word))
-  size-signed e = rw (shape-signed word (sym is ∙ e))
+  pub slots-signed : tag ≡ 8 → 2 ≡ length (partsOf (shapeOf word))
+  slots-signed e = rw (shape-signed word (sym is ∙ e))
 
-  pub size-hashed : tag ≡ 9 → 1 ≡ length (partsOf (shapeOf word))
-  size-hashed e = rw (shape-hashed word (sym is ∙ e))
+  pub slots-hashed : tag ≡ 9 → 1 ≡ length (partsOf (shapeOf word))
+  slots-hashed e = rw (shape-hashed word (sym is ∙ e))
 
-  pub size-tupled : (n : ℕ) → tag ≡ 10 → n ≡ at 1 (split rowWidths word) → n < 4 → n ≡ length (partsOf (shapeOf word))
-  size-tupled n e count h = rw (shape-tupled word (sym is ∙ e), ← count, length-take-le n (drop 3 (split rowWidths word)) (omega arith))
+  pub slots-tupled : (n : ℕ) → tag ≡ 10 → n ≡ at 1 (split rowWidths word) → n < 4 → n ≡ length (partsOf (shapeOf word))
+  slots-tupled n e count h = rw (shape-tupled word (sym is ∙ e), ← count, length-take-le n (drop 3 (split rowWidths word)) (omega arith))
 
-  pub size-full : (n : ℕ) → tag ≡ 10 → n ≡ at 1 (split rowWidths word) → 4 ≤ n → 4 ≡ length (partsOf (shapeOf word))
-  size-full n e count h = rw (shape-tupled word (sym is ∙ e), ← count, take-all n (drop 3 (split rowWidths word)) h)
+  pub slots-full : (n : ℕ) → tag ≡ 10 → n ≡ at 1 (split rowWidths word) → 4 ≤ n → 4 ≡ length (partsOf (shapeOf word))
+  slots-full n e count h = rw (shape-tupled word (sym is ∙ e), ← count, take-all n (drop 3 (split rowWidths word)) h)
 
-  pub size-atom : (tag ≡ 7 → ⊥) → (tag ≡ 8 → ⊥) → (tag ≡ 9 → ⊥) → (tag ≡ 10 → ⊥) → 0 ≡ length (partsOf (shapeOf word))
-  size-atom a b c d = rw (shape-atom word (λ e. a (is ∙ e)) (λ e. b (is ∙ e)) (λ e. c (is ∙ e)) (λ e. d (is ∙ e)))
+  pub slots-atom : (tag ≡ 7 → ⊥) → (tag ≡ 8 → ⊥) → (tag ≡ 9 → ⊥) → (tag ≡ 10 → ⊥) → 0 ≡ length (partsOf (shapeOf word))
+  slots-atom a b c d = rw (shape-atom word (λ e. a (is ∙ e)) (λ e. b (is ∙ e)) (λ e. c (is ∙ e)) (λ e. d (is ∙ e)))
 
-pub ruleset size-ways = (size-encrypted, size-signed, size-hashed, size-tupled, size-full, size-atom, arith)
+pub ruleset slots-ways = (slots-encrypted, slots-signed, slots-hashed, slots-tupled, slots-full, slots-atom, arith)
 
 -- the word that was made of a row's fields is compared with the row
 module _ (word : ℕ) where
@@ -191,3 +192,25 @@ module _ (word : ℕ) where
   earlier-nowhere rows row place is e = rw (one-of-lowest 0 (take row rows), placed-nowhere (equalRow rows row word) is e)
 
 pub ruleset earlier-ways = (earlier-there, earlier-nowhere)
+
+-- a bad row
+module _ (rows : List ℕ) (counter used row : ℕ) (is : used ≡ usedRows rows) where
+  pub bad-used : (fit : Bool) → row < used → fit ≡ fits rows counter row (getD rows row 0) → not fit ≡ badRow rows counter row (getD rows row 0)
+  unfolding badRow
+  bad-used fit h e = rw (← is, lt-ltb row used h, ← e)
+
+  pub bad-unused : used ≤ row → not (eqb (getD rows row 0) 0) ≡ badRow rows counter row (getD rows row 0)
+  unfolding badRow
+  bad-unused h = rw (← is, le-ltb row used h)
+
+pub ruleset bad-ways = (bad-used, bad-unused)
+
+-- the check of a table: a loop over its rows
+module _ (rows : List ℕ) (counter row : ℕ) (passed : Passed (badRow rows counter) rows row) where
+  pub checked-bad : row < length rows → badRow rows counter row (getD rows row 0) ≡ true → Bad row ≡ checked rows counter
+  unfolding badTerm
+  checked-bad h e = ap (λ (bad : Option ℕ). checkedBy bad rows) (sym (passed-hit (badRow rows counter) rows row h passed e))
+
+  pub checked-good : (used : ℕ) → used ≡ usedRows rows → length rows ≤ row → Used used ≡ checked rows counter
+  unfolding badTerm
+  checked-good used is h = ap Used is ∙ ap (λ (bad : Option ℕ). checkedBy bad rows) (sym (passed-end (badRow rows counter) rows row h passed))

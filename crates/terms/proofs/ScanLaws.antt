@@ -4,7 +4,7 @@ use mathlib.Core.Path.{_≡_, refl, sym, _∙_}
 use mathlib.Core.Logic.{⊎-elim}
 use mathlib.Core.Bool.{Bool, true, false}
 use mathlib.Core.Option.{Option, none, some}
-use mathlib.Core.List.{List}
+use mathlib.Core.List.{List, [], _∷_}
 use native.Mathlib.Nat.{zero-add, eq-or-lt-of-le}
 use native.Mathlib.Numerals.{add-one}
 use native.Mathlib.Omega.{arith}
@@ -112,3 +112,12 @@ module _ (rows : List ℕ) (i : ℕ) where
   counted-end h counted =
       let end : usedRows (drop i rows) ≡ 0 = rw (drop-of-length-le rows {i = i} h) in
       omega arith
+
+pub used-within : (rows : List ℕ) → usedRows rows ≤ length rows
+unfolding usedRows
+used-within [] = omega arith
+used-within (word ∷ rows) = go (eqb word 0) (used-within rows)
+  where
+    go : (b : Bool) → usedRows rows ≤ length rows → (elim b [ true ↦ 0 | false ↦ suc (usedRows rows) ]) ≤ suc (length rows)
+    go true h = omega arith
+    go false h = omega arith

@@ -6,6 +6,14 @@ ghost use Rattle.word.specs.Fields.{split, at};
 ghost use Rattle.terms.specs.Shape.{atom, encrypted, signed, hashed, tupled};
 ghost use Rattle.terms.specs.Row.{rowWidths, atomWidths, tagOf, wordOf};
 
+// The row at a number, and the unused row past the end.
+pub fn row_at(rows: &[u64], row: u16) -> u64
+    ensures { λ r. ⌜ r ≡ getD (now (rows .entry)) row 0 ⌝ }
+{
+    let i = row as usize;
+    if i < rows.len() { rows[i] } else { 0 }
+}
+
 pub fn tag(word: u64) -> u64
     ensures { λ r. ⌜ r ≡ tagOf word ⌝ }
 {

@@ -15,6 +15,7 @@ use super::row::hashed_word;
 use super::row::number;
 use super::row::part;
 use super::row::part_count;
+use super::row::row_at;
 use super::row::signed_word;
 use super::row::tag;
 use super::row::tuple_word;
@@ -42,8 +43,8 @@ fn known_tag(word: u64) -> bool
     1 <= t && t <= 10
 }
 
-// How many parts a row has, the key counted.
-fn size(word: u64) -> usize
+// How many of its four slots a row uses, the key counted.
+fn used_slots(word: u64) -> usize
     ensures { λ r. ⌜ (r ≡ length (partsOf (shapeOf word))) × (r ≤ 4) ⌝ }
 {
     let t = tag(word);
@@ -59,7 +60,7 @@ fn size(word: u64) -> usize
     }
 }
 
-// The four fields of parts, whether used or not.
+// The four slots of parts, used or not.
 fn slots(word: u64) -> [u16; 4]
     ensures { λ r. ⌜ r ≡ drop 3 (split rowWidths word) ⌝ }
 {
@@ -75,7 +76,7 @@ fn unused_zero(word: u64) -> bool
         7 => encrypted_word(part(word, 0), part(word, 1)) == word,
         8 => signed_word(part(word, 0), part(word, 1)) == word,
         9 => hashed_word(part(word, 0)) == word,
-        10 => tuple_word(slots(word), size(word)) == word,
+        10 => tuple_word(slots(word), used_slots(word)) == word,
         _ => atom_word(t, number(word)) == word,
     }
 }
@@ -96,7 +97,7 @@ fn number_fits(word: u64, counter: u32) -> bool
 fn parts_below(word: u64, row: usize) -> bool
     ensures { λ r. ⌜ r ≡ partsBelow row (shapeOf word) ⌝ }
 {
-    let n = size(word);
+    let n = used_slots(word);
     let mut slot: usize = 0;
     while slot < n {
         let other = part(word, slot) as usize;
@@ -106,14 +107,6 @@ fn parts_below(word: u64, row: usize) -> bool
         slot += 1;
     }
     true
-}
-
-// The row at a number, and the unused row past the end.
-fn row_at(rows: &[u64], row: u16) -> u64
-    ensures { λ r. ⌜ r ≡ getD (now (rows .entry)) row 0 ⌝ }
-{
-    let i = row as usize;
-    if i < rows.len() { rows[i] } else { 0 }
 }
 
 // A key has one kind, or is a shared key.
@@ -159,4 +152,27 @@ pub fn row_fits(rows: &[u64], counter: u32, row: usize) -> bool
         && parts_below(word, row)
         && key_fits(rows, word)
         && !earlier_equal(rows, row, word)
+}
+
+// A used row is bad where it breaks a rule, any other where it is not zero.
+fn bad_row(rows: &[u64], counter: u32, used: usize, row: usize) -> bool
+    requires { ⌜ (used ≡ usedRows (now rows)) × ((row < length (now rows)) × (length (now rows) ≤ 4096)) ⌝ }
+    ensures { λ r. ⌜ r ≡ badRow (now (rows .entry)) counter row (getD (now (rows .entry)) row 0) ⌝ }
+{
+    if row < used { !row_fits(rows, counter, row) } else { rows[row] != 0 }
+}
+
+pub fn first_bad_row(rows: &[u64], counter: u32) -> Checked
+    requires { ⌜ length (now rows) ≤ 4096 ⌝ }
+    ensures { λ r. ⌜ r ≡ checked (now (rows .entry)) counter ⌝ }
+{
+    let used = used_rows(rows);
+    let mut row: usize = 0;
+    while row < rows.len() {
+        if bad_row(rows, counter, used, row) {
+            return Checked::Bad(row as u32);
+        }
+        row += 1;
+    }
+    Checked::Used(used as u32)
 }

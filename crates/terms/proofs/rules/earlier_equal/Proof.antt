@@ -2,27 +2,19 @@ use Rattle.terms.proofs.RuleLaws.{earlier-ways}
 use borrow.Author.Needs.{needs}
 use Rattle.terms.proofs.rules.earlier_equal.Statement.{statement}
 use Rattle.terms.proofs.rules.earlier_equal.Tie as tie
-use Rattle.terms.proofs.rules.earlier_equal.Reads as reads
-use Rattle.terms.proofs.rules.earlier_equal.Lts as lts
-use Rattle.terms.proofs.finder.equal_row.Reads as equal-row-reads
 
--- src/rules.rt:144:9
 equal-row-requires : tie.Need-equal-row-requires
 equal-row-requires c κs = search needs
 
--- src/rules.rt:146:25
 enum-told : tie.Need-enum-told
 enum-told c = search needs
 
--- src/rules.rt:147:27
 enum-told-2 : tie.Need-enum-told-2
 enum-told-2 c = search needs
 
--- src/rules.rt:140:1
 returns : tie.Need-returns
 returns c = search earlier-ways
 
--- src/rules.rt:140:1
 returns-2 : tie.Need-returns-2
 returns-2 c = search earlier-ways
 

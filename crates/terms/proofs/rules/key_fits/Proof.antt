@@ -2,41 +2,28 @@ use Rattle.terms.proofs.RuleLaws.{key-ways}
 use borrow.Author.Needs.{needs}
 use Rattle.terms.proofs.rules.key_fits.Statement.{statement}
 use Rattle.terms.proofs.rules.key_fits.Tie as tie
-use Rattle.terms.proofs.rules.key_fits.Reads as reads
-use Rattle.terms.proofs.rules.key_fits.Lts as lts
-use Rattle.terms.proofs.row.part.Reads as part-reads
-use Rattle.terms.proofs.row.tag.Reads as tag-reads
-use Rattle.terms.proofs.rules.key_is.Reads as key-is-reads
 
--- src/rules.rt:131:9
 tag-requires : tie.Need-tag-requires
 tag-requires c κs = search needs
 
--- src/rules.rt:133:27
 part-requires : tie.Need-part-requires
 part-requires c κs = search needs
 
--- src/rules.rt:133:14
 key-is-requires : tie.Need-key-is-requires
 key-is-requires c κs = search needs
 
--- src/rules.rt:134:27
 part-requires-2 : tie.Need-part-requires-2
 part-requires-2 c κs = search needs
 
--- src/rules.rt:134:14
 key-is-requires-2 : tie.Need-key-is-requires-2
 key-is-requires-2 c κs = search needs
 
--- src/rules.rt:128:1
 returns : tie.Need-returns
 returns c = search key-ways
 
--- src/rules.rt:128:1
 returns-2 : tie.Need-returns-2
 returns-2 c = search key-ways
 
--- src/rules.rt:128:1
 returns-3 : tie.Need-returns-3
 returns-3 c = search key-ways
 

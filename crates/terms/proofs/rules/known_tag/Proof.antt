@@ -2,19 +2,13 @@ use Rattle.terms.proofs.RuleLaws.{known-ways}
 use borrow.Author.Needs.{needs}
 use Rattle.terms.proofs.rules.known_tag.Statement.{statement}
 use Rattle.terms.proofs.rules.known_tag.Tie as tie
-use Rattle.terms.proofs.rules.known_tag.Reads as reads
-use Rattle.terms.proofs.rules.known_tag.Lts as lts
-use Rattle.terms.proofs.row.tag.Reads as tag-reads
 
--- src/rules.rt:41:9
 tag-requires : tie.Need-tag-requires
 tag-requires c κs = search needs
 
--- src/rules.rt:38:1
 returns : tie.Need-returns
 returns c = search known-ways
 
--- src/rules.rt:38:1
 returns-2 : tie.Need-returns-2
 returns-2 c = search known-ways
 

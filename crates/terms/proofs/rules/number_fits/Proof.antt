@@ -4,28 +4,19 @@ use Rattle.terms.proofs.RuleLaws.{number-name, number-ways}
 use borrow.Author.Needs.{needs}
 use Rattle.terms.proofs.rules.number_fits.Statement.{statement}
 use Rattle.terms.proofs.rules.number_fits.Tie as tie
-use Rattle.terms.proofs.rules.number_fits.Reads as reads
-use Rattle.terms.proofs.rules.number_fits.Lts as lts
-use Rattle.terms.proofs.row.number.Reads as number-reads
-use Rattle.terms.proofs.row.tag.Reads as tag-reads
 
--- src/rules.rt:87:9
 tag-requires : tie.Need-tag-requires
 tag-requires c κs = search needs
 
--- src/rules.rt:89:14
 number-requires : tie.Need-number-requires
 number-requires c κs = search needs
 
--- src/rules.rt:91:14
 number-requires-2 : tie.Need-number-requires-2
 number-requires-2 c κs = search needs
 
--- src/rules.rt:84:1
 returns : tie.Need-returns
 returns c = search number-ways
 
--- src/rules.rt:84:1
 returns-2 : tie.Need-returns-2
 returns-2 c =
     let a = c .before .before .before .before .args in
@@ -33,11 +24,9 @@ returns-2 c =
     number-name (a .word) _ (c .before .before .before .tag .ensures) (a .counter) _ (rest .0 .1) (rest .1)
     (λ low high. ⊎-elim (λ w. omega arith) (λ w. omega arith) (c .before .if1 .came)) (c .number2 .ensures)
 
--- src/rules.rt:84:1
 returns-3 : tie.Need-returns-3
 returns-3 c = search number-ways
 
--- src/rules.rt:84:1
 returns-4 : tie.Need-returns-4
 returns-4 c = search number-ways
 

@@ -12,8 +12,8 @@ Inv-loop word row n slot₀ slot = (slot ≤ n) × Below row word slot
 abbrev μ-loop : tie.MeasureT-loop
 μ-loop word row n slot₀ slot = n - slot
 
-size-requires : tie.Need-size-requires Inv-loop μ-loop
-size-requires c κs = tt
+used-slots-requires : tie.Need-used-slots-requires Inv-loop μ-loop
+used-slots-requires c κs = tt
 
 loop-holds : tie.Need-loop-holds Inv-loop μ-loop
 loop-holds c = (omega arith, refl)
@@ -54,7 +54,7 @@ parts-below-spec =
     (tie.spec
     Inv-loop
     μ-loop
-    size-requires
+    used-slots-requires
     loop-holds
     part-requires
     cast-other

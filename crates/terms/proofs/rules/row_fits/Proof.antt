@@ -10,14 +10,6 @@ use Rattle.terms.specs.Rules.{knownTag, unusedZero, numberFits, partsBel
 use Rattle.terms.proofs.RuleLaws.{and-more, and-kept}
 use Rattle.terms.proofs.rules.row_fits.Statement.{statement}
 use Rattle.terms.proofs.rules.row_fits.Tie as tie
-use Rattle.terms.proofs.rules.row_fits.Reads as reads
-use Rattle.terms.proofs.rules.row_fits.Lts as lts
-use Rattle.terms.proofs.rules.earlier_equal.Reads as earlier-equal-reads
-use Rattle.terms.proofs.rules.key_fits.Reads as key-fits-reads
-use Rattle.terms.proofs.rules.known_tag.Reads as known-tag-reads
-use Rattle.terms.proofs.rules.number_fits.Reads as number-fits-reads
-use Rattle.terms.proofs.rules.parts_below.Reads as parts-below-reads
-use Rattle.terms.proofs.rules.unused_zero.Reads as unused-zero-reads
 
 -- what is found of the row by the first rules, one more at a time
 module _ (s : tie.Start) where
@@ -38,8 +30,8 @@ module _ (s : tie.Start) where
 
 zeros-join : (c : tie.Joined1) → c .if1 .if2 ≡ zeros (c .before .before .before .before)
 zeros-join c =
-    let known = c .before .known-tag .ensures in
-    ⊎-elim (λ w. and-more known (w .0 .taken) (w .2 ∙ w .1 .ensures)) (λ w. and-kept _ known (w .0 .left) (w .1)) (c .if1 .came)
+    ⊎-elim (λ w. and-more (c .before .known-tag .ensures) (w .0 .taken) (w .2 ∙ w .1 .ensures))
+    (λ w. and-kept _ (c .before .known-tag .ensures) (w .0 .left) (w .1)) (c .if1 .came)
 
 numbers-join : (c : tie.Joined2) → c .if2 .if3 ≡ numbers (c .before .before .before .before .before)
 numbers-join c =
@@ -56,43 +48,33 @@ keys-join c =
     ⊎-elim (λ w. and-more (parts-join (c .before)) (w .0 .taken) (w .2 ∙ w .1 .ensures)) (λ w. and-kept _ (parts-join (c .before)) (w .0 .left) (w .1))
     (c .if4 .came)
 
--- src/rules.rt:155:16
 mul-word : tie.Need-mul-word
 mul-word c = search needs
 
--- src/rules.rt:155:16
 shared-slice-read-word : tie.Need-shared-slice-read-word
 shared-slice-read-word c = search needs
 
--- src/rules.rt:156:5
 known-tag-requires : tie.Need-known-tag-requires
 known-tag-requires c κs = search needs
 
--- src/rules.rt:157:12
 unused-zero-requires : tie.Need-unused-zero-requires
 unused-zero-requires c κs = search needs
 
--- src/rules.rt:158:12
 number-fits-requires : tie.Need-number-fits-requires
 number-fits-requires c κs = search needs
 
--- src/rules.rt:159:12
 parts-below-requires : tie.Need-parts-below-requires
 parts-below-requires c κs = search needs
 
--- src/rules.rt:160:12
 key-fits-requires : tie.Need-key-fits-requires
 key-fits-requires c κs = search needs
 
--- src/rules.rt:161:13
 earlier-equal-requires : tie.Need-earlier-equal-requires
 earlier-equal-requires c κs = search needs
 
--- src/rules.rt:151:1
 returns : tie.Need-returns
 returns c = and-more (keys-join (c .before .before)) (c .before .if5 .taken) (ap not (c .earlier-equal .ensures))
 
--- src/rules.rt:151:1
 returns-2 : tie.Need-returns-2
 returns-2 c = and-kept _ (keys-join (c .before)) (c .if5 .left) refl
 

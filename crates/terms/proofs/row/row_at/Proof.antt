@@ -1,24 +1,18 @@
 use mathlib.Core.Path.{sym}
 use lib.ListN.{List·getD-eq-default}
 use borrow.Author.Needs.{needs}
-use Rattle.terms.proofs.rules.row_at.Statement.{statement}
-use Rattle.terms.proofs.rules.row_at.Tie as tie
-use Rattle.terms.proofs.rules.row_at.Reads as reads
-use Rattle.terms.proofs.rules.row_at.Lts as lts
+use Rattle.terms.proofs.row.row_at.Statement.{statement}
+use Rattle.terms.proofs.row.row_at.Tie as tie
 
--- src/rules.rt:116:25
 mul-result : tie.Need-mul-result
 mul-result c = search needs
 
--- src/rules.rt:116:25
 shared-slice-read-result : tie.Need-shared-slice-read-result
 shared-slice-read-result c = search needs
 
--- src/rules.rt:112:1
 returns : tie.Need-returns
 returns c = search needs
 
--- src/rules.rt:112:1
 returns-2 : tie.Need-returns-2
 returns-2 c = sym (List·getD-eq-default (c .before .args .rows .now) 0 (c .if1 .left))
 
