@@ -1,10 +1,9 @@
 -- A row's fields by slot.
 use Prim.Native.Nat.{ℕ, zero, suc, _+_, _*_, _-_, _/_, _%_, _^_, _<_, _≤_}
-use mathlib.Core.Path.{_≡_, refl, sym, _∙_, ap}
+use mathlib.Core.Path.{_≡_, refl}
 use mathlib.Core.List.{List, [], _∷_}
 use native.Mathlib.Omega.{arith}
 use lib.ListN.{length, take, drop, getD, length-take, List·getD-eq-default}
-use lib.Seq.{length-take-le}
 use Rattle.word.specs.Fields.{split, at}
 use Rattle.terms.specs.Shape.{tupled}
 use Rattle.terms.specs.Row.{rowWidths, tagOf, wordOf}

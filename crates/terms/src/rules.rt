@@ -8,6 +8,7 @@ ghost use Rattle.word.specs.Lowest.{oneOf};
 ghost use Rattle.terms.specs.Shape.{partsOf};
 ghost use Rattle.terms.specs.Row.{rowWidths, tagOf, shapeOf};
 ghost use Rattle.terms.specs.Rules.{usedRows, knownTag, unusedZero, numberFits, partsBelow, keyFits, earlierEqual, fits, badRow, checked};
+use super::Checked;
 use super::finder::equal_row;
 use super::row::atom_word;
 use super::row::encrypted_word;
@@ -19,7 +20,6 @@ use super::row::row_at;
 use super::row::signed_word;
 use super::row::tag;
 use super::row::tuple_word;
-use super::Checked;
 use word::Place;
 
 // The used rows are those before the first zero row.
@@ -159,7 +159,11 @@ fn bad_row(rows: &[u64], counter: u32, used: usize, row: usize) -> bool
     requires { ⌜ (used ≡ usedRows (now rows)) × ((row < length (now rows)) × (length (now rows) ≤ 4096)) ⌝ }
     ensures { λ r. ⌜ r ≡ badRow (now (rows .entry)) counter row (getD (now (rows .entry)) row 0) ⌝ }
 {
-    if row < used { !row_fits(rows, counter, row) } else { rows[row] != 0 }
+    if row < used {
+        !row_fits(rows, counter, row)
+    } else {
+        rows[row] != 0
+    }
 }
 
 pub fn first_bad_row(rows: &[u64], counter: u32) -> Checked

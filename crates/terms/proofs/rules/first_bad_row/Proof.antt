@@ -1,11 +1,11 @@
 -- The invariant: none of the rows passed is bad. Assumes nothing.
 use Prim.Native.Nat.{_≤_, _-_}
-use mathlib.Core.Path.{refl, sym, _∙_}
+use mathlib.Core.Path.{refl}
 use native.Mathlib.Omega.{arith}
 use lib.ListN.{length}
 use Rattle.terms.specs.Rules.{badRow}
-use Rattle.terms.proofs.ScanLaws.{Passed, passed-miss, used-within}
-use Rattle.terms.proofs.RuleLaws.{checked-bad, checked-good}
+use Rattle.terms.proofs.ScanLaws.{Passed, used-within}
+use Rattle.terms.proofs.RuleLaws.{checked-bad, checked-more, checked-good}
 use Rattle.terms.proofs.rules.first_bad_row.Statement.{statement}
 use Rattle.terms.proofs.rules.first_bad_row.Tie as tie
 
@@ -31,7 +31,7 @@ returns : tie.Need-returns Inv-loop μ-loop
 returns c =
     let a = c .before .before .before .before .before .before .args in
     let l = c .before .before .before .loop in
-    checked-bad (a .rows .now) (a .counter) (l .row) (l .inv .1) (c .before .before .loop-test .taken) (sym (c .before .bad-row .ensures) ∙ c .if1 .taken)
+    checked-bad (a .rows .now) (a .counter) (l .row) (l .inv .1) _ (c .before .bad-row .ensures) (c .before .before .loop-test .taken) (c .if1 .taken)
 
 add-row : tie.Need-add-row Inv-loop μ-loop
 add-row c = omega arith
@@ -43,7 +43,8 @@ loop-again : tie.Need-loop-again Inv-loop μ-loop
 loop-again c =
     let a = c .before .before .before .before .before .before .args in
     let l = c .before .before .before .loop in
-    (omega arith, passed-miss (badRow (a .rows .now) (a .counter)) (a .rows .now) (l .row) (c .before .before .loop-test .taken) (l .inv .1) (sym (c .before .bad-row .ensures) ∙ c .if1 .left))
+    let more = checked-more (a .rows .now) (a .counter) (l .row) (l .inv .1) in
+    (omega arith, more _ (c .before .bad-row .ensures) (c .before .before .loop-test .taken) (c .if1 .left))
 
 cast-t9 : tie.Need-cast-t9 Inv-loop μ-loop
 cast-t9 c = omega (arith, c .before .before .used-rows .ensures, used-within (c .before .before .before .before .args .rows .now))

@@ -6,7 +6,7 @@ use mathlib.Core.Bool.{Bool, not, _&&_}
 use lib.ListN.{getD}
 use borrow.Author.Needs.{needs}
 use Rattle.terms.specs.Row.{shapeOf}
-use Rattle.terms.specs.Rules.{knownTag, unusedZero, numberFits, partsBelow, keyFits, earlierEqual}
+use Rattle.terms.specs.Rules.{knownTag, unusedZero, numberFits, partsBelow, keyFits}
 use Rattle.terms.proofs.RuleLaws.{and-more, and-kept}
 use Rattle.terms.proofs.rules.row_fits.Statement.{statement}
 use Rattle.terms.proofs.rules.row_fits.Tie as tie
@@ -35,17 +35,20 @@ zeros-join c =
 
 numbers-join : (c : tie.Joined2) → c .if2 .if3 ≡ numbers (c .before .before .before .before .before)
 numbers-join c =
-    ⊎-elim (λ w. and-more (zeros-join (c .before)) (w .0 .taken) (w .2 ∙ w .1 .ensures)) (λ w. and-kept _ (zeros-join (c .before)) (w .0 .left) (w .1))
+    ⊎-elim (λ w. and-more (zeros-join (c .before)) (w .0 .taken) (w .2 ∙ w .1 .ensures))
+    (λ w. and-kept _ (zeros-join (c .before)) (w .0 .left) (w .1))
     (c .if2 .came)
 
 parts-join : (c : tie.Joined3) → c .if3 .if4 ≡ parts (c .before .before .before .before .before .before)
 parts-join c =
-    ⊎-elim (λ w. and-more (numbers-join (c .before)) (w .0 .taken) (w .2 ∙ w .1 .ensures)) (λ w. and-kept _ (numbers-join (c .before)) (w .0 .left) (w .1))
+    ⊎-elim (λ w. and-more (numbers-join (c .before)) (w .0 .taken) (w .2 ∙ w .1 .ensures))
+    (λ w. and-kept _ (numbers-join (c .before)) (w .0 .left) (w .1))
     (c .if3 .came)
 
 keys-join : (c : tie.Joined4) → c .if4 .if5 ≡ keys (c .before .before .before .before .before .before .before)
 keys-join c =
-    ⊎-elim (λ w. and-more (parts-join (c .before)) (w .0 .taken) (w .2 ∙ w .1 .ensures)) (λ w. and-kept _ (parts-join (c .before)) (w .0 .left) (w .1))
+    ⊎-elim (λ w. and-more (parts-join (c .before)) (w .0 .taken) (w .2 ∙ w .1 .ensures))
+    (λ w. and-kept _ (parts-join (c .before)) (w .0 .left) (w .1))
     (c .if4 .came)
 
 mul-word : tie.Need-mul-word
