@@ -3,6 +3,7 @@ use Prim.Native.Nat.{ℕ, _+_, _<_, _≤_}
 use mathlib.Core.Path.{_≡_, refl, sym, _∙_, ap, subst}
 use mathlib.Core.Option.{Option, none, some}
 use mathlib.Core.List.{List}
+use native.Mathlib.Decide.{decLt}
 use native.Mathlib.Omega.{arith}
 use lib.ListN.{length, getD, take, set, length-set}
 use lib.Seq.{length-take-le, getD-take, getD-set-same, getD-set-other}
@@ -23,6 +24,25 @@ Absent rows used word = (row : ℕ) → row < used → getD rows row 0 ≡ word 
 -- no two used rows are equal
 abbrev pub Distinct : List ℕ → ℕ → Type 0
 Distinct rows used = (a b : ℕ) → a < used → b < used → getD rows a 0 ≡ getD rows b 0 → a ≡ b
+
+-- the first row that equals the term is among the used ones
+pub record First (rows : List ℕ) (used word row : ℕ) : Type 0 where
+  pub within : row < used
+  pub equals : getD rows row 0 ≡ word
+  pub before : Absent rows row word
+
+first-one : (rows : List ℕ) (used word : ℕ) {row other : ℕ} → First rows used word row → First rows used word other → row ≡ other
+first-one rows used word {row} {other} a b = by (decLt row other) (decLt other row)
+  where
+    by : Dec (row < other) → Dec (other < row) → row ≡ other
+    by (yes h) r = absurd (b .before row h (a .equals))
+    by (no g) (yes h) = absurd (a .before other h (b .equals))
+    by (no g) (no h) = omega arith
+
+-- where no two are equal, the row that equals the term is the first
+pub first-of-distinct : (rows : List ℕ) (used word row : ℕ) → Distinct rows used → row < used → getD rows row 0 ≡ word → First rows used word row
+first-of-distinct rows used word row distinct h e =
+    record { within = h; equals = e; before = λ lower l q. let one = distinct lower row (omega arith) h (q ∙ sym e) in omega arith }
 
 -- so many rows were passed by a loop
 abbrev pub Sought : List ℕ → ℕ → ℕ → ℕ → Type 0
@@ -46,12 +66,16 @@ module _ (rows : List ℕ) (used word : ℕ) (fits : used ≤ length rows) where
   sought-end i h sought =
       passed-end _ (take used rows) i (omega (arith, length-used)) sought
 
-  pub equal-some : (row : ℕ) → equalRow rows used word ≡ some row → (row < used) × (getD rows row 0 ≡ word)
+  pub equal-some : (row : ℕ) → equalRow rows used word ≡ some row → First rows used word row
   unfolding equalRow
   equal-some row e =
       let is = lowest-is (λ row other. eqb other word) (take used rows) (some row) e in
       let inside : row < used = omega (arith, length-used) in
-      (inside, sym (getD-take used rows row 0 inside) ∙ eqb-true _ _ (is .1 .0))
+      record {
+        within = inside;
+        equals = sym (getD-take used rows row 0 inside) ∙ eqb-true _ _ (is .1 .0);
+        before = λ lower h q. eqb-false _ _ (is .1 .1 lower (omega arith) h) (getD-take used rows lower 0 (omega arith) ∙ q);
+      }
 
   pub equal-none : equalRow rows used word ≡ none → Absent rows used word
   unfolding equalRow
@@ -59,19 +83,19 @@ module _ (rows : List ℕ) (used word : ℕ) (fits : used ≤ length rows) where
       let fails = lowest-is (λ row other. eqb other word) (take used rows) none e row (omega arith) (omega (arith, length-used)) in
       eqb-false _ _ fails (getD-take used rows row 0 h ∙ q)
 
-  pub equal-here : (row : ℕ) → row < used → getD rows row 0 ≡ word → Distinct rows used → equalRow rows used word ≡ some row
-  equal-here row h e distinct = by (equalRow rows used word) refl
+  pub equal-here : (row : ℕ) → First rows used word row → equalRow rows used word ≡ some row
+  equal-here row first = by (equalRow rows used word) refl
     where
       by : (answer : Option ℕ) → equalRow rows used word ≡ answer → equalRow rows used word ≡ some row
-      by none q = absurd (equal-none q row h e)
-      by (some other) q = let is = equal-some other q in q ∙ ap some (distinct other row (is .0) h (is .1 ∙ sym e))
+      by none q = absurd (equal-none q row (first .within) (first .equals))
+      by (some other) q = q ∙ ap some (first-one rows used word (equal-some other q) first)
 
   pub equal-nowhere : Absent rows used word → equalRow rows used word ≡ none
   equal-nowhere absent = by (equalRow rows used word) refl
     where
       by : (answer : Option ℕ) → equalRow rows used word ≡ answer → equalRow rows used word ≡ none
       by none q = q
-      by (some row) q = let is = equal-some row q in absurd (absent row (is .0) (is .1))
+      by (some row) q = let first = equal-some row q in absurd (absent row (first .within) (first .equals))
 
 -- the cases of `locate`
 module _ (rows : List ℕ) (used word : ℕ) where
@@ -101,7 +125,7 @@ module _ (rows : List ℕ) (used word : ℕ) (place : Place) (is : place ≡ pla
   find-full e h = sym (locate-full rows used word (placed-nowhere _ is e) h)
 
   pub find-below : used ≤ length rows → (row : ℕ) → place ≡ places.At row → row < used
-  find-below fits row e = equal-some rows used word fits row (placed-at _ is e) .0
+  find-below fits row e = equal-some rows used word fits row (placed-at _ is e) .within
 
 pub ruleset find-ways = (find-there, find-new, find-full)
 
@@ -132,10 +156,9 @@ module _ (rows : List ℕ) (used word : ℕ) (fits : used ≤ length rows)
       let q = says ∙ e in
       (ap (λ (l : Located). l .found) q, subst P (ap (λ (l : Located). l .rows) (sym q)) p)
 
-  pub takes-equal-row : (row : ℕ) → row < used → getD rows row 0 ≡ word → Distinct rows used
-      → (found ≡ At (asTermRow row) used) × Kept rows after
-  takes-equal-row row h e distinct =
-      parts _ rows (Kept rows) (locate-there rows used word row (equal-here rows used word fits row h e distinct)) (kept rows)
+  pub takes-equal-row : (row : ℕ) → First rows used word row → (found ≡ At (asTermRow row) used) × Kept rows after
+  takes-equal-row row first =
+      parts _ rows (Kept rows) (locate-there rows used word row (equal-here rows used word fits row first)) (kept rows)
 
   pub takes-unused-row : Absent rows used word → used < length rows → (found ≡ At (asTermRow used) (used + 1)) × Wrote rows used word after
   takes-unused-row absent h =
