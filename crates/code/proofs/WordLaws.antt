@@ -76,6 +76,13 @@ good-iff kind word = (is-good (instructionOf word) refl, tests-good)
     tests-good : GoodWord kind word → T (wordFits kind word (instructionOf word))
     tests-good good = rw (good .says, eq-eqb (wordOf (good .instruction)) word (good .own)) (good .operands)
 
+-- so the word of an instruction with good operands is good
+pub own-word-good : (kind : ℕ → ℕ) (instruction : Instruction) → FieldsFit instruction → T (operandsFit kind instruction)
+    → T (goodWord kind (wordOf instruction))
+own-word-good kind instruction fits operands =
+    good-iff kind (wordOf instruction) .1
+    (record { instruction = instruction; says = word-read instruction fits; own = refl; operands = operands })
+
 -- 9: this word is bad and all before it are good
 abbrev pub LowestBadWord : (ℕ → ℕ) → List ℕ → ℕ → Type 0
 LowestBadWord kind code place = LowestBad (λ k word. GoodWord kind word) 0 code place

@@ -44,6 +44,7 @@ pub enum Read {
     Not,
 }
 
+// Operation, A, B and n in their fields; the sum fits even where n is too wide for its own.
 fn packed(operation: u32, a: u8, b: u8, n: u8) -> u32
     requires { ⌜ operation < 18 ⌝ }
     ensures { λ r. ⌜ r ≡ join wordWidths (operation ∷ a ∷ b ∷ n ∷ 0 ∷ []) ⌝ }
@@ -51,6 +52,7 @@ fn packed(operation: u32, a: u8, b: u8, n: u8) -> u32
     operation * 134217728 + (a as u32) * 524288 + (b as u32) * 2048 + (n as u32) * 256
 }
 
+// Operands go into A, then B.
 pub fn word_of(instruction: Instruction) -> u32
     ensures { λ r. ⌜ r ≡ wordOf instruction ⌝ }
 {
@@ -129,6 +131,7 @@ fn has_either(kinds: &[u8], v: Object, first: u8, second: u8) -> bool
     kind == first || kind == second
 }
 
+// Any kind but that of an undeclared variable.
 fn declared(kinds: &[u8], v: Object) -> bool
     ensures { λ r. ⌜ r ≡ hasKind (λ n. getD (now (kinds .entry)) n 0) v (1 ∷ 2 ∷ 3 ∷ 4 ∷ 5 ∷ 6 ∷ 7 ∷ 8 ∷ 9 ∷ 10 ∷ []) ⌝ }
 {
@@ -136,12 +139,14 @@ fn declared(kinds: &[u8], v: Object) -> bool
     1 <= kind && kind <= 10
 }
 
+// So many consecutive message cells, at most four.
 fn cells_fit(first: Raw, n: u8) -> bool
     ensures { λ r. ⌜ r ≡ cellsFit first n ⌝ }
 {
     n <= 4 && (first.0 as u32) + (n as u32) <= 256
 }
 
+// The kinds that figure 4 wants, and cells that are there.
 fn operands_fit(kinds: &[u8], instruction: Instruction) -> bool
     ensures { λ r. ⌜ r ≡ operandsFit (λ n. getD (now (kinds .entry)) n 0) instruction ⌝ }
 {
@@ -176,6 +181,7 @@ pub fn good_word(kinds: &[u8], word: u32) -> bool
     }
 }
 
+// Refusal 9.
 pub fn first_bad_word(kinds: &[u8], code: &[u32]) -> Place
     requires { ⌜ length (now code) ≤ 65536 ⌝ }
     ensures { λ r. ⌜ r ≡ placeOf (badWord (λ n. getD (now (kinds .entry)) n 0) (now (code .entry))) ⌝ }

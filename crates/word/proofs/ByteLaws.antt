@@ -7,7 +7,7 @@ use native.Mathlib.Numerals.{add-one}
 use native.Mathlib.Omega.{arith}
 use lib.Arith.{mod-mul, digits-div, digits-lt}
 use lib.Dec.{T, eqb→eq}
-use lib.ListN.{drop-of-length-le, length-set, length, getD, set, take, drop, length-append, length-drop, take-append-drop}
+use lib.ListN.{length, getD, set, take, drop, length-append, length-drop, length-set, take-append-drop, drop-of-length-le}
 use lib.Seq.{sets, sets-eq, take-at, drop-at, set-at, take-add, take-suc, drop-cons, drop-drop, drop-append-add, append-snoc, take-append-seam, take-all, length-take-le, take-length, length-sets, getD-drop}
 use lib.Pow.{pow-add}
 use Rattle.word.specs.Bytes.{number, bytesOf, words, spelled, whole, elements}
@@ -213,6 +213,11 @@ pub unpacked-all : (size : ℕ) (bytes before out : List ℕ) (count : ℕ) → 
 unpacked-all size bytes before out count so-far all =
     let here : length bytes / size ≡ count = omega arith in
     so-far .read ∙ rw here
+
+-- a slice that is filled has the elements alone
+pub filled : (size : ℕ) (bytes before : List ℕ) → length before ≤ length bytes / size
+    → elements size bytes ++ drop (length bytes / size) before ≡ elements size bytes
+filled size bytes before full = rw (drop-of-length-le before full, append-nil)
 
 pub packed-none : (size : ℕ) (values before : List ℕ) → Packed size values before before 0
 unfolding spelled
