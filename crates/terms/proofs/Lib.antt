@@ -1,0 +1,2 @@
+-- Laws of term rows and of the term table.
+pub mod RowLaws
