@@ -4,3 +4,4 @@ pub mod Row
 pub mod Rules
 pub mod Tree
 pub mod Kinds
+pub mod Marks

@@ -1,3 +1,4 @@
 -- Laws of packed fields and of tests over lists.
 pub mod FieldLaws
 pub mod LowestLaws
+pub mod ScanLaws

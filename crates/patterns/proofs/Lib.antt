@@ -1,0 +1,6 @@
+-- Laws of pattern rows.
+pub mod ArmLaws
+pub mod RowLaws
+pub mod SlotLaws
+pub mod MarkLaws
+pub mod CheckLaws
