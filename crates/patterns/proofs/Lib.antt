@@ -4,3 +4,5 @@ pub mod RowLaws
 pub mod SlotLaws
 pub mod MarkLaws
 pub mod CheckLaws
+pub mod TreeLaws
+pub mod KindLaws

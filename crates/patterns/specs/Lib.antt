@@ -5,3 +5,4 @@ pub mod Rules
 pub mod Tree
 pub mod Kinds
 pub mod Marks
+pub mod RowKinds

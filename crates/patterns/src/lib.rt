@@ -1,8 +1,10 @@
 // Patterns: figure 1 as rows.
 
+pub mod kinds;
 pub mod row;
 pub mod rules;
 
+pub use kinds::first_wrong_kind;
 pub use row::count;
 pub use row::key_form;
 pub use row::raw;
