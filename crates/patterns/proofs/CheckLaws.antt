@@ -9,7 +9,7 @@ use native.Mathlib.Omega.{arith}
 use lib.ListN.{length, getD, take, length-take}
 use lib.Seq.{take-suc, take-all, getD-take, length-take-le}
 use Rattle.word.specs.Lowest.{lowest, oneOf}
-use Rattle.word.proofs.LowestLaws.{All, at-all}
+use Rattle.word.proofs.All.{All, at-all}
 use Rattle.word.proofs.ScanLaws.{Left, scan-hit, scan-miss, scan-end, lowest-same}
 use Rattle.patterns.specs.declared.rules.Taken.{Taken}
 use Rattle.patterns.specs.Row.{fieldsOf, childrenOf}

@@ -10,7 +10,7 @@ use lib.ListN.{length, getD, take, drop, set, length-set, drop-of-length-le, rep
 use lib.Seq.{drop-cons, getD-set-same, getD-set-other}
 use lib.Dec.{eqb}
 use Rattle.word.specs.Lowest.{oneOf}
-use Rattle.word.proofs.LowestLaws.{All}
+use Rattle.word.proofs.All.{All}
 use Rattle.patterns.specs.declared.rules.Taken.{Taken}
 use Rattle.patterns.specs.Rules.{repeats}
 use Rattle.patterns.specs.Marks.{takeOne, takeAll, Marked}

@@ -8,7 +8,7 @@ use lib.ListN.{length, take, replicate}
 use lib.Arith.{digits-lt}
 use lib.Pow.{pow-add, pow-pos, mod-pow-add, high}
 use Rattle.word.specs.Fields.{total, split, join}
-use Rattle.word.proofs.LowestLaws.{All}
+use Rattle.word.proofs.All.{All}
 
 -- values that fit their fields, at most as many as there are fields
 abbrev pub Fit : List ℕ → List ℕ → Type 0
