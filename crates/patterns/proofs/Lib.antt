@@ -6,3 +6,5 @@ pub mod MarkLaws
 pub mod CheckLaws
 pub mod TreeLaws
 pub mod KindLaws
+pub mod GoodRow
+pub mod RuleLaws

@@ -15,7 +15,7 @@ use Rattle.patterns.specs.declared.rules.Taken.{Taken}
 use Rattle.patterns.specs.Rules.{repeats}
 use Rattle.patterns.specs.Marks.{takeOne, takeAll, Marked}
 
-one-append : (front back : List ℕ) (n : ℕ) → oneOf (front ++ back) n ≡ (oneOf front n || oneOf back n)
+pub one-append : (front back : List ℕ) (n : ℕ) → oneOf (front ++ back) n ≡ (oneOf front n || oneOf back n)
 unfolding oneOf
 one-append [] back n = refl
 one-append (k ∷ front) back n = rw (one-append front back n, or-assoc)
