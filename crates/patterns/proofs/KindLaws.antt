@@ -13,18 +13,18 @@ use Rattle.patterns.specs.Pattern.{Key, plainKey, Pattern, object}
 use Rattle.patterns.specs.Row.{Fields, fieldsOf}
 use Rattle.patterns.specs.Tree.{keyBy, formsBy, formBy, noPattern, patternsOf}
 use Rattle.patterns.specs.Kinds.{encryptionKey, signatureKey, formKinds, wrongKind}
-use Rattle.patterns.specs.RowKinds.{rowKinds}
+use Rattle.patterns.specs.RowKinds.{kindsBy, rowKinds}
 use Rattle.patterns.proofs.TreeLaws.{patterns-length, formed}
 
 module _ (create : Bool) (kind : ℕ → ℕ) where
   -- the form of a row looks at the row's own fields alone
   pub form-kinds : (below : ℕ → Pattern) (place : ℕ) (row : Fields) → formKinds create kind (formBy below place row) ≡ rowKinds create kind row
-  unfolding rowKinds
+  unfolding kindsBy
   form-kinds below place row = sym (List·getD-map (formKinds create kind) (formsBy below place row) (row .tag) (object place (row .v)))
 
   -- a tag past the table is taken for a bare variable
   pub kinds-past : (row : Fields) → 10 ≤ row .tag → rowKinds create kind row ≡ (leb 1 (kind (row .v)) && leb (kind (row .v)) 9)
-  unfolding rowKinds
+  unfolding kindsBy
   kinds-past row more =
       let e : row .tag ≡ suc (suc (suc (suc (suc (suc (suc (suc (suc (suc (row .tag - 10)))))))))) = omega arith in
       rw e
@@ -61,6 +61,6 @@ eqb-swap m n = go (eqb m n) refl
     go true e = sym (eq-eqb n m (sym (eqb-true m n e)))
     go false e = sym (ne-eqb n m λ same. eqb-false m n e (sym same))
 
-pub one-of-two : (n a b : ℕ) → (eqb n a || eqb n b) ≡ oneOf (a ∷ b ∷ []) n
+pub one-of-pair : (n a b : ℕ) → (eqb n a || eqb n b) ≡ oneOf (a ∷ b ∷ []) n
 unfolding oneOf
-one-of-two n a b = rw (eqb-swap n a, eqb-swap n b, or-false)
+one-of-pair n a b = rw (eqb-swap n a, eqb-swap n b, or-false)

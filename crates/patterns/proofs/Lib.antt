@@ -8,3 +8,4 @@ pub mod TreeLaws
 pub mod KindLaws
 pub mod GoodRow
 pub mod RuleLaws
+pub mod RightRow

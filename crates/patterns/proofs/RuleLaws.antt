@@ -228,3 +228,11 @@ module _ (rows : List ℕ) where
       into : (o : Option ℕ) → lowest (badRow rows) rows ≡ o → badPattern rows ≡ none → NoneWith (BadRow rows) (length rows) × NoneWith (Unnamed rows) (length rows - 1)
       into none e h = (no-row .0 e, no-unnamed .0 (sym (second e) ∙ h))
       into (some j) e h = let clash : some j ≡ none = sym (first j e) ∙ h in let z : _≡_ {A = ℕ} 0 1 = cc in absurd (omega arith)
+
+  -- then every row is good in itself
+  pub all-good : badPattern rows ≡ none → (place : ℕ) → place < length rows → GoodRow place (fieldsAt rows place)
+  all-good passed place inside = go (rowFits place (fieldsAt rows place)) refl
+    where
+      go : (fits : Bool) → rowFits place (fieldsAt rows place) ≡ fits → GoodRow place (fieldsAt rows place)
+      go true e = good-row place (fieldsAt rows place) .0 (rw e tt)
+      go false e = absurd (bad-pattern-none .0 passed .0 place inside (inl λ g. rw e at (good-row place (fieldsAt rows place) .1 g)))

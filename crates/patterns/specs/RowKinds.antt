@@ -8,9 +8,9 @@ use Rattle.patterns.specs.Row.{Fields}
 use Rattle.patterns.specs.Tree.{keyBy}
 use Rattle.patterns.specs.Kinds.{encryptionKey, signatureKey}
 
--- the kinds of V, Y and the key, by the tag
-unfoldable pub rowKinds : Bool → (ℕ → ℕ) → Fields → Bool
-rowKinds create kind row =
+-- the kinds of V, Y and the key, by a tag
+unfoldable pub kindsBy : Bool → (ℕ → ℕ) → Fields → ℕ → Bool
+kindsBy create kind row tag =
     getD
     ((leb 1 (kind (row .v)) && leb (kind (row .v)) 9)
     ∷ true
@@ -23,4 +23,7 @@ rowKinds create kind row =
     ∷ eqb (kind (row .v)) 10
     ∷ true
     ∷ [])
-    (row .tag) (leb 1 (kind (row .v)) && leb (kind (row .v)) 9)
+    tag (leb 1 (kind (row .v)) && leb (kind (row .v)) 9)
+
+abbrev pub rowKinds : Bool → (ℕ → ℕ) → Fields → Bool
+rowKinds create kind row = kindsBy create kind row (row .tag)

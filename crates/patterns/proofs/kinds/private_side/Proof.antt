@@ -1,6 +1,6 @@
 use mathlib.Core.Path.{_∙_}
 use Rattle.patterns.specs.Row.{fieldsOf}
-use Rattle.patterns.proofs.KindLaws.{one-of-two, plain-else}
+use Rattle.patterns.proofs.KindLaws.{one-of-pair, plain-else}
 use borrow.Author.Needs.{needs}
 use Rattle.patterns.proofs.kinds.private_side.Statement.{statement}
 use Rattle.patterns.proofs.kinds.private_side.Tie as tie
@@ -24,7 +24,7 @@ returns-3 : tie.Need-returns-3
 returns-3 c =
     let read = c .before .before in
     let form = c .before .key-form .ensures in
-    one-of-two (read .kind-of .result) 5 6 ∙ rw (plain-else (fieldsOf (read .before .before .before .args .word)) (λ op. c .match .rest .0 .1 (form ∙ op)) (λ own. c .match .rest .1 (form ∙ own)), read .kind-of .ensures, read .before .x .ensures)
+    one-of-pair (read .kind-of .result) 5 6 ∙ rw (plain-else (fieldsOf (read .before .before .before .args .word)) (λ op. c .match .rest .0 .1 (form ∙ op)) (λ own. c .match .rest .1 (form ∙ own)), read .kind-of .ensures, read .before .x .ensures)
 
 pub private-side-spec : {M : Type 1} → statement M
 private-side-spec =

@@ -1,5 +1,5 @@
 use Rattle.patterns.specs.Row.{fieldsOf}
-use Rattle.patterns.specs.RowKinds.{rowKinds}
+use Rattle.patterns.specs.RowKinds.{kindsBy}
 use Rattle.patterns.proofs.ArmLaws.{past}
 use Rattle.patterns.proofs.KindLaws.{other-way, kinds-past}
 use borrow.Author.Needs.{needs}
@@ -28,43 +28,43 @@ key-fits-requires-2 : tie.Need-key-fits-requires-2
 key-fits-requires-2 c κs = search needs
 
 returns : tie.Need-returns
-unfolding rowKinds
+unfolding kindsBy
 returns c = rw (← c .before .tag .ensures, c .match .keys1, c .before .before .before .before .kind-of .ensures, c .before .before .before .before .before .variable .ensures)
 
 returns-2 : tie.Need-returns-2
-unfolding rowKinds
+unfolding kindsBy
 returns-2 c = rw (← c .before .tag .ensures, c .match .keys2)
 
 returns-3 : tie.Need-returns-3
-unfolding rowKinds
+unfolding kindsBy
 returns-3 c = rw (← c .before .tag .ensures, c .match .keys3, c .before .before .before .before .kind-of .ensures, c .before .before .before .before .before .variable .ensures)
 
 returns-4 : tie.Need-returns-4
-unfolding rowKinds
+unfolding kindsBy
 returns-4 c = rw (← c .before .tag .ensures, c .match .keys4, c .before .before .before .before .kind-of .ensures, c .before .before .before .before .before .variable .ensures, c .before .before .kind-of2 .ensures, c .before .before .before .y .ensures)
 
 returns-5 : tie.Need-returns-5
-unfolding rowKinds
+unfolding kindsBy
 returns-5 c = rw (← c .before .tag .ensures, c .match .keys5, c .before .before .before .before .kind-of .ensures, c .before .before .before .before .before .variable .ensures, c .before .before .kind-of2 .ensures, c .before .before .before .y .ensures)
 
 returns-6 : tie.Need-returns-6
-unfolding rowKinds
+unfolding kindsBy
 returns-6 c = rw (← c .before .before .tag .ensures, c .before .match .keys6, c .key-fits .ensures, c .before .before .before .before .before .kind-of .ensures, c .before .before .before .before .before .before .variable .ensures)
 
 returns-7 : tie.Need-returns-7
-unfolding rowKinds
+unfolding kindsBy
 returns-7 c = rw (← c .before .before .tag .ensures, c .before .match .keys7, c .key-fits2 .ensures, c .before .before .before .before .before .kind-of .ensures, c .before .before .before .before .before .before .variable .ensures, other-way)
 
 returns-8 : tie.Need-returns-8
-unfolding rowKinds
+unfolding kindsBy
 returns-8 c = rw (← c .before .tag .ensures, c .match .keys8, c .before .before .before .before .kind-of .ensures, c .before .before .before .before .before .variable .ensures)
 
 returns-9 : tie.Need-returns-9
-unfolding rowKinds
+unfolding kindsBy
 returns-9 c = rw (← c .before .tag .ensures, c .match .keys9, c .before .before .before .before .kind-of .ensures, c .before .before .before .before .before .variable .ensures)
 
 returns-10 : tie.Need-returns-10
-unfolding rowKinds
+unfolding kindsBy
 returns-10 c = rw (← c .before .tag .ensures, c .match .keys10)
 
 returns-11 : tie.Need-returns-11
