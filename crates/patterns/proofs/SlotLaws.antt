@@ -56,7 +56,7 @@ module _ (test : ℕ → Bool) (a b c d : ℕ) where
       (sym (ap (each test) (drop-nil n) ∙ each-none test))
 
 -- what holds of any four numbers holds of a list of four
-four : (P : List ℕ → Type 0) → ((a b c d : ℕ) → P (a ∷ b ∷ c ∷ d ∷ [])) → (slots : List ℕ) → length slots ≡ 4 → P slots
+pub four : (P : List ℕ → Type 0) → ((a b c d : ℕ) → P (a ∷ b ∷ c ∷ d ∷ [])) → (slots : List ℕ) → length slots ≡ 4 → P slots
 four P h [] l = absurd (omega arith)
 four P h (a ∷ []) l = absurd (omega arith)
 four P h (a ∷ b ∷ []) l = absurd (omega arith)
