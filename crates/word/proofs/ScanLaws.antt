@@ -1,8 +1,8 @@
--- How a loop goes through `lowest`, and which tests give the same answer. Assumes nothing.
+-- How a loop goes through `lowest` and `each`, and which tests give the same answer. Assumes nothing.
 use Prim.Native.Nat.{ℕ, suc, _+_, _<_, _≤_}
 use mathlib.Core.Path.{_≡_, refl, sym, _∙_}
 use mathlib.Core.Logic.{_↔_}
-use mathlib.Core.Bool.{Bool, true, false}
+use mathlib.Core.Bool.{Bool, true, false, _&&_}
 use mathlib.Core.Option.{Option, none, some}
 use mathlib.Core.List.{List, [], _∷_}
 use native.Mathlib.Numerals.{add-one}
@@ -10,7 +10,7 @@ use native.Mathlib.Omega.{arith}
 use lib.ListN.{length, getD, drop, drop-of-length-le}
 use lib.Seq.{drop-cons}
 use lib.Dec.{T, T-not, not-T}
-use Rattle.word.specs.Lowest.{lowestFrom, lowest}
+use Rattle.word.specs.Lowest.{lowestFrom, lowest, each}
 use Rattle.word.proofs.LowestLaws.{passes, lowest-none, lowest-some}
 
 module _ {A : Type 0} (test : ℕ → A → Bool) where
@@ -97,3 +97,33 @@ module _ {A : Type 0} (test : ℕ → A → Bool) (P : ℕ → Type 0) (all : Li
           earlier = λ j less. not-T (passes test default all j) λ t. h .earlier j less (says j (omega arith) .0 t);
         }),
   )
+
+-- a loop over all elements: what is left gives the answer
+module _ {A : Type 0} (test : A → Bool) where
+  pub each-none : each test [] ≡ true
+  unfolding each
+  each-none = refl
+
+  pub each-more : (a : A) (rest : List A) → each test (a ∷ rest) ≡ (test a && each test rest)
+  unfolding each
+  each-more a rest = go (test a)
+    where
+      go : (b : Bool) → elim b [ true ↦ each test rest | false ↦ false ] ≡ (b && each test rest)
+      go true = refl
+      go false = refl
+
+  abbrev pub EachLeft : List A → ℕ → Type 0
+  EachLeft all i = each test all ≡ each test (drop i all)
+
+  module _ (all : List A) (default : A) (i : ℕ) (left : EachLeft all i) where
+    each-here : i < length all → each test all ≡ (test (getD all i default) && each test (drop (suc i) all))
+    each-here inside = left ∙ rw (drop-cons all i default, each-more)
+
+    pub each-stop : i < length all → test (getD all i default) ≡ false → each test all ≡ false
+    each-stop inside h = each-here inside ∙ rw h
+
+    pub each-next : i < length all → test (getD all i default) ≡ true → EachLeft all (i + 1)
+    each-next inside h = each-here inside ∙ rw (h, add-one)
+
+    pub each-end : length all ≤ i → each test all ≡ true
+    each-end past = left ∙ rw (drop-of-length-le all {i = i} past, each-none)
