@@ -55,17 +55,18 @@ abbrev pub unchanged : Ran → Lent → RunOutcome
 unchanged answer x =
     record { answer = answer; objects = x .objects; messages = x .messages; accumulator = x .accumulator; terms = x .terms; counter = x .counter }
 
--- the lent numbers as a state of the machine at rows
-unfoldable pub stateOf : Lent → State rowWorld
-stateOf x = record {
-  accumulator = held (x .accumulator);
-  scratches = storeOf (drop namedCells (x .messages));
-  stores = record {
-    σ = storeOf (x .objects);
-    ρ = storeOf (take namedCells (x .messages));
-    memory = record { rows = x .terms; used = usedRows (x .terms); counter = x .counter; certificates = x .certificates };
-  };
+-- an accumulator, cells and a table as a state of the machine at rows
+unfoldable pub stateOver : ℕ → List ℕ → List ℕ → Table → State rowWorld
+stateOver accumulator objects messages table = record {
+  accumulator = held accumulator;
+  scratches = storeOf (drop namedCells messages);
+  stores = record { σ = storeOf objects; ρ = storeOf (take namedCells messages); memory = table };
 }
+
+abbrev pub stateOf : Lent → State rowWorld
+stateOf x =
+    stateOver (x .accumulator) (x .objects) (x .messages)
+    (record { rows = x .terms; used = usedRows (x .terms); counter = x .counter; certificates = x .certificates })
 
 -- and back
 unfoldable pub leftBy : Ran → State rowWorld → RunOutcome

@@ -1,0 +1,2 @@
+-- Figure 4 over the lent slices.
+pub mod Machine
