@@ -1,17 +1,17 @@
 -- The tree of a pattern that passes. Assumes nothing.
 use Prim.Native.Nat.{ℕ, zero, suc, _+_, _-_, _<_, _≤_}
 use mathlib.Core.Path.{_≡_, refl, _∙_, ap, ap₂, subst}
-use mathlib.Core.Logic.{_⊎_, inl, inr, ⊎-elim}
+use mathlib.Core.Logic.{⊎-elim}
 use mathlib.Core.Bool.{Bool, true, false, not}
 use mathlib.Core.Option.{none}
 use mathlib.Core.List.{List, [], _∷_, _++_, flatMap}
 use native.Mathlib.Nat.{le-refl}
 use native.Mathlib.Omega.{arith}
-use borrow.Author.Tests.{ltb-true, ltb-false}
 use lib.ListN.{length, getD, take, List·getD-eq-default}
 use lib.Seq.{take-length}
-use lib.Dec.{T, ltb}
+use lib.Dec.{T}
 use Rattle.word.proofs.LowestLaws.{lowest-none}
+use Rattle.word.proofs.ScanLaws.{lt-or-ge}
 use Rattle.word.proofs.All.{All, all-at, all-getD, all-map}
 use Rattle.patterns.specs.Pattern.{Pattern, object, encryption, tuple, letIn, part, size, sizes, RawsBelow, PartsBelow}
 use Rattle.patterns.specs.Row.{Fields, fieldsOf, childrenOf}
@@ -34,13 +34,6 @@ from-below P step n = step n (below n)
     below : (n k : ℕ) → k < n → P k
     below zero k less = absurd (omega arith)
     below (suc n) k less = step k λ j l. below n j (omega arith)
-
-lt-or-ge : (m n : ℕ) → (m < n) ⊎ (n ≤ m)
-lt-or-ge m n = go (ltb m n) refl
-  where
-    go : (b : Bool) → ltb m n ≡ b → (m < n) ⊎ (n ≤ m)
-    go true e = inl (ltb-true m n e)
-    go false e = inr (ltb-false m n e)
 
 not-T-not : (b : Bool) → T (not (not b)) → T b
 not-T-not true h = h

@@ -1,17 +1,25 @@
 -- How a loop goes through `lowest` and `each`, and which tests give the same answer. Assumes nothing.
 use Prim.Native.Nat.{ℕ, suc, _+_, _<_, _≤_}
 use mathlib.Core.Path.{_≡_, refl, sym, _∙_}
-use mathlib.Core.Logic.{_↔_}
+use mathlib.Core.Logic.{_↔_, _⊎_, inl, inr}
 use mathlib.Core.Bool.{Bool, true, false, _&&_}
 use mathlib.Core.Option.{Option, none, some}
 use mathlib.Core.List.{List, [], _∷_}
 use native.Mathlib.Numerals.{add-one}
 use native.Mathlib.Omega.{arith}
+use borrow.Author.Tests.{ltb-true, ltb-false}
 use lib.ListN.{length, getD, drop, drop-of-length-le}
 use lib.Seq.{drop-cons}
-use lib.Dec.{T, T-not, not-T}
+use lib.Dec.{T, T-not, not-T, ltb}
 use Rattle.word.specs.Lowest.{lowestFrom, lowest, each}
 use Rattle.word.proofs.LowestLaws.{passes, lowest-none, lowest-some}
+
+pub lt-or-ge : (m n : ℕ) → (m < n) ⊎ (n ≤ m)
+lt-or-ge m n = go (ltb m n) refl
+  where
+    go : (b : Bool) → ltb m n ≡ b → (m < n) ⊎ (n ≤ m)
+    go true e = inl (ltb-true m n e)
+    go false e = inr (ltb-false m n e)
 
 module _ {A : Type 0} (test : ℕ → A → Bool) where
   lowest-hit : (i : ℕ) (a : A) (rest : List A) → test i a ≡ true → lowestFrom i test (a ∷ rest) ≡ some i
@@ -112,18 +120,15 @@ module _ {A : Type 0} (test : A → Bool) where
       go true = refl
       go false = refl
 
-  abbrev pub EachLeft : List A → ℕ → Type 0
-  EachLeft all i = each test all ≡ each test (drop i all)
-
-  module _ (all : List A) (default : A) (i : ℕ) (left : EachLeft all i) where
-    each-here : i < length all → each test all ≡ (test (getD all i default) && each test (drop (suc i) all))
+  module _ (whole : Bool) (all : List A) (default : A) (i : ℕ) (left : whole ≡ each test (drop i all)) where
+    each-here : i < length all → whole ≡ (test (getD all i default) && each test (drop (suc i) all))
     each-here inside = left ∙ rw (drop-cons all i default, each-more)
 
-    pub each-stop : i < length all → test (getD all i default) ≡ false → each test all ≡ false
+    pub each-stop : i < length all → test (getD all i default) ≡ false → whole ≡ false
     each-stop inside h = each-here inside ∙ rw h
 
-    pub each-next : i < length all → test (getD all i default) ≡ true → EachLeft all (i + 1)
+    pub each-next : i < length all → test (getD all i default) ≡ true → whole ≡ each test (drop (i + 1) all)
     each-next inside h = each-here inside ∙ rw (h, add-one)
 
-    pub each-end : length all ≤ i → each test all ≡ true
+    pub each-end : length all ≤ i → whole ≡ true
     each-end past = left ∙ rw (drop-of-length-le all {i = i} past, each-none)
