@@ -4,5 +4,6 @@ pub mod FieldLaws
 pub mod All
 pub mod TestLaws
 pub mod LowestLaws
+pub mod ScanLaws
 pub mod SearchLaws
 pub mod OneOfLaws
