@@ -57,7 +57,7 @@ fn stands_nowhere(certificates: &[u64], from: usize, agent: u16) -> bool
 }
 
 // No agent twice.
-fn agents_once(certificates: &[u64]) -> bool
+pub fn agents_once(certificates: &[u64]) -> bool
     ensures { λ r. ⌜ r ≡ agentsOnce (now (certificates .entry)) ⌝ }
 {
     let mut i = 0;
