@@ -22,6 +22,10 @@ pub raw-below : (word : ℕ) → fieldsOf word .r < 64
 unfolding fieldsOf
 raw-below word = omega arith
 
+pub byte-below : (word : ℕ) → fieldsOf word .x < 256
+unfolding fieldsOf
+byte-below word = omega arith
+
 pub children-count : (word : ℕ) → length (childrenOf word) ≡ min (fieldsOf word .n) 4
 unfolding fieldsOf
 children-count word = length-take (fieldsOf word .n) (fieldsOf word .slots)

@@ -13,13 +13,13 @@ use lib.Dec.{T}
 use Rattle.word.proofs.LowestLaws.{lowest-none}
 use Rattle.word.proofs.ScanLaws.{lt-or-ge}
 use Rattle.word.proofs.All.{All, all-at, all-getD, all-map}
-use Rattle.patterns.specs.Pattern.{Pattern, object, encryption, tuple, letIn, part, size, sizes, RawsBelow, PartsBelow}
+use Rattle.patterns.specs.Pattern.{Pattern, object, encryption, tuple, letIn, part, count, size, sizes, RawsBelow, PartsBelow, Packed, PackedParts}
 use Rattle.patterns.specs.Row.{Fields, fieldsOf, childrenOf}
 use Rattle.patterns.specs.Rules.{named, badPattern}
 use Rattle.patterns.specs.Tree.{keyBy, partsBy, formsBy, formBy, noPattern, patternAt, patternsOf, patternOf}
 use Rattle.patterns.specs.Kinds.{formKinds, wrongKind, RightKinds, RightParts}
 use Rattle.patterns.proofs.ArmLaws.{below-ten}
-use Rattle.patterns.proofs.RowLaws.{slots-four, raw-below, children-count, child-slot}
+use Rattle.patterns.proofs.RowLaws.{slots-four, raw-below, byte-below, children-count, child-slot}
 use Rattle.patterns.proofs.SlotLaws.{four}
 use Rattle.patterns.proofs.SumLaws.{times, sumOver, sumBelow, sum-append, sum-once, times-some, fresh-all}
 pub use Rattle.patterns.proofs.FormLaws.{patterns-length, formed}
@@ -207,21 +207,50 @@ raws-form below raws place word =
     all-getD (RawsBelow 64) (formsBy below place (fieldsOf word)) (object place (fieldsOf word .v))
     (tt, (r, (tt, (tt, (tt, (raws _, (r, (r, (parts-raws below raws (childrenOf word), ((r, raws _, raws _), tt)))))))))) tt (fieldsOf word .tag)
 
-pub raws-below : (rows : List ℕ) → RawsBelow 64 (patternOf rows)
-unfolding patternOf RawsBelow
-raws-below rows = from-below (λ place. RawsBelow 64 (all place)) row-raws (length rows - 1)
+-- what every form has over patterns that have it, the pattern of any rows has
+every-pattern : (P : Pattern → Type 0) → P noPattern → ((below : ℕ → Pattern) → ((row : ℕ) → P (below row)) → (place word : ℕ) → P (formBy below place (fieldsOf word)))
+    → (rows : List ℕ) → P (patternOf rows)
+unfolding patternOf
+every-pattern P absent form rows = from-below (λ place. P (all place)) row-has (length rows - 1)
   where
     all : ℕ → Pattern
     all = patternAt (patternsOf rows)
 
-    inside : (place : ℕ) → ((row : ℕ) → row < place → RawsBelow 64 (all row)) → place < length rows → RawsBelow 64 (all place)
+    inside : (place : ℕ) → ((row : ℕ) → row < place → P (all row)) → place < length rows → P (all place)
     inside place before less =
-        let form = formed rows place less in
-        rw (form .form)
-        (raws-form (form .below)
-        (λ row. ⊎-elim (λ (l : row < place). rw (form .before row l) (before row l)) (λ (l : place ≤ row). rw (form .beyond row l) tt) (lt-or-ge row place)) place (getD rows place 0))
+        let is = formed rows place less in
+        rw (is .form)
+        (form (is .below)
+        (λ row. ⊎-elim (λ (l : row < place). rw (is .before row l) (before row l)) (λ (l : place ≤ row). rw (is .beyond row l) absent) (lt-or-ge row place)) place (getD rows place 0))
 
-    row-raws : (place : ℕ) → ((row : ℕ) → row < place → RawsBelow 64 (all row)) → RawsBelow 64 (all place)
-    row-raws place before =
+    row-has : (place : ℕ) → ((row : ℕ) → row < place → P (all row)) → P (all place)
+    row-has place before =
         ⊎-elim (inside place before)
-        (λ (l : length rows ≤ place). rw (List·getD-eq-default (patternsOf rows) noPattern {n = place} (rw (patterns-length rows) l)) tt) (lt-or-ge place (length rows))
+        (λ (l : length rows ≤ place). rw (List·getD-eq-default (patternsOf rows) noPattern {n = place} (rw (patterns-length rows) l)) absent) (lt-or-ge place (length rows))
+
+pub raws-below : (rows : List ℕ) → RawsBelow 64 (patternOf rows)
+unfolding RawsBelow
+raws-below = every-pattern (RawsBelow 64) tt raws-form
+
+-- a byte is of eight bits, and there are four slots
+parts-packed : (below : ℕ → Pattern) → ((row : ℕ) → Packed (below row)) → (children : List ℕ) → PackedParts (partsBy below children)
+unfolding PackedParts
+parts-packed below packed [] = tt
+parts-packed below packed (child ∷ rest) = (packed child, parts-packed below packed rest)
+
+parts-count : (below : ℕ → Pattern) (children : List ℕ) → count (partsBy below children) ≡ length children
+unfolding count
+parts-count below [] = refl
+parts-count below (child ∷ rest) = ap suc (parts-count below rest)
+
+packed-form : (below : ℕ → Pattern) → ((row : ℕ) → Packed (below row)) → (place word : ℕ) → Packed (formBy below place (fieldsOf word))
+unfolding Packed
+packed-form below packed place word =
+    let b = byte-below word in
+    let few : count (partsBy below (childrenOf word)) ≤ 4 = omega (arith, parts-count below (childrenOf word), children-count word) in
+    all-getD Packed (formsBy below place (fieldsOf word)) (object place (fieldsOf word .v))
+    (tt, (tt, (b, (tt, (tt, (packed _, (tt, (tt, ((few, parts-packed below packed (childrenOf word)), ((packed _, packed _), tt)))))))))) tt (fieldsOf word .tag)
+
+pub packed : (rows : List ℕ) → Packed (patternOf rows)
+unfolding Packed
+packed = every-pattern Packed tt packed-form
