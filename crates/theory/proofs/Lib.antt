@@ -32,3 +32,4 @@ pub mod ValidLent
 pub mod RowsKept
 pub mod ValidAgain
 pub mod CompileLaws
+pub mod CompiledWords
