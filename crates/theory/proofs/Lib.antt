@@ -33,3 +33,5 @@ pub mod RowsKept
 pub mod ValidAgain
 pub mod CompileLaws
 pub mod CompiledWords
+pub mod Product
+pub mod RunLaws
