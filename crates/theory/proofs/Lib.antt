@@ -35,3 +35,4 @@ pub mod CompileLaws
 pub mod CompiledWords
 pub mod Product
 pub mod RunLaws
+pub mod Demand3

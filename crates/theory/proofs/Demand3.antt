@@ -1,0 +1,97 @@
+-- The run of compiled code on valid stores with those set cells, and enough room: finished with what the figures give, or stuck where they give nothing.
+use mathlib.Core.Path.{_≡_, refl, sym, _∙_, ap, subst, fun-ext}
+use mathlib.Core.Bool.{Bool, true, false, cond, not}
+use mathlib.Core.Option.{Option, none, some, Option·map}
+use mathlib.Core.List.{List, [], _∷_, map}
+use Prim.Native.Nat.{ℕ, _≤_}
+use native.Mathlib.Omega.{arith}
+use lib.Dec.{T, eqb}
+use lib.ListN.{length, getD, take, length-map}
+use Rattle.word.proofs.All.{All, all-map}
+use Rattle.answers.specs.Numbers.{reasonOf}
+use Rattle.answers.specs.declared.Reason.{Reason}
+use Rattle.answers.specs.declared.Compiled.the-variants as Compiled
+use Rattle.answers.specs.declared.Ran.the-variants as Ran
+use Rattle.code.specs.Instruction.{wordOf}
+use Rattle.code.specs.Words.{operandsFit}
+use Rattle.code.specs.declared.Instruction.{Instruction}
+use Rattle.code.specs.declared.Instruction.the-variants.{Load, Store, StoreConst, Decode, Encode, Create, AnalyzeTuple, CreateTuple, Opposite, KeyOf, Match, Encrypt, Decrypt, Sign, Verify, Hash}
+use Rattle.stores.specs.Cells.{unset, isSet, held, storeOf}
+use Rattle.patterns.specs.Pattern.{Pattern}
+use Rattle.patterns.specs.Tree.{patternOf}
+use Rattle.patterns.specs.Kinds.{RightKinds}
+use Rattle.patterns.proofs.TreeLaws.{raws-below}
+use Rattle.theory.specs.Outcome.{Outcome, done, stuck, room, bind, isSome}
+use Rattle.theory.specs.RowModel.{rowWorld}
+use Rattle.theory.specs.TermModel.{Term, termWorld}
+use Rattle.theory.specs.Machine.{Line, Stores, State, exec, namedCells}
+use Rattle.theory.specs.Emission.{Env, ok}
+use Rattle.theory.specs.Compilers.{compile↓, compile↑}
+use Rattle.theory.specs.Rules.{match, create}
+use Rattle.theory.specs.Figure2.{TermStores, Matches}
+use Rattle.theory.specs.Figure3.{Creates}
+use Rattle.theory.specs.Compile.{kindIn, codeWords, entry, compile}
+use Rattle.theory.specs.Run.{Lent, RunOutcome, stateOver, stateOf, leftBy, unchanged, ended, linesOf, run}
+use Rattle.theory.proofs.Compiled.{known, storesOf, messageOf, madeOf, matching-runs, creating-runs}
+use Rattle.theory.proofs.MatchingRules.{matches-is-done, done-is-matches}
+use Rattle.theory.proofs.CreatingRules.{creates-is-done, done-is-creates}
+use Rattle.theory.proofs.InLimits.{InRange, AllInRange, InLimits}
+use Rattle.theory.proofs.Fitting.{ByteFits}
+use Rattle.theory.proofs.Places.{movedTo, same-instructions}
+use Rattle.theory.proofs.Related.{SameEnd, both-done, both-stuck}
+use Rattle.theory.proofs.Meaning.{meaning}
+use Rattle.theory.proofs.RowsRunAsTerms.{ValidState, termsOf, Reads}
+use Rattle.theory.proofs.Room.{Free, rows-end-as-terms}
+use Rattle.theory.proofs.ValidLent.{Accepted, accepted-state}
+use Rattle.theory.proofs.CompiledWords.{compiled-words-good, compiled-words-read}
+use Rattle.theory.proofs.CompileLaws.{Compiles}
+use Rattle.theory.proofs.Product.{Written, compile-writes}
+use Rattle.theory.proofs.RunLaws.{run-steps}
+
+-- compile sees of a cell what the rules see of its term: whether it is set
+set-some : (means : ℕ → Term) (cell : ℕ) → isSet cell ≡ isSome (Option·map means (held cell))
+unfolding held
+set-some means cell = go (eqb cell 65535)
+  where
+    go : (b : Bool) → not b ≡ isSome (Option·map means (cond b none (some cell)))
+    go true = refl
+    go false = refl
+
+module _ (x : Lent) where
+  abbrev kind : ℕ → ℕ
+  kind = kindIn (x .kinds)
+
+  -- the stores on entry, read as terms
+  abbrev pub before : TermStores
+  before = termsOf (stateOf x) .stores
+
+  entry-known : entry (x .objects) (take namedCells (x .messages)) ≡ known termWorld before
+  unfolding stateOver storeOf
+  entry-known = λ i. record {
+    objects = λ v. set-some (meaning (x .terms)) (getD (x .objects) v unset) i;
+    raws = λ r. set-some (meaning (x .terms)) (getD (take namedCells (x .messages)) r unset) i;
+    next = 0;
+  }
+
+  -- what a run comes to, for a pattern and a message
+  pub data MatchEnds (p : Pattern) (m : Term) (words : ℕ) : RunOutcome → Type 0 where
+    finishes : (t : State rowWorld) → ValidState kind t → Matches kind before p m (termsOf t .stores) → MatchEnds p m words (leftBy (Ran.Done words) t)
+    sticks : (place : ℕ) (reason : Reason) → ((n : TermStores) → Matches kind before p m n → ⊥) → MatchEnds p m words (unchanged (Ran.Stuck place reason) x)
+
+  -- and for a creation: the accumulator holds the message; the counter is among the stores
+  pub data CreateEnds (p : Pattern) (words : ℕ) : RunOutcome → Type 0 where
+    finishes : (t : State rowWorld) (m : Term) → ValidState kind t → termsOf t .accumulator ≡ some m → Creates kind before p m (termsOf t .stores) → CreateEnds p words (leftBy (Ran.Done words) t)
+    sticks : (place : ℕ) (reason : Reason) → ((m : Term) (n : TermStores) → Creates kind before p m n → ⊥) → CreateEnds p words (unchanged (Ran.Stuck place reason) x)
+
+  module _ (p : Pattern) (words : ℕ) where
+    match-ends : (m : Term) → RightKinds false kind p → (o o′ : Outcome (State rowWorld)) (o″ : Outcome (State termWorld)) → movedTo 0 o ≡ movedTo 0 o′ → SameEnd (Reads kind) o′ o″
+        → bind o″ (storesOf termWorld) ≡ match termWorld kind p (some m) before → MatchEnds p m words (ended words x o)
+    match-ends m right (done s) o′ o″ moved (both-done {a = s′} {b = t′} r) e =
+        let same : s ≡ s′ = cc in
+        finishes s (subst (ValidState kind) (sym same) (r .0)) (done-is-matches kind p before (termsOf s .stores) m right (sym e ∙ ap (λ t. done (t .stores)) (r .1 ∙ ap termsOf (sym same))))
+    match-ends m right (stuck place why) o′ o″ moved (both-done r) e = absurd (let z : _≡_ {A = ℕ} 0 1 = cc in omega arith)
+    match-ends m right (room place) o′ o″ moved (both-done r) e = absurd (let z : _≡_ {A = ℕ} 0 1 = cc in omega arith)
+    match-ends m right (done s) o′ o″ moved both-stuck e = absurd (let z : _≡_ {A = ℕ} 0 1 = cc in omega arith)
+    match-ends m right (stuck place why) o′ o″ moved both-stuck e =
+        sticks place (reasonOf why) λ n h. let d = matches-is-done kind right h in let z : _≡_ {A = ℕ} 0 1 = cc in omega arith
+    match-ends m right (room place) o′ o″ moved both-stuck e = absurd (let z : _≡_ {A = ℕ} 0 1 = cc in omega arith)
