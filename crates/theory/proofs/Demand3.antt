@@ -95,3 +95,55 @@ module _ (x : Lent) where
     match-ends m right (stuck place why) o′ o″ moved both-stuck e =
         sticks place (reasonOf why) λ n h. let d = matches-is-done kind right h in let z : _≡_ {A = ℕ} 0 1 = cc in omega arith
     match-ends m right (room place) o′ o″ moved both-stuck e = absurd (let z : _≡_ {A = ℕ} 0 1 = cc in omega arith)
+
+    create-ends : RightKinds true kind p → (o o′ : Outcome (State rowWorld)) (o″ : Outcome (State termWorld)) → movedTo 0 o ≡ movedTo 0 o′ → SameEnd (Reads kind) o′ o″
+        → bind o″ (messageOf termWorld) ≡ bind (create termWorld kind p before) (madeOf termWorld) → CreateEnds p words (ended words x o)
+    create-ends right (done s) o′ o″ moved (both-done {a = s′} {b = t′} r) e =
+        let same : s ≡ s′ = cc in
+        made (create termWorld kind p before) refl (e′ (r .1 ∙ ap termsOf (sym same))) (subst (ValidState kind) (sym same) (r .0))
+      where
+        e′ : t′ ≡ termsOf s → done (termsOf s .accumulator, termsOf s .stores) ≡ bind (create termWorld kind p before) (madeOf termWorld)
+        e′ q = sym (ap (λ t. done (t .accumulator, t .stores)) q) ∙ e
+
+        made : (y : Outcome (Term × TermStores)) → create termWorld kind p before ≡ y → done (termsOf s .accumulator, termsOf s .stores) ≡ bind y (madeOf termWorld) → ValidState kind s → CreateEnds p words (leftBy (Ran.Done words) s)
+        made (done b) q f v =
+            let held-message : termsOf s .accumulator ≡ some (b .0) = ap (λ (o : Outcome (Option Term × TermStores)). first-of o) f in
+            let stores : b .1 ≡ termsOf s .stores = sym (ap (λ (o : Outcome (Option Term × TermStores)). second-of o) f) in
+            finishes s (b .0) v held-message (done-is-creates kind p before (termsOf s .stores) (b .0) right (q ∙ ap (λ n. done (b .0, n)) stores))
+          where
+            first-of : Outcome (Option Term × TermStores) → Option Term
+            first-of (done c) = c .0
+            first-of (stuck place why) = none
+            first-of (room place) = none
+
+            second-of : Outcome (Option Term × TermStores) → TermStores
+            second-of (done c) = c .1
+            second-of (stuck place why) = before
+            second-of (room place) = before
+        made (stuck place why) q f v = absurd (let z : _≡_ {A = ℕ} 0 1 = cc in omega arith)
+        made (room place) q f v = absurd (let z : _≡_ {A = ℕ} 0 1 = cc in omega arith)
+    create-ends right (stuck place why) o′ o″ moved (both-done r) e = absurd (let z : _≡_ {A = ℕ} 0 1 = cc in omega arith)
+    create-ends right (room place) o′ o″ moved (both-done r) e = absurd (let z : _≡_ {A = ℕ} 0 1 = cc in omega arith)
+    create-ends right (done s) o′ o″ moved both-stuck e = absurd (let z : _≡_ {A = ℕ} 0 1 = cc in omega arith)
+    create-ends right (stuck place why) o′ o″ moved both-stuck e =
+        sticks place (reasonOf why) λ m n h. let d = creates-is-done kind right h in let z : _≡_ {A = ℕ} 0 1 = cc (ap (λ y. bind y (madeOf termWorld)) d) in omega arith
+    create-ends right (room place) o′ o″ moved both-stuck e = absurd (let z : _≡_ {A = ℕ} 0 1 = cc in omega arith)
+
+-- an instruction in range has a byte that fits
+byte-fits : (kind : ℕ → ℕ) (i : Instruction) → InRange kind i → T (operandsFit kind i) × ByteFits i
+byte-fits kind (StoreConst c b) f = (f .operands, f .cells)
+byte-fits kind (Load r) f = (f .operands, tt)
+byte-fits kind (Store r) f = (f .operands, tt)
+byte-fits kind (Decode v) f = (f .operands, tt)
+byte-fits kind (Encode v) f = (f .operands, tt)
+byte-fits kind (Create v) f = (f .operands, tt)
+byte-fits kind (AnalyzeTuple t b n) f = (f .operands, tt)
+byte-fits kind (CreateTuple t b n) f = (f .operands, tt)
+byte-fits kind (Opposite K k) f = (f .operands, tt)
+byte-fits kind KeyOf f = (f .operands, tt)
+byte-fits kind (Match r) f = (f .operands, tt)
+byte-fits kind (Encrypt v) f = (f .operands, tt)
+byte-fits kind (Decrypt v) f = (f .operands, tt)
+byte-fits kind (Sign v) f = (f .operands, tt)
+byte-fits kind (Verify v r) f = (f .operands, tt)
+byte-fits kind (Hash h) f = (f .operands, tt)
