@@ -147,3 +147,61 @@ byte-fits kind (Decrypt v) f = (f .operands, tt)
 byte-fits kind (Sign v) f = (f .operands, tt)
 byte-fits kind (Verify v r) f = (f .operands, tt)
 byte-fits kind (Hash h) f = (f .operands, tt)
+
+module _ (create : Bool) (pattern slice : List ℕ) (x : Lent) (a : Accepted x) (words : ℕ)
+    (answer : compile create pattern (x .kinds) (x .objects) (take namedCells (x .messages)) slice .answer ≡ Compiled.Done words)
+    (free : Free words words (stateOf x .stores .memory)) where
+  abbrev compiled : Written create pattern (x .kinds) (x .objects) (take namedCells (x .messages)) (a .kinds-length) words (compile create pattern (x .kinds) (x .objects) (take namedCells (x .messages)) slice .code)
+  compiled = compile-writes create pattern (x .kinds) (x .objects) (take namedCells (x .messages)) (a .kinds-length) slice words answer
+
+  abbrev lines : List Line
+  lines = compiled .compiles .lines
+
+  -- the words that compile wrote
+  abbrev pub code : List ℕ
+  code = take words (compile create pattern (x .kinds) (x .objects) (take namedCells (x .messages)) slice .code)
+
+  code-words : code ≡ codeWords lines
+  code-words = compiled .compiles .writes
+
+  code-length : length (codeWords lines) ≡ words
+  code-length = length-map lines (λ l. wordOf (l .instruction)) ∙ sym (compiled .compiles .counts)
+
+  -- the run is its steps
+  steps : run x code ≡ ended words x (exec rowWorld (kindIn (x .kinds)) (linesOf (codeWords lines)) (stateOf x))
+  steps =
+      rw code-words
+      (run-steps x (codeWords lines) a (omega (arith, code-length, compiled .limits .words, compiled .compiles .counts)) (compiled-words-good (kindIn (x .kinds)) lines (compiled .limits .lines))
+      ∙ ap (λ n. ended n x (exec rowWorld (kindIn (x .kinds)) (linesOf (codeWords lines)) (stateOf x))) code-length)
+
+  moved : movedTo 0 (exec rowWorld (kindIn (x .kinds)) (linesOf (codeWords lines)) (stateOf x)) ≡ movedTo 0 (exec rowWorld (kindIn (x .kinds)) lines (stateOf x))
+  moved = same-instructions rowWorld (kindIn (x .kinds)) (linesOf (codeWords lines)) lines (stateOf x) (compiled-words-read (kindIn (x .kinds)) lines (compiled .limits .lines))
+
+  -- rows and terms end the same
+  ends-same : SameEnd (Reads (kindIn (x .kinds))) (exec rowWorld (kindIn (x .kinds)) lines (stateOf x)) (exec termWorld (kindIn (x .kinds)) lines (termsOf (stateOf x)))
+  ends-same =
+      rows-end-as-terms (kindIn (x .kinds)) lines (stateOf x) (termsOf (stateOf x))
+      (all-map lines (λ l f. byte-fits (kindIn (x .kinds)) (l .instruction) f) (compiled .limits .lines)) (accepted-state x a, refl)
+      (subst (λ n. Free n n (stateOf x .stores .memory)) (compiled .compiles .counts) free)
+
+-- Matching: the accumulator's term is the message.
+pub matching-demand : (pattern slice : List ℕ) (x : Lent) → Accepted x → (words : ℕ) (row : ℕ) → held (x .accumulator) ≡ some row
+    → compile false pattern (x .kinds) (x .objects) (take namedCells (x .messages)) slice .answer ≡ Compiled.Done words → Free words words (stateOf x .stores .memory)
+    → MatchEnds x (patternOf pattern) (meaning (x .terms) row) words (run x (take words (compile false pattern (x .kinds) (x .objects) (take namedCells (x .messages)) slice .code)))
+unfolding stateOver
+matching-demand pattern slice x a words row set answer free =
+    rw (steps false pattern slice x a words answer free)
+    (match-ends x (patternOf pattern) words (meaning (x .terms) row) (compiled false pattern slice x a words answer free .right)
+    (exec rowWorld (kindIn (x .kinds)) (linesOf (codeWords (lines false pattern slice x a words answer free))) (stateOf x)) _ _ (moved false pattern slice x a words answer free) (ends-same false pattern slice x a words answer free)
+    (matching-runs termWorld (kindIn (x .kinds)) (patternOf pattern) (raws-below pattern) (termsOf (stateOf x)) (ap (compile↓ (patternOf pattern)) (sym (entry-known x)) ∙ compiled false pattern slice x a words answer free .compiles .emits)
+    ∙ ap (λ m. match termWorld (kindIn (x .kinds)) (patternOf pattern) m (before x)) (ap (Option·map (meaning (x .terms))) set)))
+
+-- Creating: the message is in the accumulator afterwards.
+pub creating-demand : (pattern slice : List ℕ) (x : Lent) → Accepted x → (words : ℕ)
+    → compile true pattern (x .kinds) (x .objects) (take namedCells (x .messages)) slice .answer ≡ Compiled.Done words → Free words words (stateOf x .stores .memory)
+    → CreateEnds x (patternOf pattern) words (run x (take words (compile true pattern (x .kinds) (x .objects) (take namedCells (x .messages)) slice .code)))
+creating-demand pattern slice x a words answer free =
+    rw (steps true pattern slice x a words answer free)
+    (create-ends x (patternOf pattern) words (compiled true pattern slice x a words answer free .right)
+    (exec rowWorld (kindIn (x .kinds)) (linesOf (codeWords (lines true pattern slice x a words answer free))) (stateOf x)) _ _ (moved true pattern slice x a words answer free) (ends-same true pattern slice x a words answer free)
+    (creating-runs termWorld (kindIn (x .kinds)) (patternOf pattern) (raws-below pattern) (termsOf (stateOf x)) (ap (compile↑ (kindIn (x .kinds)) (patternOf pattern)) (sym (entry-known x)) ∙ compiled true pattern slice x a words answer free .compiles .emits)))
