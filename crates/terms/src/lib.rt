@@ -1,6 +1,18 @@
 // The term table.
 use code::TermRow;
 
+pub mod row;
+
+pub use row::atom_word;
+pub use row::encrypted_word;
+pub use row::hashed_word;
+pub use row::number;
+pub use row::part;
+pub use row::part_count;
+pub use row::signed_word;
+pub use row::tag;
+pub use row::tuple_word;
+
 // What the finder answers: the term's row and the number of used rows then, or that there is no room.
 pub enum Found {
     At(TermRow, u16),

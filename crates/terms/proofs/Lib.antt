@@ -1,0 +1,2 @@
+-- The laws of the term table.
+pub mod FieldLaws
