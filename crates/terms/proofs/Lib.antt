@@ -1,2 +1,3 @@
--- The laws of the term table.
+-- Laws of term rows and of the term table.
 pub mod FieldLaws
+pub mod RowLaws

@@ -1,0 +1,3 @@
+-- Laws of packed fields and of tests over lists.
+pub mod FieldLaws
+pub mod LowestLaws
