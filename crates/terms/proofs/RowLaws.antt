@@ -1,5 +1,6 @@
 -- A shape that a row can hold is packed into a word and read back.
 use mathlib.Core.Path.{_≡_, refl, sym, _∙_, ap}
+use mathlib.Core.Logic.{_≢_}
 use mathlib.Core.Bool.{Bool, true, false, cond}
 use mathlib.Core.List.{List, [], _∷_}
 use Prim.Native.Nat.{ℕ, _^_, _<_, _≤_}
@@ -97,17 +98,20 @@ word-shape word same = eqb→eq (wordOf (shapeOf word)) word same
 pub word-injective : (shape other : Shape ℕ) → Packs shape → Packs other → wordOf shape ≡ wordOf other → shape ≡ other
 word-injective shape other packs fits same = sym (shape-word shape packs) ∙ ap shapeOf same ∙ shape-word other fits
 
-kind-positive : (shape : Shape ℕ) → Packs shape → 1 ≤ kindOf shape
-kind-positive (atom tag number) packs = packs .0
-kind-positive (encrypted key body) packs = omega arith
-kind-positive (signed key body) packs = omega arith
-kind-positive (hashed body) packs = omega arith
-kind-positive (tupled parts) packs = omega arith
+pub kind-known : (shape : Shape ℕ) → Packs shape → (1 ≤ kindOf shape) × (kindOf shape ≤ 10)
+kind-known (atom tag number) packs = omega arith
+kind-known (encrypted key body) packs = omega arith
+kind-known (signed key body) packs = omega arith
+kind-known (hashed body) packs = omega arith
+kind-known (tupled parts) packs = omega arith
 
--- no word of a shape is the unused row
-pub word-nonzero : (shape : Shape ℕ) → Packs shape → wordOf shape ≡ 0 → ⊥
+-- a word with a tag is not the unused row
+pub tag-nonzero : (word : ℕ) → 1 ≤ tagOf word → word ≢ 0
 unfolding tagOf
-word-nonzero shape packs zeros = omega (arith, kind-positive shape packs, sym (tag-word shape packs) ∙ ap tagOf zeros)
+tag-nonzero word known zeros = omega (arith, ap tagOf zeros)
+
+pub word-nonzero : (shape : Shape ℕ) → Packs shape → wordOf shape ≢ 0
+word-nonzero shape packs = tag-nonzero (wordOf shape) (rw tag-word (kind-known shape packs .0))
 
 pub word-below : (shape : Shape ℕ) → Packs shape → wordOf shape < 2 ^ 64
 unfolding wordOf

@@ -1,14 +1,15 @@
 -- Tests over lists, as propositions.
 use mathlib.Core.Path.{_≡_, refl, _∙_, ap}
 use mathlib.Core.Logic.{_↔_, _⊎_, inl, inr}
-use mathlib.Core.Bool.{Bool, true, false, not, _&&_, _||_}
+use mathlib.Core.Bool.{Bool, true, false, cond, not, _&&_, _||_}
 use mathlib.Core.Option.{Option, none, some}
 use mathlib.Core.List.{List, [], _∷_}
-use Prim.Native.Nat.{ℕ, zero, suc, _+_, _<_}
+use Prim.Native.Nat.{ℕ, zero, suc, _+_, _<_, _≤_}
 use native.Mathlib.Nat.{zero-add, add-zero, add-suc, suc-add}
 use native.Mathlib.Omega.{arith}
 use lib.ListN.{length, getD}
-use lib.Dec.{T, T-not, eqb, eqb→eq, eqb-refl}
+use lib.Dec.{T, T-not, not-T, eqb, leb, ltb, eqb→eq, eqb-refl, ltb→lt, lt→ltb, leb→le, le→leb, nltb→le}
+use lib.Arith.{le→nltb}
 use Rattle.word.specs.Lowest.{lowestFrom, lowest, each, oneOf}
 
 -- two tests at once, and one of two
@@ -19,6 +20,27 @@ both false b = (λ h. absurd h, λ h. absurd (h .0))
 pub either : (a b : Bool) → T (a || b) ↔ (T a ⊎ T b)
 either true b = (λ h. inl tt, λ h. tt)
 either false b = (λ h. inr h, elim [ inl n ↦ absurd n | inr h ↦ h ])
+
+-- a test that is chosen by another
+pub chosen : (a b c : Bool) → T (cond a b c) ↔ ((T a → T b) × (T (not a) → T c))
+chosen true b c = (λ h. (λ _. h, λ n. absurd n), λ h. h .0 tt)
+chosen false b c = (λ h. (λ n. absurd n, λ _. h), λ h. h .1 tt)
+
+pub fails : (a : Bool) → T (not a) ↔ (T a → ⊥)
+fails a = (T-not a, not-T a)
+
+-- tests of numbers
+pub equals : (m n : ℕ) → T (eqb m n) ↔ (m ≡ n)
+equals m n = (eqb→eq m n, λ e. rw e (eqb-refl n))
+
+pub is-below : (m n : ℕ) → T (ltb m n) ↔ (m < n)
+is-below m n = (ltb→lt m n, lt→ltb m n)
+
+pub not-below : (m n : ℕ) → T (not (ltb m n)) ↔ (n ≤ m)
+not-below m n = (nltb→le m n, le→nltb m n)
+
+pub is-most : (m n : ℕ) → T (leb m n) ↔ (m ≤ n)
+is-most m n = (leb→le m n, le→leb m n)
 
 -- a property of each element
 module _ {A : Type 0} (P : A → Type 0) where
@@ -66,6 +88,12 @@ one-at (k ∷ rest) (suc i) l = either (eqb k (getD rest i 0)) (oneOf rest (getD
 -- one of several numbers stands at some place
 pub one-of : (all : List ℕ) (n : ℕ) → T (oneOf all n) ↔ ((i : ℕ) × (i < length all) × (getD all i 0 ≡ n))
 one-of all n = (one-all (λ k. (i : ℕ) × (i < length all) × (getD all i 0 ≡ k)) all n (at-all _ all 0 λ i l. (i, l, refl)), λ h. rw (← (h .2)) (one-at all (h .0) (h .1)))
+
+pub one-of-two : (a b n : ℕ) → T (oneOf (a ∷ b ∷ []) n) ↔ ((n ≡ a) ⊎ (n ≡ b))
+one-of-two a b n = (
+  one-all (λ k. (k ≡ a) ⊎ (k ≡ b)) (a ∷ b ∷ []) n (inl refl, (inr refl, tt)),
+  elim [ inl e ↦ rw e (one-at (a ∷ b ∷ []) 0 (omega arith)) | inr e ↦ rw e (one-at (a ∷ b ∷ []) 1 (omega arith)) ],
+)
 
 module _ {A : Type 0} (test : ℕ → A → Bool) (default : A) where
   -- what an answer says of the rest of a list, the first of which has a place
