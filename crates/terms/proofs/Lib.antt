@@ -1,4 +1,4 @@
--- Laws of term rows and of the term table.
+-- Laws of term rows, of the term table and of the finder.
 pub mod FieldLaws
 pub mod RowLaws
 pub mod TableLaws
