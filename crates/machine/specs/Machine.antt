@@ -5,6 +5,7 @@ use mathlib.Core.List.{List}
 use lib.ListN.{length}
 use Rattle.answers.specs.Numbers.{reasonNumber}
 use Rattle.answers.specs.declared.Reason.{Reason}
+use Rattle.code.specs.declared.TermRow.{TermRow}
 use Rattle.code.specs.declared.Instruction.{Instruction}
 use Rattle.theory.specs.Outcome.{Outcome, done}
 use Rattle.theory.specs.Outcome as Outcome
@@ -38,6 +39,10 @@ abbrev pub stateAt : Registers → Slices → State rowWorld
 stateAt g x =
     stateOver (g .accumulator .0) (x .objects) (x .messages)
     (record { rows = x .rows; used = g .used; counter = g .counter; certificates = x .certificates })
+
+-- the registers with another accumulator
+abbrev pub holding : Registers → TermRow → Registers
+holding g row = record { place = g .place; accumulator = row; used = g .used; counter = g .counter }
 
 -- the used rows are within the slice, and row numbers are below 65,535
 pub record Within (rows : List ℕ) (used : ℕ) : Type 0 where

@@ -1,0 +1,4 @@
+-- Laws of the machine over the lent slices.
+pub mod StateLaws
+pub mod AgreeLaws
+pub mod MovingLaws
