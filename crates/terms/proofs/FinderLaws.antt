@@ -1,45 +1,142 @@
--- The finder's three answers: the row that equals the word, the first unused row, or no room.
-use mathlib.Core.Path.{_≡_, refl, sym, _∙_}
-use mathlib.Core.Logic.{_≢_}
-use mathlib.Core.Bool.{Bool, true, false, cond, not}
+-- Which row the finder answers, and what is written.
+use Prim.Native.Nat.{ℕ, _+_, _<_, _≤_}
+use mathlib.Core.Path.{_≡_, refl, sym, _∙_, ap, subst}
 use mathlib.Core.Option.{Option, none, some}
 use mathlib.Core.List.{List}
-use Prim.Native.Nat.{ℕ, _+_, _<_, _≤_}
-use lib.Dec.{T, T-not, eqb, ltb}
-use lib.ListN.{length, getD, take, set}
-use lib.Seq.{getD-take, length-take-le}
-use Rattle.word.specs.Lowest.{lowest}
-use Rattle.word.proofs.LowestLaws.{fails, equals, is-below, not-below, lowest-none, lowest-some}
-use Rattle.terms.specs.Finder.{Located, located, asTermRow, equalRow, locateBy, locate}
+use native.Mathlib.Decide.{decLt}
+use native.Mathlib.Omega.{arith}
+use lib.ListN.{length, getD, take, set, length-set}
+use lib.Seq.{length-take-le, getD-take, getD-set-same, getD-set-other}
+use lib.Dec.{eqb}
+use borrow.Author.Tests.{eq-eqb, ne-eqb, eqb-true, eqb-false, lt-ltb, le-ltb}
+use Rattle.terms.specs.declared.Found.{Found}
 use Rattle.terms.specs.declared.Found.the-variants.{At, Full}
+use Rattle.terms.specs.Finder.{Located, asTermRow, located, equalRow, locate}
+use Rattle.terms.proofs.ScanLaws.{Passed, passed-hit, passed-miss, passed-end, lowest-is}
 
-module _ (rows : List ℕ) (used word : ℕ) (inside : used ≤ length rows) where
-  abbrev pub Absent : Type 0
-  Absent = (row : ℕ) → row < used → getD rows row 0 ≢ word
+-- no used row equals the term
+abbrev pub Absent : List ℕ → ℕ → ℕ → Type 0
+Absent rows used word = (row : ℕ) → row < used → getD rows row 0 ≡ word → ⊥
 
+-- no two used rows are equal
+abbrev pub Distinct : List ℕ → ℕ → Type 0
+Distinct rows used = (a b : ℕ) → a < used → b < used → getD rows a 0 ≡ getD rows b 0 → a ≡ b
+
+-- so many rows were passed by a loop
+abbrev pub Sought : List ℕ → ℕ → ℕ → ℕ → Type 0
+Sought rows used word i = Passed (λ row other. eqb other word) (take used rows) i
+
+module _ (rows : List ℕ) (used word : ℕ) (fits : used ≤ length rows) where
+  length-used : length (take used rows) ≡ used
+  length-used = length-take-le used rows fits
+
+  pub sought-hit : (i : ℕ) → i < used → Sought rows used word i → getD rows i 0 ≡ word → equalRow rows used word ≡ some i
+  unfolding equalRow
+  sought-hit i h sought e =
+      let long : length (take used rows) ≡ used = length-used in
+      passed-hit _ (take used rows) i (omega arith) sought (eq-eqb _ _ (getD-take used rows i 0 h ∙ e))
+
+  pub sought-miss : (i : ℕ) → i < used → Sought rows used word i → (getD rows i 0 ≡ word → ⊥) → Sought rows used word (i + 1)
+  sought-miss i h sought e =
+      let long : length (take used rows) ≡ used = length-used in
+      passed-miss _ (take used rows) i (omega arith) sought (ne-eqb _ _ (λ q. e (sym (getD-take used rows i 0 h) ∙ q)))
+
+  pub sought-end : (i : ℕ) → used ≤ i → Sought rows used word i → equalRow rows used word ≡ none
+  unfolding equalRow
+  sought-end i h sought =
+      let long : length (take used rows) ≡ used = length-used in
+      passed-end _ (take used rows) i (omega arith) sought
+
+  pub equal-some : (row : ℕ) → equalRow rows used word ≡ some row → (row < used) × (getD rows row 0 ≡ word)
+  unfolding equalRow
+  equal-some row e =
+      let long : length (take used rows) ≡ used = length-used in
+      let is = lowest-is (λ row other. eqb other word) (take used rows) (some row) e in
+      let inside : row < used = omega arith in
+      (inside, sym (getD-take used rows row 0 inside) ∙ eqb-true _ _ (is .1 .0))
+
+  pub equal-none : equalRow rows used word ≡ none → Absent rows used word
+  unfolding equalRow
+  equal-none e row h q =
+      let long : length (take used rows) ≡ used = length-used in
+      let fails = lowest-is (λ row other. eqb other word) (take used rows) none e row (omega arith) (omega arith) in
+      eqb-false _ _ fails (getD-take used rows row 0 h ∙ q)
+
+  pub equal-here : (row : ℕ) → row < used → getD rows row 0 ≡ word → Distinct rows used → equalRow rows used word ≡ some row
+  equal-here row h e distinct = by (equalRow rows used word) refl
+    where
+      by : (answer : Option ℕ) → equalRow rows used word ≡ answer → equalRow rows used word ≡ some row
+      by none q = absurd (equal-none q row h e)
+      by (some other) q = let is = equal-some other q in q ∙ ap some (distinct other row (is .0) h (is .1 ∙ sym e))
+
+  pub equal-nowhere : Absent rows used word → equalRow rows used word ≡ none
+  equal-nowhere absent = by (equalRow rows used word) refl
+    where
+      by : (answer : Option ℕ) → equalRow rows used word ≡ answer → equalRow rows used word ≡ none
+      by none q = q
+      by (some row) q = let is = equal-some row q in absurd (absent row (is .0) (is .1))
+
+module _ (rows : List ℕ) (used word : ℕ) where
+  pub locate-there : (row : ℕ) → equalRow rows used word ≡ some row → locate rows used word ≡ located (At (asTermRow row) used) rows
+  unfolding locate
+  locate-there row e = rw e
+
+  pub locate-new : equalRow rows used word ≡ none → used < length rows → locate rows used word ≡ located (At (asTermRow used) (used + 1)) (set rows used word)
+  unfolding locate
+  locate-new e h = rw (e, lt-ltb used (length rows) h)
+
+  pub locate-full : equalRow rows used word ≡ none → length rows ≤ used → locate rows used word ≡ located Full rows
+  unfolding locate
+  locate-full e h = rw (e, le-ltb used (length rows) h)
+
+-- what holds of each of the three answers holds of the finder's
+module _ (rows : List ℕ) (used word : ℕ) (fits : used ≤ length rows) where
   module _ (P : Located → Type 0) (present : (row : ℕ) → row < used → getD rows row 0 ≡ word → P (located (At (asTermRow row) used) rows))
-      (added : Absent → used < length rows → P (located (At (asTermRow used) (used + 1)) (set rows used word)))
-      (full : Absent → length rows ≤ used → P (located Full rows)) where
+      (added : Absent rows used word → used < length rows → P (located (At (asTermRow used) (used + 1)) (set rows used word)))
+      (full : Absent rows used word → length rows ≤ used → P (located Full rows)) where
     pub located-as : P (locate rows used word)
-    unfolding locate equalRow
-    located-as = go (equalRow rows used word) refl
+    located-as = by (equalRow rows used word) refl (decLt used (length rows))
       where
-        same : ℕ → ℕ → Bool
-        same row other = eqb other word
+        by : (answer : Option ℕ) → equalRow rows used word ≡ answer → Dec (used < length rows) → P (locate rows used word)
+        by (some row) e free =
+            let is = equal-some rows used word fits row e in
+            rw (locate-there rows used word row e) (present row (is .0) (is .1))
+        by none e (yes free) = rw (locate-new rows used word e free) (added (equal-none rows used word fits e) free)
+        by none e (no past) =
+            let end : length rows ≤ used = omega (arith, past) in
+            rw (locate-full rows used word e end) (full (equal-none rows used word fits e) end)
 
-        choose : Absent → (b : Bool) → (T b → used < length rows) → (T (not b) → length rows ≤ used)
-            → P (cond b (located (At (asTermRow used) (used + 1)) (set rows used word)) (located Full rows))
-        choose absent true free past = added absent (free tt)
-        choose absent false free past = full absent (past tt)
+-- the rows are as they were
+pub record Kept (rows after : List ℕ) : Type 0 where
+  pub long : length after ≡ length rows
+  pub each : (row : ℕ) → getD after row 0 ≡ getD rows row 0
 
-        go : (o : Option ℕ) → lowest same (take used rows) ≡ o → P (locateBy rows used word o)
-        go (some row) e =
-            let found = lowest-some same 0 (take used rows) row .0 e in
-            let l : row < used = rw (length-take-le used rows inside) at (found .inside) in
-            present row l (sym (getD-take used rows row 0 l) ∙ equals (getD (take used rows) row 0) word .0 (found .holds))
-        go none e =
-            let fails = lowest-none same 0 (take used rows) .0 e in
-            choose
-            (λ row l p. T-not (eqb (getD (take used rows) row 0) word) (fails row (rw (length-take-le used rows inside) l))
-            (equals (getD (take used rows) row 0) word .1 (getD-take used rows row 0 l ∙ p)))
-            (ltb used (length rows)) (is-below used (length rows) .0) (not-below used (length rows) .0)
+-- a term was written at one row, and every other row is as it was
+pub record Wrote (rows : List ℕ) (at word : ℕ) (after : List ℕ) : Type 0 where
+  pub long : length after ≡ length rows
+  pub here : getD after at 0 ≡ word
+  pub others : (row : ℕ) → (row ≡ at → ⊥) → getD after row 0 ≡ getD rows row 0
+
+kept : (rows : List ℕ) → Kept rows rows
+kept rows = record { long = refl; each = λ row. refl }
+
+wrote : (rows : List ℕ) (at word : ℕ) → at < length rows → Wrote rows at word (set rows at word)
+wrote rows at word h =
+    record { long = length-set rows at word; here = getD-set-same rows at word 0 h; others = λ row other. getD-set-other rows at row word 0 other }
+
+-- what an answer of the finder says, with the rows after it
+module _ (rows : List ℕ) (used word : ℕ) (fits : used ≤ length rows) (found : Found) (after : List ℕ) (says : located found after ≡ locate rows used word) where
+  -- a record of an answer, taken apart
+  parts : (other : Found) (others : List ℕ) (P : List ℕ → Type 0) → locate rows used word ≡ located other others → P others → (found ≡ other) × P after
+  parts other others P e p =
+      let q = says ∙ e in
+      (ap (λ (l : Located). l .found) q, subst P (ap (λ (l : Located). l .rows) (sym q)) p)
+
+  pub takes-equal-row : (row : ℕ) → row < used → getD rows row 0 ≡ word → Distinct rows used → (found ≡ At (asTermRow row) used) × Kept rows after
+  takes-equal-row row h e distinct = parts _ rows (Kept rows) (locate-there rows used word row (equal-here rows used word fits row h e distinct)) (kept rows)
+
+  pub takes-unused-row : Absent rows used word → used < length rows → (found ≡ At (asTermRow used) (used + 1)) × Wrote rows used word after
+  takes-unused-row absent h = parts _ (set rows used word) (Wrote rows used word) (locate-new rows used word (equal-nowhere rows used word fits absent) h) (wrote rows used word h)
+
+  pub takes-no-row : Absent rows used word → length rows ≤ used → (found ≡ Full) × Kept rows after
+  takes-no-row absent h = parts _ rows (Kept rows) (locate-full rows used word (equal-nowhere rows used word fits absent) h) (kept rows)

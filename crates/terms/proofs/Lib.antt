@@ -2,4 +2,5 @@
 pub mod FieldLaws
 pub mod RowLaws
 pub mod TableLaws
+pub mod ScanLaws
 pub mod FinderLaws

@@ -1,8 +1,11 @@
 // The term table.
 use code::TermRow;
 
-pub mod row;
+mod finder;
+mod row;
+mod rules;
 
+pub use finder::find;
 pub use row::atom_word;
 pub use row::encrypted_word;
 pub use row::hashed_word;
@@ -12,6 +15,7 @@ pub use row::part_count;
 pub use row::signed_word;
 pub use row::tag;
 pub use row::tuple_word;
+pub use rules::used_rows;
 
 // What the finder answers: the term's row and the number of used rows then, or that there is no room.
 pub enum Found {

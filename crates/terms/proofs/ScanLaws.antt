@@ -1,0 +1,97 @@
+-- `lowest` and `usedRows`: how a loop goes through them, and what the lowest place is.
+use Prim.Native.Nat.{ℕ, zero, suc, _+_, _<_, _≤_}
+use mathlib.Core.Path.{_≡_, refl, sym, _∙_}
+use mathlib.Core.Logic.{⊎-elim}
+use mathlib.Core.Bool.{Bool, true, false}
+use mathlib.Core.Option.{Option, none, some}
+use mathlib.Core.List.{List}
+use native.Mathlib.Nat.{zero-add, eq-or-lt-of-le}
+use native.Mathlib.Numerals.{add-one}
+use native.Mathlib.Omega.{arith}
+use lib.ListN.{length, getD, drop, drop-of-length-le}
+use lib.Seq.{drop-cons}
+use lib.Dec.{eqb}
+use borrow.Author.Tests.{eq-eqb, ne-eqb}
+use Rattle.word.specs.Lowest.{lowest, lowestFrom, placeOf}
+use Rattle.word.specs.declared.Place.{Place}
+use Rattle.word.specs.declared.Place.the-variants.{At, Nowhere}
+use Rattle.terms.specs.Rules.{usedRows}
+
+-- an answer of the code, read back
+pub placed-at : (answer : Option ℕ) {found : Place} {place : ℕ} → found ≡ placeOf answer → found ≡ At place → answer ≡ some place
+placed-at none says e = let clash : _≡_ {A = ℕ} 0 1 = cc in absurd (omega arith)
+placed-at (some place) says e = cc
+
+pub placed-nowhere : (answer : Option ℕ) {found : Place} → found ≡ placeOf answer → found ≡ Nowhere → answer ≡ none
+placed-nowhere none says e = refl
+placed-nowhere (some place) says e = let clash : _≡_ {A = ℕ} 0 1 = cc in absurd (omega arith)
+
+module _ (test : ℕ → ℕ → Bool) (all : List ℕ) (i : ℕ) where
+  -- a loop that has passed so many places: what is left gives the answer
+  abbrev pub Passed : Type 0
+  Passed = lowest test all ≡ lowestFrom i test (drop i all)
+
+  pub passed-hit : i < length all → Passed → test i (getD all i 0) ≡ true → lowest test all ≡ some i
+  unfolding lowestFrom
+  passed-hit h passed e = passed ∙ rw (drop-cons all i 0 h, e, lowestFrom)
+
+  pub passed-miss : i < length all → Passed → test i (getD all i 0) ≡ false → lowest test all ≡ lowestFrom (i + 1) test (drop (i + 1) all)
+  unfolding lowestFrom
+  passed-miss h passed e = passed ∙ rw (drop-cons all i 0 h, e, add-one i, lowestFrom)
+
+  pub passed-end : length all ≤ i → Passed → lowest test all ≡ none
+  unfolding lowestFrom
+  passed-end h passed = passed ∙ rw (drop-of-length-le all {i = i} h)
+
+module _ (test : ℕ → ℕ → Bool) (all : List ℕ) where
+  abbrev pub Fails : ℕ → ℕ → Type 0
+  Fails from to = (place : ℕ) → from ≤ place → place < to → test place (getD all place 0) ≡ false
+
+  -- what the lowest place from one on is, and what it means that there is none
+  abbrev pub Is : ℕ → Option ℕ → Type 0
+  Is from none = Fails from (length all)
+  Is from (some place) = (place < length all) × ((test place (getD all place 0) ≡ true) × Fails from place)
+
+  fails-next : (i to : ℕ) → test i (getD all i 0) ≡ false → Fails (suc i) to → Fails i to
+  fails-next i to e rest place h l = ⊎-elim (λ q. rw (← q) e) (λ g. rest place g l) (eq-or-lt-of-le h)
+
+  is-next : (i : ℕ) → test i (getD all i 0) ≡ false → (answer : Option ℕ) → Is (suc i) answer → Is i answer
+  is-next i e none rest = fails-next i (length all) e rest
+  is-next i e (some place) rest = (rest .0, (rest .1 .0, fails-next i place e (rest .1 .1)))
+
+  is-here : (i : ℕ) → i < length all → Is (suc i) (lowestFrom (suc i) test (drop (suc i) all)) → (b : Bool) → test i (getD all i 0) ≡ b
+      → Is i (lowestFrom i test (drop i all))
+  unfolding lowestFrom
+  is-here i h rest true e = rw (drop-cons all i 0 h, e, lowestFrom) (h, (e, λ place g l. absurd (omega arith)))
+  is-here i h rest false e = rw (drop-cons all i 0 h, e, lowestFrom) (is-next i e (lowestFrom (suc i) test (drop (suc i) all)) rest)
+
+  is-from : (left i : ℕ) → i + left ≡ length all → Is i (lowestFrom i test (drop i all))
+  unfolding lowestFrom
+  is-from zero i n = rw (drop-of-length-le all {i = i} (omega arith)) (λ place h l. absurd (omega arith))
+  is-from (suc left) i n = is-here i (omega arith) (is-from left (suc i) (omega arith)) _ refl
+
+  pub lowest-is : (answer : Option ℕ) → lowest test all ≡ answer → Is 0 answer
+  lowest-is answer e = rw e at (is-from (length all) 0 (zero-add _))
+
+module _ (rows : List ℕ) (i : ℕ) where
+  -- so many rows are used at least
+  abbrev pub Counted : Type 0
+  Counted = usedRows rows ≡ i + usedRows (drop i rows)
+
+  pub counted-stop : i < length rows → Counted → getD rows i 0 ≡ 0 → i ≡ usedRows rows
+  unfolding usedRows
+  counted-stop h counted e =
+      let stop : usedRows (drop i rows) ≡ 0 = rw (drop-cons rows i 0 h, eq-eqb _ _ e, usedRows) in
+      omega arith
+
+  pub counted-more : i < length rows → Counted → (getD rows i 0 ≡ 0 → ⊥) → usedRows rows ≡ i + 1 + usedRows (drop (i + 1) rows)
+  unfolding usedRows
+  counted-more h counted e =
+      let more : usedRows (drop i rows) ≡ suc (usedRows (drop (suc i) rows)) = rw (drop-cons rows i 0 h, ne-eqb _ _ e, usedRows) in
+      rw add-one (omega arith)
+
+  pub counted-end : length rows ≤ i → Counted → i ≡ usedRows rows
+  unfolding usedRows
+  counted-end h counted =
+      let end : usedRows (drop i rows) ≡ 0 = rw (drop-of-length-le rows {i = i} h) in
+      omega arith
