@@ -3,7 +3,7 @@ use Prim.Native.Nat.{ℕ, _<_}
 use mathlib.Core.Path.{_≡_, refl, sym, _∙_}
 use mathlib.Core.List.{List}
 use borrow.Author.Tests.{eq-eqb, ne-eqb}
-use lib.ListN.{length, getD, set, length-set}
+use lib.ListN.{length, getD, set}
 use Rattle.answers.specs.declared.Reason.the-variants.{Unset, OtherKind, Differs}
 use Rattle.code.specs.declared.Object.{Object}
 use Rattle.code.specs.declared.Raw.{Raw}
@@ -17,11 +17,11 @@ use Rattle.machine.specs.Machine.{Slices, withObjects, withMessages, wit
 use Rattle.machine.specs.declared.Registers.{Registers}
 use Rattle.machine.specs.declared.Step.the-variants.{Next, Stuck}
 use Rattle.machine.proofs.StateLaws.{accumulator-unset, accumulator-row, object-unset, object-row, message-unset, message-row, kind-tag, accumulator-set, object-set, message-set}
-use Rattle.machine.proofs.AgreeLaws.{same-lengths, messages-lengths, objects-lengths, reads, passes, stops, fails}
+use Rattle.machine.proofs.AgreeLaws.{same-lengths, messages-lengths, objects-lengths, reads, passes, unset-stops, fails}
 
 module _ (g : Registers) (messages : List ℕ) (r : Raw) (row : ℕ) (read : row ≡ getD messages (r .0) unset) (kind : ℕ → ℕ) where
   pub load-unset : row ≡ unset → Does kind (Load r) g (λ x. withMessages x messages) (Stuck Unset) (λ x. withMessages x messages)
-  load-unset e x = stops _ _ (message-unset _ _ _ _ (r .0) read e)
+  load-unset e x = unset-stops _ _ (message-unset _ _ _ _ (r .0) read e)
 
   pub load-next : (g′ : Registers) → (row ≡ unset → ⊥) → g′ ≡ holding g (asTermRow row)
       → Does kind (Load r) g (λ x. withMessages x messages) (Next g′) (λ x. withMessages x messages)
@@ -29,16 +29,16 @@ module _ (g : Registers) (messages : List ℕ) (r : Raw) (row : ℕ) (read : row
 
 module _ (g : Registers) (messages : List ℕ) (r : Raw) (kind : ℕ → ℕ) where
   pub store-unset : g .accumulator .0 ≡ unset → Does kind (Store r) g (λ x. withMessages x messages) (Stuck Unset) (λ x. withMessages x messages)
-  store-unset e x = stops _ _ (accumulator-unset _ _ _ _ e)
+  store-unset e x = unset-stops _ _ (accumulator-unset _ _ _ _ e)
 
   pub store-next : (messages′ : List ℕ) → (g .accumulator .0 ≡ unset → ⊥) → r .0 < length messages → messages′ ≡ set messages (r .0) (g .accumulator .0)
       → Does kind (Store r) g (λ x. withMessages x messages) (Next g) (λ x. withMessages x messages′)
   store-next messages′ isRow inside e x =
-      rw e (reads _ _ (accumulator-row _ _ _ _ isRow) (next (message-set _ _ _ _ _ isRow (r .0) inside) (messages-lengths x _ _ (length-set messages _ _))))
+      rw e (reads _ _ (accumulator-row _ _ _ _ isRow) (next (message-set _ _ _ _ _ isRow (r .0) inside) (messages-lengths _ (r .0) _)))
 
 module _ (g : Registers) (objects : List ℕ) (v : Object) (row : ℕ) (read : row ≡ getD objects (v .0) unset) (kind : ℕ → ℕ) where
   pub encode-unset : row ≡ unset → Does kind (Encode v) g (λ x. withObjects x objects) (Stuck Unset) (λ x. withObjects x objects)
-  encode-unset e x = stops _ _ (object-unset _ _ _ _ (v .0) read e)
+  encode-unset e x = unset-stops _ _ (object-unset _ _ _ _ (v .0) read e)
 
   pub encode-next : (g′ : Registers) → (row ≡ unset → ⊥) → g′ ≡ holding g (asTermRow row)
       → Does kind (Encode v) g (λ x. withObjects x objects) (Next g′) (λ x. withObjects x objects)
@@ -47,7 +47,7 @@ module _ (g : Registers) (objects : List ℕ) (v : Object) (row : ℕ) (read : r
 module _ (g : Registers) (kinds rows objects : List ℕ) (v : Object) where
   pub decode-unset : g .accumulator .0 ≡ unset
       → Does (kindIn kinds) (Decode v) g (λ x. withRows (withObjects x objects) rows) (Stuck Unset) (λ x. withRows (withObjects x objects) rows)
-  decode-unset e x = stops _ _ (accumulator-unset _ _ _ _ e)
+  decode-unset e x = unset-stops _ _ (accumulator-unset _ _ _ _ e)
 
   module _ (word tag kind : ℕ) (isRow : g .accumulator .0 ≡ unset → ⊥) (looked : word ≡ getD rows (g .accumulator .0) 0) (tagged : tag ≡ tagOf word) (wanted : kind ≡ kindIn kinds (v .0)) where
     pub decode-other : (tag ≡ kind → ⊥)
@@ -61,15 +61,15 @@ module _ (g : Registers) (kinds rows objects : List ℕ) (v : Object) where
     decode-next objects′ same inside e x =
         rw e (reads _ _ (accumulator-row _ _ _ _ isRow)
         (passes _ _ _ (eq-eqb _ _ (sym wanted ∙ sym same ∙ sym (kind-tag _ _ _ _ _ looked tagged)))
-        (next (object-set _ _ _ _ _ isRow (v .0) inside) (objects-lengths x rows rows _ _ (length-set objects _ _) refl))))
+        (next (object-set _ _ _ _ _ isRow (v .0) inside) (objects-lengths _ (v .0) _))))
 
 module _ (g : Registers) (messages : List ℕ) (r : Raw) (kind : ℕ → ℕ) where
   pub match-unset : g .accumulator .0 ≡ unset → Does kind (Match r) g (λ x. withMessages x messages) (Stuck Unset) (λ x. withMessages x messages)
-  match-unset e x = stops _ _ (accumulator-unset _ _ _ _ e)
+  match-unset e x = unset-stops _ _ (accumulator-unset _ _ _ _ e)
 
   module _ (isRow : g .accumulator .0 ≡ unset → ⊥) (other : ℕ) (read : other ≡ getD messages (r .0) unset) where
     pub match-cell-unset : other ≡ unset → Does kind (Match r) g (λ x. withMessages x messages) (Stuck Unset) (λ x. withMessages x messages)
-    match-cell-unset e x = reads _ _ (accumulator-row _ _ _ _ isRow) (stops _ _ (message-unset _ _ _ _ (r .0) read e))
+    match-cell-unset e x = reads _ _ (accumulator-row _ _ _ _ isRow) (unset-stops _ _ (message-unset _ _ _ _ (r .0) read e))
 
     pub match-differs : (other ≡ unset → ⊥) → (g .accumulator .0 ≡ other → ⊥)
         → Does kind (Match r) g (λ x. withMessages x messages) (Stuck Differs) (λ x. withMessages x messages)

@@ -40,9 +40,15 @@ stateAt g x =
     stateOver (g .accumulator .0) (x .objects) (x .messages)
     (record { rows = x .rows; used = g .used; counter = g .counter; certificates = x .certificates })
 
--- the registers with another accumulator
+-- the registers with another accumulator, number of used rows, or besides that another name counter
 abbrev pub holding : Registers → TermRow → Registers
 holding g row = record { place = g .place; accumulator = row; used = g .used; counter = g .counter }
+
+abbrev pub usingRows : Registers → ℕ → Registers
+usingRows g used = record { place = g .place; accumulator = g .accumulator; used = used; counter = g .counter }
+
+abbrev pub naming : Registers → ℕ → ℕ → Registers
+naming g used counter = record { place = g .place; accumulator = g .accumulator; used = used; counter = counter }
 
 -- the used rows are within the slice, and row numbers are below 65,535
 pub record Within (rows : List ℕ) (used : ℕ) : Type 0 where

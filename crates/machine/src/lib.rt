@@ -1,10 +1,11 @@
 // The machine: registers by value, a method for each instruction, the stores lent.
 ghost use mathlib.Core.Path.{_≡_};
-ghost use Rattle.machine.specs.Machine.{holding};
+ghost use Rattle.machine.specs.Machine.{holding, usingRows, naming};
 use answers::Reason;
 use code::TermRow;
 
 pub mod cells;
+pub mod making;
 pub mod moving;
 pub mod rows;
 
@@ -31,6 +32,32 @@ impl Registers {
             accumulator: row,
             used: self.used,
             counter: self.counter,
+        }
+    }
+
+    // The registers with another number of used rows.
+    pub fn using_rows(self, used: u16) -> Self
+        ensures { λ r. ⌜ r ≡ usingRows self used ⌝ }
+    {
+        let accumulator = self.accumulator;
+        Registers {
+            place: self.place,
+            accumulator: accumulator,
+            used: used,
+            counter: self.counter,
+        }
+    }
+
+    // The registers with another number of used rows and another name counter.
+    pub fn naming(self, used: u16, counter: u32) -> Self
+        ensures { λ r. ⌜ r ≡ naming self used counter ⌝ }
+    {
+        let accumulator = self.accumulator;
+        Registers {
+            place: self.place,
+            accumulator: accumulator,
+            used: used,
+            counter: counter,
         }
     }
 }
