@@ -112,7 +112,7 @@ module _ (accumulator : ℕ) (objects messages : List ℕ) (table : Table) where
 
     pub look-atom : {number : ℕ} → tag ≤ 6 → number ≡ at 2 (split atomWidths word) → look ≡ atom tag number
     look-atom {number} small numbered =
-        as-word ∙ shape-atom word (λ e. omega arith) (λ e. omega arith) (λ e. omega arith) (λ e. omega arith) ∙ rw (tagged, numbered)
+        as-word ∙ shape-atom word (λ a b. omega arith) ∙ rw (tagged, numbered)
 
     pub opposite-other : (tag ≡ 5 → ⊥) → rowWorld .apply (op row) (state .stores .memory) ≡ not (reasonNumber OtherKind)
     opposite-other other = rw (ne-eqb (kindOf look) 5 (λ e. other (sym kind-tag ∙ e)))

@@ -11,7 +11,6 @@ use super::cells::UNSET;
 use super::cells::object_at;
 use super::cells::set_object;
 use super::rows::kind_at;
-use super::rows::row_at;
 use answers::Reason;
 use code::Object;
 use terms::Found;
@@ -73,7 +72,7 @@ impl Registers {
         if key == UNSET {
             return Step::Stuck(Reason::Unset);
         }
-        let known = row_at(rows, key);
+        let known = terms::row_at(rows, key);
         if terms::tag(known) != 5 {
             return Step::Stuck(Reason::OtherKind);
         }

@@ -12,7 +12,6 @@ use super::cells::object_at;
 use super::cells::set_message;
 use super::cells::set_object;
 use super::rows::kind_at;
-use super::rows::row_at;
 use answers::Reason;
 use code::Object;
 use code::Raw;
@@ -63,7 +62,7 @@ impl Registers {
         if cell == UNSET {
             return Step::Stuck(Reason::Unset);
         }
-        if terms::tag(row_at(rows, cell)) != kind_at(kinds, v) {
+        if terms::tag(terms::row_at(rows, cell)) != kind_at(kinds, v) {
             return Step::Stuck(Reason::OtherKind);
         }
         set_object(objects, v, row);

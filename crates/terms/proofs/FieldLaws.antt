@@ -1,13 +1,12 @@
 -- A row's fields by slot.
 use Prim.Native.Nat.{ℕ, zero, suc, _+_, _*_, _-_, _/_, _%_, _^_, _<_, _≤_}
-use mathlib.Core.Path.{_≡_, refl, sym, _∙_, ap}
+use mathlib.Core.Path.{_≡_, refl}
 use mathlib.Core.List.{List, [], _∷_}
 use native.Mathlib.Omega.{arith}
 use lib.ListN.{length, take, drop, getD, length-take, List·getD-eq-default}
-use lib.Seq.{length-take-le}
 use Rattle.word.specs.Fields.{split, at}
 use Rattle.terms.specs.Shape.{tupled}
-use Rattle.terms.specs.Row.{rowWidths, wordOf}
+use Rattle.terms.specs.Row.{rowWidths, tagOf, wordOf}
 
 -- a part stands 12 bits lower than the one before it
 pub part-at : (word slot : ℕ) → slot < 4 → word / 2 ^ (36 - 12 * slot) % 4096 ≡ at (3 + slot) (split rowWidths word)
@@ -30,3 +29,14 @@ tuple-fields (a ∷ []) = omega arith
 tuple-fields (a ∷ b ∷ []) = omega arith
 tuple-fields (a ∷ b ∷ c ∷ []) = omega arith
 tuple-fields (a ∷ b ∷ c ∷ d ∷ rest) = omega arith
+
+pub slot-below : (word slot : ℕ) → getD (drop 3 (split rowWidths word)) slot 0 < 4096
+slot-below word zero = omega arith
+slot-below word (suc zero) = omega arith
+slot-below word (suc (suc zero)) = omega arith
+slot-below word (suc (suc (suc zero))) = omega arith
+slot-below word (suc (suc (suc (suc slot)))) = omega arith
+
+pub tag-below : (word : ℕ) → tagOf word < 16
+unfolding tagOf
+tag-below word = omega arith

@@ -9,10 +9,13 @@ use lib.ListN.{length, getD, take, set, length-set}
 use lib.Seq.{length-take-le, getD-take, getD-set-same, getD-set-other}
 use lib.Dec.{eqb}
 use borrow.Author.Tests.{eq-eqb, ne-eqb, eqb-true, eqb-false, lt-ltb, le-ltb}
+use Rattle.word.specs.Lowest.{placeOf}
+use Rattle.word.specs.declared.Place.{Place}
+use Rattle.word.specs.declared.Place.the-variants as places
 use Rattle.terms.specs.declared.Found.{Found}
 use Rattle.terms.specs.declared.Found.the-variants.{At, Full}
 use Rattle.terms.specs.Finder.{Located, asTermRow, located, equalRow, locate}
-use Rattle.terms.proofs.ScanLaws.{Passed, passed-hit, passed-miss, passed-end, lowest-is}
+use Rattle.terms.proofs.ScanLaws.{placed-at, placed-nowhere, Passed, passed-hit, passed-miss, passed-end, lowest-is}
 
 -- no used row equals the term
 abbrev pub Absent : List ℕ → ℕ → ℕ → Type 0
@@ -33,33 +36,28 @@ module _ (rows : List ℕ) (used word : ℕ) (fits : used ≤ length rows) where
   pub sought-hit : (i : ℕ) → i < used → Sought rows used word i → getD rows i 0 ≡ word → equalRow rows used word ≡ some i
   unfolding equalRow
   sought-hit i h sought e =
-      let long : length (take used rows) ≡ used = length-used in
-      passed-hit _ (take used rows) i (omega arith) sought (eq-eqb _ _ (getD-take used rows i 0 h ∙ e))
+      passed-hit _ (take used rows) i (omega (arith, length-used)) sought (eq-eqb _ _ (getD-take used rows i 0 h ∙ e))
 
   pub sought-miss : (i : ℕ) → i < used → Sought rows used word i → (getD rows i 0 ≡ word → ⊥) → Sought rows used word (i + 1)
   sought-miss i h sought e =
-      let long : length (take used rows) ≡ used = length-used in
-      passed-miss _ (take used rows) i (omega arith) sought (ne-eqb _ _ (λ q. e (sym (getD-take used rows i 0 h) ∙ q)))
+      passed-miss _ (take used rows) i (omega (arith, length-used)) sought (ne-eqb _ _ (λ q. e (sym (getD-take used rows i 0 h) ∙ q)))
 
   pub sought-end : (i : ℕ) → used ≤ i → Sought rows used word i → equalRow rows used word ≡ none
   unfolding equalRow
   sought-end i h sought =
-      let long : length (take used rows) ≡ used = length-used in
-      passed-end _ (take used rows) i (omega arith) sought
+      passed-end _ (take used rows) i (omega (arith, length-used)) sought
 
   pub equal-some : (row : ℕ) → equalRow rows used word ≡ some row → (row < used) × (getD rows row 0 ≡ word)
   unfolding equalRow
   equal-some row e =
-      let long : length (take used rows) ≡ used = length-used in
       let is = lowest-is (λ row other. eqb other word) (take used rows) (some row) e in
-      let inside : row < used = omega arith in
+      let inside : row < used = omega (arith, length-used) in
       (inside, sym (getD-take used rows row 0 inside) ∙ eqb-true _ _ (is .1 .0))
 
   pub equal-none : equalRow rows used word ≡ none → Absent rows used word
   unfolding equalRow
   equal-none e row h q =
-      let long : length (take used rows) ≡ used = length-used in
-      let fails = lowest-is (λ row other. eqb other word) (take used rows) none e row (omega arith) (omega arith) in
+      let fails = lowest-is (λ row other. eqb other word) (take used rows) none e row (omega arith) (omega (arith, length-used)) in
       eqb-false _ _ fails (getD-take used rows row 0 h ∙ q)
 
   pub equal-here : (row : ℕ) → row < used → getD rows row 0 ≡ word → Distinct rows used → equalRow rows used word ≡ some row
@@ -76,12 +74,14 @@ module _ (rows : List ℕ) (used word : ℕ) (fits : used ≤ length rows) where
       by none q = q
       by (some row) q = let is = equal-some row q in absurd (absent row (is .0) (is .1))
 
+-- the cases of `locate`
 module _ (rows : List ℕ) (used word : ℕ) where
   pub locate-there : (row : ℕ) → equalRow rows used word ≡ some row → locate rows used word ≡ located (At (asTermRow row) used) rows
   unfolding locate
   locate-there row e = rw e
 
-  pub locate-new : equalRow rows used word ≡ none → used < length rows → locate rows used word ≡ located (At (asTermRow used) (used + 1)) (set rows used word)
+  pub locate-new : equalRow rows used word ≡ none → used < length rows
+      → locate rows used word ≡ located (At (asTermRow used) (used + 1)) (set rows used word)
   unfolding locate
   locate-new e h = rw (e, lt-ltb used (length rows) h)
 
@@ -106,6 +106,23 @@ module _ (rows : List ℕ) (used word : ℕ) (fits : used ≤ length rows) where
             let end : length rows ≤ used = omega (arith, past) in
             rw (locate-full rows used word e end) (full (equal-none rows used word fits e) end)
 
+-- the same as the code meets them, after its search
+module _ (rows : List ℕ) (used word : ℕ) (place : Place) (is : place ≡ placeOf (equalRow rows used word)) where
+  pub find-there : (row : ℕ) → place ≡ places.At row → located (At (asTermRow row) used) rows ≡ locate rows used word
+  find-there row e = sym (locate-there rows used word row (placed-at _ is e))
+
+  pub find-new : place ≡ places.Nowhere → used < length rows
+      → located (At (asTermRow used) (used + 1)) (set rows used word) ≡ locate rows used word
+  find-new e h = sym (locate-new rows used word (placed-nowhere _ is e) h)
+
+  pub find-full : place ≡ places.Nowhere → length rows ≤ used → located Full rows ≡ locate rows used word
+  find-full e h = sym (locate-full rows used word (placed-nowhere _ is e) h)
+
+  pub find-below : used ≤ length rows → (row : ℕ) → place ≡ places.At row → row < used
+  find-below fits row e = equal-some rows used word fits row (placed-at _ is e) .0
+
+pub ruleset find-ways = (find-there, find-new, find-full)
+
 -- the rows are as they were
 pub record Kept (rows after : List ℕ) : Type 0 where
   pub long : length after ≡ length rows
@@ -125,18 +142,23 @@ wrote rows at word h =
     record { long = length-set rows at word; here = getD-set-same rows at word 0 h; others = λ row other. getD-set-other rows at row word 0 other }
 
 -- what an answer of the finder says, with the rows after it
-module _ (rows : List ℕ) (used word : ℕ) (fits : used ≤ length rows) (found : Found) (after : List ℕ) (says : located found after ≡ locate rows used word) where
-  -- a record of an answer, taken apart
-  parts : (other : Found) (others : List ℕ) (P : List ℕ → Type 0) → locate rows used word ≡ located other others → P others → (found ≡ other) × P after
+module _ (rows : List ℕ) (used word : ℕ) (fits : used ≤ length rows)
+    (found : Found) (after : List ℕ) (says : located found after ≡ locate rows used word) where
+  parts : (other : Found) (others : List ℕ) (P : List ℕ → Type 0)
+      → locate rows used word ≡ located other others → P others → (found ≡ other) × P after
   parts other others P e p =
       let q = says ∙ e in
       (ap (λ (l : Located). l .found) q, subst P (ap (λ (l : Located). l .rows) (sym q)) p)
 
-  pub takes-equal-row : (row : ℕ) → row < used → getD rows row 0 ≡ word → Distinct rows used → (found ≡ At (asTermRow row) used) × Kept rows after
-  takes-equal-row row h e distinct = parts _ rows (Kept rows) (locate-there rows used word row (equal-here rows used word fits row h e distinct)) (kept rows)
+  pub takes-equal-row : (row : ℕ) → row < used → getD rows row 0 ≡ word → Distinct rows used
+      → (found ≡ At (asTermRow row) used) × Kept rows after
+  takes-equal-row row h e distinct =
+      parts _ rows (Kept rows) (locate-there rows used word row (equal-here rows used word fits row h e distinct)) (kept rows)
 
   pub takes-unused-row : Absent rows used word → used < length rows → (found ≡ At (asTermRow used) (used + 1)) × Wrote rows used word after
-  takes-unused-row absent h = parts _ (set rows used word) (Wrote rows used word) (locate-new rows used word (equal-nowhere rows used word fits absent) h) (wrote rows used word h)
+  takes-unused-row absent h =
+      parts _ (set rows used word) (Wrote rows used word) (locate-new rows used word (equal-nowhere rows used word fits absent) h)
+      (wrote rows used word h)
 
   pub takes-no-row : Absent rows used word → length rows ≤ used → (found ≡ Full) × Kept rows after
   takes-no-row absent h = parts _ rows (Kept rows) (locate-full rows used word (equal-nowhere rows used word fits absent) h) (kept rows)

@@ -5,3 +5,4 @@ pub mod ShapeLaws
 pub mod TableLaws
 pub mod ScanLaws
 pub mod FinderLaws
+pub mod RuleLaws

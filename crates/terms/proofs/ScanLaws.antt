@@ -1,10 +1,10 @@
 -- `lowest` and `usedRows`: how a loop goes through them, and what the lowest place is.
 use Prim.Native.Nat.{ℕ, zero, suc, _+_, _<_, _≤_}
-use mathlib.Core.Path.{_≡_, refl, sym, _∙_}
+use mathlib.Core.Path.{_≡_, refl, _∙_}
 use mathlib.Core.Logic.{⊎-elim}
 use mathlib.Core.Bool.{Bool, true, false}
 use mathlib.Core.Option.{Option, none, some}
-use mathlib.Core.List.{List}
+use mathlib.Core.List.{List, [], _∷_}
 use native.Mathlib.Nat.{zero-add, eq-or-lt-of-le}
 use native.Mathlib.Numerals.{add-one}
 use native.Mathlib.Omega.{arith}
@@ -12,7 +12,7 @@ use lib.ListN.{length, getD, drop, drop-of-length-le}
 use lib.Seq.{drop-cons}
 use lib.Dec.{eqb}
 use borrow.Author.Tests.{eq-eqb, ne-eqb}
-use Rattle.word.specs.Lowest.{lowest, lowestFrom, placeOf}
+use Rattle.word.specs.Lowest.{lowest, lowestFrom, each, placeOf}
 use Rattle.word.specs.declared.Place.{Place}
 use Rattle.word.specs.declared.Place.the-variants.{At, Nowhere}
 use Rattle.terms.specs.Rules.{usedRows}
@@ -73,6 +73,23 @@ module _ (test : ℕ → ℕ → Bool) (all : List ℕ) where
   pub lowest-is : (answer : Option ℕ) → lowest test all ≡ answer → Is 0 answer
   lowest-is answer e = rw e at (is-from (length all) 0 (zero-add _))
 
+module _ (test : ℕ → Bool) (all : List ℕ) (i : ℕ) where
+  -- a loop that has passed so many elements, at each of which the test holds
+  abbrev pub Held : Type 0
+  Held = each test all ≡ each test (drop i all)
+
+  pub held-stop : i < length all → Held → test (getD all i 0) ≡ false → each test all ≡ false
+  unfolding each
+  held-stop h held e = held ∙ rw (drop-cons all i 0 h, e, each)
+
+  pub held-more : i < length all → Held → test (getD all i 0) ≡ true → each test all ≡ each test (drop (i + 1) all)
+  unfolding each
+  held-more h held e = held ∙ rw (drop-cons all i 0 h, e, add-one i, each)
+
+  pub held-end : length all ≤ i → Held → each test all ≡ true
+  unfolding each
+  held-end h held = held ∙ rw (drop-of-length-le all {i = i} h)
+
 module _ (rows : List ℕ) (i : ℕ) where
   -- so many rows are used at least
   abbrev pub Counted : Type 0
@@ -95,3 +112,12 @@ module _ (rows : List ℕ) (i : ℕ) where
   counted-end h counted =
       let end : usedRows (drop i rows) ≡ 0 = rw (drop-of-length-le rows {i = i} h) in
       omega arith
+
+pub used-within : (rows : List ℕ) → usedRows rows ≤ length rows
+unfolding usedRows
+used-within [] = omega arith
+used-within (word ∷ rows) = go (eqb word 0) (used-within rows)
+  where
+    go : (b : Bool) → usedRows rows ≤ length rows → (elim b [ true ↦ 0 | false ↦ suc (usedRows rows) ]) ≤ suc (length rows)
+    go true h = omega arith
+    go false h = omega arith

@@ -1,10 +1,18 @@
 // A term row's fields, and the words of shapes.
 ghost use mathlib.Core.Path.{_≡_};
 ghost use Prim.Native.Nat.{_+_, _<_, _≤_};
-ghost use lib.ListN.{take};
+ghost use lib.ListN.{take, getD};
 ghost use Rattle.word.specs.Fields.{split, at};
 ghost use Rattle.terms.specs.Shape.{atom, encrypted, signed, hashed, tupled};
 ghost use Rattle.terms.specs.Row.{rowWidths, atomWidths, tagOf, wordOf};
+
+// The row at a number, and the unused row past the end.
+pub fn row_at(rows: &[u64], row: u16) -> u64
+    ensures { λ r. ⌜ r ≡ getD (now (rows .entry)) row 0 ⌝ }
+{
+    let i = row as usize;
+    if i < rows.len() { rows[i] } else { 0 }
+}
 
 pub fn tag(word: u64) -> u64
     ensures { λ r. ⌜ r ≡ tagOf word ⌝ }

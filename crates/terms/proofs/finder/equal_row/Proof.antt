@@ -30,7 +30,10 @@ returns : tie.Need-returns Inv-loop μ-loop
 returns c =
     let s = c .before .before .before .before in
     let l = c .before .before .before .loop in
-    ap placeOf (sym (sought-hit (s .args .rows .now) (s .args .used) (s .args .word) (s .pre .0) (l .i) (c .before .before .loop-test .taken) (l .inv .1) (c .if1 .taken)))
+    ap placeOf
+    (sym
+    (sought-hit (s .args .rows .now) (s .args .used) (s .args .word) (s .pre .0) (l .i) (c .before .before .loop-test .taken) (l .inv .1)
+    (c .if1 .taken)))
 
 add-i : tie.Need-add-i Inv-loop μ-loop
 add-i c = omega arith
@@ -42,7 +45,8 @@ loop-again : tie.Need-loop-again Inv-loop μ-loop
 loop-again c =
     let s = c .before .before .before .before in
     let l = c .before .before .before .loop in
-    (omega arith, sought-miss (s .args .rows .now) (s .args .used) (s .args .word) (s .pre .0) (l .i) (c .before .before .loop-test .taken) (l .inv .1) (c .if1 .left))
+    let more = sought-miss (s .args .rows .now) (s .args .used) (s .args .word) (s .pre .0) (l .i) in
+    (omega arith, more (c .before .before .loop-test .taken) (l .inv .1) (c .if1 .left))
 
 returns-2 : tie.Need-returns-2 Inv-loop μ-loop
 returns-2 c =

@@ -1,8 +1,6 @@
 -- Each way out is a case of `locate`. Assumes nothing.
-use mathlib.Core.Path.{sym}
 use native.Mathlib.Omega.{arith}
-use Rattle.terms.proofs.ScanLaws.{placed-at, placed-nowhere}
-use Rattle.terms.proofs.FinderLaws.{equal-some, locate-there, locate-new, locate-full}
+use Rattle.terms.proofs.FinderLaws.{find-below, find-ways}
 use borrow.Author.Needs.{needs}
 use Rattle.terms.proofs.finder.find.Statement.{statement}
 use Rattle.terms.proofs.finder.find.Tie as tie
@@ -19,8 +17,8 @@ enum-known-place c = search needs
 cast-t11 : tie.Need-cast-t11
 cast-t11 c =
     let s = c .before .before .before .before .before .before in
-    let is = equal-some (s .args .rows .now) (s .args .used) (s .args .word) (s .pre .0) _ (placed-at _ (c .before .before .before .equal-row .ensures) (c .before .place .given .1)) in
-    omega arith
+    let place = c .before .before .before .equal-row in
+    omega (arith, find-below (s .args .rows .now) (s .args .used) (s .args .word) _ (place .ensures) (s .pre .0) _ (c .before .place .given .1))
 
 enum-told : tie.Need-enum-told
 enum-told c = search needs
@@ -38,25 +36,19 @@ same-length : tie.Need-same-length
 same-length c = search needs
 
 returns : tie.Need-returns
-returns c =
-    let s = c .before .before .before .before .before .before in
-    sym (locate-there (s .args .rows .now) (s .args .used) (s .args .word) _ (placed-at _ (c .before .before .before .equal-row .ensures) (c .before .place .given .1)))
+returns c = search find-ways
 
 same-length-2 : tie.Need-same-length-2
 same-length-2 c = search needs
 
 returns-2 : tie.Need-returns-2
-returns-2 c =
-    let s = c .before .before .before .before .before .before in
-    sym (locate-new (s .args .rows .now) (s .args .used) (s .args .word) (placed-nowhere _ (c .before .before .before .equal-row .ensures) (c .before .enum-told .given .1)) (c .if1 .taken))
+returns-2 c = search find-ways
 
 same-length-3 : tie.Need-same-length-3
 same-length-3 c = search needs
 
 returns-3 : tie.Need-returns-3
-returns-3 c =
-    let s = c .before .before .before .before .before .before in
-    sym (locate-full (s .args .rows .now) (s .args .used) (s .args .word) (placed-nowhere _ (c .before .before .before .equal-row .ensures) (c .before .enum-told .given .1)) (c .if1 .left))
+returns-3 c = search find-ways
 
 pub find-spec : {M : Type 1} → statement M
 find-spec =
