@@ -19,7 +19,8 @@ use Rattle.machine.specs.declared.Registers.{Registers}
 use Rattle.machine.specs.declared.Step.{Step}
 use Rattle.machine.specs.declared.Step.the-variants.{Next, Stuck, NoRoom}
 use Rattle.machine.proofs.RowLaws.{Finds, found-grown, found-row, full-kept}
-use Rattle.machine.proofs.StateLaws.{Placing, placed-at, placed-full, accumulator-made, object-made}
+use Rattle.machine.proofs.StateLaws.{accumulator-made, object-made}
+use Rattle.machine.proofs.WorldLaws.{Placing, placed-at, placed-full}
 
 module _ {before after : Slices} {answer : Step} (place : ℕ) where
   -- a cell that is set

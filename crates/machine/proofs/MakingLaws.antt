@@ -21,7 +21,8 @@ use Rattle.theory.specs.Compile.{kindIn}
 use Rattle.machine.specs.Machine.{Slices, withObjects, withRows, holding, usingRows, naming, Within, SameLengths, next, stuck, Does}
 use Rattle.machine.specs.declared.Registers.{Registers}
 use Rattle.machine.specs.declared.Step.the-variants.{Next, Stuck, NoRoom}
-use Rattle.machine.proofs.StateLaws.{names-full, created-at, created-full, object-made, accumulator-unset, accumulator-row, object-unset, object-row, opposite-other as opposite-is-other, opposite-private as opposite-is-made}
+use Rattle.machine.proofs.StateLaws.{object-made, accumulator-unset, accumulator-row, object-unset, object-row}
+use Rattle.machine.proofs.WorldLaws.{names-full, created-at, created-full, opposite-other as opposite-is-other, opposite-private as opposite-is-made}
 use Rattle.machine.proofs.RowLaws.{Finds, finds, found-grown, found-row, full-kept}
 use Rattle.machine.proofs.AgreeLaws.{reads, gets, fills, answers-as, unset-stops, stops, finds-no-room, makes-accumulator, makes-object}
 

@@ -16,7 +16,8 @@ use Rattle.theory.specs.Run.{stateOver}
 use Rattle.machine.specs.Machine.{Slices, withObjects, withMessages, withRows, holding, SameLengths, next, stuck, Does}
 use Rattle.machine.specs.declared.Registers.{Registers}
 use Rattle.machine.specs.declared.Step.the-variants.{Next, Stuck}
-use Rattle.machine.proofs.StateLaws.{accumulator-unset, accumulator-row, object-unset, object-row, message-unset, message-row, kind-tag, accumulator-set, object-set, message-set}
+use Rattle.machine.proofs.StateLaws.{accumulator-unset, accumulator-row, object-unset, object-row, message-unset, message-row, accumulator-set, object-set, message-set}
+use Rattle.machine.proofs.WorldLaws.{kind-tag}
 use Rattle.machine.proofs.AgreeLaws.{same-lengths, messages-lengths, objects-lengths, reads, passes, unset-stops, fails}
 
 module _ (g : Registers) (messages : List ℕ) (r : Raw) (row : ℕ) (read : row ≡ getD messages (r .0) unset) (kind : ℕ → ℕ) where

@@ -5,31 +5,16 @@ use mathlib.Core.Option.{Option, none, some}
 use mathlib.Core.List.{List, [], _∷_}
 use native.Mathlib.Decide.{ℕ-discrete, decLt}
 use native.Mathlib.Omega.{arith}
-use borrow.Author.Tests.{eq-eqb, ne-eqb, lt-ltb, le-ltb}
+use borrow.Author.Tests.{eq-eqb, ne-eqb}
 use lib.ListN.{length, getD, take, drop, set, length-take, length-drop}
 use lib.Seq.{getD-take, getD-drop, getD-set-same, getD-set-other, take-set-lt, take-set-le, drop-set-lt, drop-set-add}
-use Rattle.answers.specs.Numbers.{reasonNumber}
-use Rattle.answers.specs.declared.Reason.the-variants.{OtherKind}
-use Rattle.code.specs.declared.TermRow.{TermRow}
-use Rattle.word.specs.Fields.{split, at}
-use Rattle.terms.specs.Shape.{Shape, atom, kindOf}
-use Rattle.terms.specs.Row.{atomWidths, wordOf, tagOf, shapeOf}
-use Rattle.terms.specs.Finder.{locate}
-use Rattle.terms.specs.declared.Found.{Found}
-use Rattle.terms.specs.declared.Found.the-variants.{At, Full}
-use Rattle.terms.proofs.RowLaws.{tag-kind}
-use Rattle.terms.proofs.ShapeLaws.{shape-atom}
 use Rattle.stores.specs.Cells.{unset, held, storeOf}
 use Rattle.theory.specs.Store.{put}
-use Rattle.theory.specs.Outcome.{Answer, got, not, full}
-use Rattle.theory.specs.World.{World, create, op}
-use Rattle.theory.specs.Model.{Model, opposite}
-use Rattle.theory.specs.RowModel.{Table, withRows, withCounter, mostNames, placed, rowModel, rowWorld}
+use Rattle.theory.specs.RowModel.{Table, rowWorld}
 use Rattle.theory.specs.Machine.{State, namedCells, withAccumulator, withStores, setObject, setMemory, message, setMessage}
 use Rattle.theory.specs.Run.{stateOver}
 use Rattle.theory.proofs.StoreLaws.{put-same, put-other}
 use Rattle.theory.proofs.CellLaws.{message-named, message-scratch, setMessage-named, setMessage-scratch}
-use Rattle.machine.proofs.RowLaws.{Finds}
 
 -- within a list the default is not asked
 pub inside : (l : List ℕ) (i a b : ℕ) → i < length l → getD l i a ≡ getD l i b
@@ -93,59 +78,6 @@ module _ (accumulator : ℕ) (objects messages : List ℕ) (table : Table) where
 
   pub message-row : (cell : ℕ) {row : ℕ} → row ≡ getD messages cell unset → (row ≡ unset → ⊥) → message rowWorld state cell ≡ some row
   message-row cell {row} read isRow = message-held cell ∙ rw (← read) (held-set row isRow)
-
-  -- a term that is made, before the finder has answered
-  abbrev pub Placing : ℕ → Answer (ℕ × Table)
-  Placing word = placed (state .stores .memory) (locate (state .stores .memory .rows) (state .stores .memory .used) word)
-
-  -- how a row looks, by its tag
-  module _ (row : ℕ) {word tag : ℕ} (looked : word ≡ getD (table .rows) row 0) (tagged : tag ≡ tagOf word) where
-    abbrev look : Shape ℕ
-    look = rowModel .look row (state .stores .memory)
-
-    as-word : look ≡ shapeOf word
-    unfolding stateOver
-    as-word = rw (← looked)
-
-    pub kind-tag : kindOf look ≡ tag
-    kind-tag = ap kindOf as-word ∙ tag-kind word ∙ sym tagged
-
-    pub look-atom : {number : ℕ} → tag ≤ 6 → number ≡ at 2 (split atomWidths word) → look ≡ atom tag number
-    look-atom {number} small numbered =
-        as-word ∙ shape-atom word (λ a b. omega arith) ∙ rw (tagged, numbered)
-
-    pub opposite-other : (tag ≡ 5 → ⊥) → rowWorld .apply (op row) (state .stores .memory) ≡ not (reasonNumber OtherKind)
-    opposite-other other = rw (ne-eqb (kindOf look) 5 (λ e. other (sym kind-tag ∙ e)))
-
-    pub opposite-private : {number : ℕ} → tag ≡ 5 → number ≡ at 2 (split atomWidths word) → rowWorld .apply (op row) (state .stores .memory) ≡ Placing (wordOf (atom 4 number))
-    opposite-private {number} private numbered =
-        ap (λ shape. opposite rowModel shape (state .stores .memory)) (look-atom (omega arith) numbered ∙ ap (λ t. atom t number) private)
-
-  -- the finder's answer
-  module _ {rows′ : List ℕ} {term : ℕ} {found : Found} (answer : Finds (table .rows) (table .used) term found rows′) where
-    pub placed-at : {row : TermRow} {used : ℕ} → found ≡ At row used → Placing term ≡ got (row .0, withRows table rows′ used)
-    unfolding stateOver
-    placed-at e = rw (← (answer .says), e)
-
-    pub placed-full : found ≡ Full → Placing term ≡ full
-    unfolding stateOver
-    placed-full e = rw (← (answer .says), e)
-
-  -- a created name: the counter is looked at before the row
-  module _ (kind : ℕ) where
-    pub names-full : mostNames ≤ table .counter → rowWorld .apply (create kind) (state .stores .memory) ≡ full
-    unfolding stateOver
-    names-full most = rw (le-ltb (table .counter) mostNames most)
-
-    module _ {rows′ : List ℕ} {found : Found} (free : table .counter < mostNames) (answer : Finds (table .rows) (table .used) (wordOf (atom kind (table .counter))) found rows′) where
-      pub created-at : {row : TermRow} {used : ℕ} → found ≡ At row used
-          → rowWorld .apply (create kind) (state .stores .memory) ≡ got (row .0, withRows (withCounter table (suc (table .counter))) rows′ used)
-      unfolding stateOver
-      created-at e = rw (lt-ltb (table .counter) mostNames free, ← (answer .says), e)
-
-      pub created-full : found ≡ Full → rowWorld .apply (create kind) (state .stores .memory) ≡ full
-      unfolding stateOver
-      created-full e = rw (lt-ltb (table .counter) mostNames free, ← (answer .says), e)
 
   -- and what it is after a write
   module _ (row : ℕ) (isRow : row ≡ unset → ⊥) where

@@ -1,7 +1,8 @@
 -- What a method of the machine does is a step of figure 4 at rows, on the slices that are lent.
 use Prim.Native.Nat.{ℕ, _≤_}
 use mathlib.Core.Path.{_≡_}
-use mathlib.Core.List.{List}
+use mathlib.Core.Bool.{Bool}
+use mathlib.Core.List.{List, []}
 use lib.ListN.{length}
 use Rattle.answers.specs.Numbers.{reasonNumber}
 use Rattle.answers.specs.declared.Reason.{Reason}
@@ -9,7 +10,8 @@ use Rattle.code.specs.declared.TermRow.{TermRow}
 use Rattle.code.specs.declared.Instruction.{Instruction}
 use Rattle.theory.specs.Outcome.{Outcome, done}
 use Rattle.theory.specs.Outcome as Outcome
-use Rattle.theory.specs.RowModel.{rowWorld}
+use Rattle.theory.specs.Model.{goesWith}
+use Rattle.theory.specs.RowModel.{rowModel, rowWorld}
 use Rattle.theory.specs.Machine.{State, step}
 use Rattle.theory.specs.Run.{stateOver}
 use Rattle.machine.specs.declared.Registers.{Registers}
@@ -49,6 +51,10 @@ usingRows g used = record { place = g .place; accumulator = g .accumulator; used
 
 abbrev pub naming : Registers → ℕ → ℕ → Registers
 naming g used counter = record { place = g .place; accumulator = g .accumulator; used = used; counter = counter }
+
+-- a key goes with another: `goesWith`, which looks at their two rows alone
+unfoldable pub keysPair : List ℕ → ℕ → ℕ → Bool
+keysPair rows key other = goesWith rowModel key other (record { rows = rows; used = 0; counter = 0; certificates = [] })
 
 -- the used rows are within the slice, and row numbers are below 65,535
 pub record Within (rows : List ℕ) (used : ℕ) : Type 0 where

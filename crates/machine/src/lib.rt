@@ -7,6 +7,7 @@ use code::TermRow;
 pub mod cells;
 pub mod making;
 pub mod moving;
+pub mod opening;
 pub mod rows;
 
 pub struct Registers {
