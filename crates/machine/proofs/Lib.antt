@@ -7,3 +7,4 @@ pub mod AgreeLaws
 pub mod MovingLaws
 pub mod MakingLaws
 pub mod OpeningLaws
+pub mod TupleLaws

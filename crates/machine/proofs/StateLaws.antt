@@ -6,13 +6,14 @@ use mathlib.Core.List.{List, [], _∷_}
 use native.Mathlib.Decide.{ℕ-discrete, decLt}
 use native.Mathlib.Omega.{arith}
 use borrow.Author.Tests.{eq-eqb, ne-eqb}
-use lib.ListN.{length, getD, take, drop, set, length-take, length-drop}
+use lib.ListN.{length, getD, take, drop, set, length-take, length-drop, length-set}
 use lib.Seq.{getD-take, getD-drop, getD-set-same, getD-set-other, take-set-lt, take-set-le, drop-set-lt, drop-set-add}
 use Rattle.stores.specs.Cells.{unset, held, storeOf}
 use Rattle.theory.specs.Store.{put}
 use Rattle.theory.specs.RowModel.{Table, rowWorld}
-use Rattle.theory.specs.Machine.{State, namedCells, withAccumulator, withStores, setObject, setMemory, message, setMessage}
+use Rattle.theory.specs.Machine.{State, namedCells, withAccumulator, withStores, setObject, setMemory, message, setMessage, setMessages}
 use Rattle.theory.specs.Run.{stateOver}
+use Rattle.machine.specs.Machine.{spread}
 use Rattle.theory.proofs.StoreLaws.{put-same, put-other}
 use Rattle.theory.proofs.CellLaws.{message-named, message-scratch, setMessage-named, setMessage-scratch}
 
@@ -38,6 +39,17 @@ store-set cells n row within isRow = fun-ext λ j. go j (ℕ-discrete n j)
     go : (j : ℕ) → Dec (n ≡ j) → held (getD (set cells n row) j unset) ≡ put (λ k. held (getD cells k unset)) n (some row) j
     go j (yes e) = rw (← e, getD-set-same cells n row unset within, put-same) (held-set row isRow)
     go j (no u) = rw (getD-set-other cells n j row unset (λ e. u (sym e)), put-other (λ k. held (getD cells k unset)) n j (some row) u)
+
+-- rows written to cells one after another
+pub spread-length : (cells : List ℕ) (b n : ℕ) (row : ℕ → ℕ) → length (spread cells b n row) ≡ length cells
+unfolding spread
+spread-length cells b zero row = refl
+spread-length cells b (suc n) row = length-set (spread cells b n row) (b + n) (row n) ∙ spread-length cells b n row
+
+pub spread-same : (cells : List ℕ) (b n : ℕ) (row other : ℕ → ℕ) → ((i : ℕ) → i < n → row i ≡ other i) → spread cells b n row ≡ spread cells b n other
+unfolding spread
+spread-same cells b zero row other same = refl
+spread-same cells b (suc n) row other same = rw (same n (omega arith), spread-same cells b n row other (λ i l. same i (omega arith)))
 
 module _ (accumulator : ℕ) (objects messages : List ℕ) (table : Table) where
   abbrev pub state : State rowWorld
@@ -125,3 +137,13 @@ module _ (accumulator : ℕ) (objects messages : List ℕ) (table : Table) where
           → stateOver accumulator (set objects v row) messages table′ ≡ withStores rowWorld state (setObject rowWorld (setMemory rowWorld (state .stores) table′) v row)
       unfolding stateOver
       object-made v within = rw (store-set objects v row within isRow)
+
+module _ (accumulator : ℕ) (objects messages : List ℕ) (table : Table) where
+  pub messages-set : (b n : ℕ) (row : ℕ → ℕ) → b + n ≤ length messages → ((i : ℕ) → i < n → row i ≡ unset → ⊥)
+      → stateOver accumulator objects (spread messages b n row) table ≡ setMessages rowWorld (stateOver accumulator objects messages table) b n row
+  unfolding spread setMessages
+  messages-set b zero row inside areRows = refl
+  messages-set b (suc n) row inside areRows =
+      let last : b + n < length (spread messages b n row) = rw spread-length (omega arith) in
+      message-set accumulator objects (spread messages b n row) table (row n) (areRows n (omega arith)) (b + n) last
+      ∙ ap (λ s. setMessage rowWorld s (b + n) (row n)) (messages-set b n row (omega arith) (λ i l. areRows i (omega arith)))

@@ -5,22 +5,22 @@ use mathlib.Core.Bool.{Bool, _&&_}
 use mathlib.Core.List.{List}
 use native.Mathlib.Omega.{arith}
 use borrow.Author.Tests.{eq-eqb, ne-eqb, lt-ltb, le-ltb}
-use lib.ListN.{getD}
+use lib.ListN.{length, getD}
 use lib.Dec.{eqb}
 use Rattle.answers.specs.Numbers.{reasonNumber}
-use Rattle.answers.specs.declared.Reason.the-variants.{OtherKind, NotOpened, NotVerified}
+use Rattle.answers.specs.declared.Reason.the-variants.{OtherKind, PartCount, NotOpened, NotVerified}
 use Rattle.code.specs.declared.TermRow.{TermRow}
 use Rattle.word.specs.Fields.{split, at}
-use Rattle.terms.specs.Shape.{Shape, atom, encrypted, signed, hashed, tupled, kindOf}
+use Rattle.terms.specs.Shape.{Shape, atom, encrypted, signed, hashed, tupled, kindOf, partsOf}
 use Rattle.terms.specs.Row.{rowWidths, atomWidths, wordOf, tagOf, shapeOf}
 use Rattle.terms.specs.Finder.{locate}
 use Rattle.terms.specs.declared.Found.{Found}
 use Rattle.terms.specs.declared.Found.the-variants.{At, Full}
 use Rattle.terms.proofs.RowLaws.{tag-kind}
-use Rattle.terms.proofs.ShapeLaws.{shape-atom, shape-encrypted, shape-signed}
+use Rattle.terms.proofs.ShapeLaws.{shape-atom, shape-encrypted, shape-signed, shape-tupled}
 use Rattle.theory.specs.Outcome.{Answer, got, not, full, andThen, sure}
 use Rattle.theory.specs.World.{World, create, op, decrypt, verify}
-use Rattle.theory.specs.Model.{Model, opposite, opened, verified}
+use Rattle.theory.specs.Model.{Model, opposite, opened, verified, taken}
 use Rattle.theory.specs.RowModel.{Table, withRows, withCounter, mostNames, placed, rowModel, rowWorld}
 use Rattle.theory.specs.Machine.{State}
 use Rattle.theory.specs.Run.{stateOver}
@@ -41,6 +41,13 @@ verified-other key body (encrypted lock inner) x other = refl
 verified-other key body (signed lock inner) x other = absurd (other refl)
 verified-other key body (hashed inner) x other = refl
 verified-other key body (tupled parts) x other = refl
+
+taken-other : (row n : ℕ) (shape : Shape ℕ) → (kindOf shape ≡ 10 → ⊥) → taken rowModel row n shape ≡ not (reasonNumber PartCount)
+taken-other row n (atom tag number) other = refl
+taken-other row n (encrypted key body) other = refl
+taken-other row n (signed key body) other = refl
+taken-other row n (hashed body) other = refl
+taken-other row n (tupled parts) other = absurd (other refl)
 
 module _ (accumulator : ℕ) (objects messages : List ℕ) (table : Table) where
   abbrev state : State rowWorld
@@ -78,6 +85,21 @@ module _ (accumulator : ℕ) (objects messages : List ℕ) (table : Table) where
     pub opposite-private : {number : ℕ} → tag ≡ 5 → number ≡ at 2 (split atomWidths word) → rowWorld .apply (op row) (state .stores .memory) ≡ Placing (wordOf (atom 4 number))
     opposite-private {number} private numbered =
         ap (λ shape. opposite rowModel shape (state .stores .memory)) (look-atom (omega arith) numbered ∙ ap (λ t. atom t number) private)
+
+    -- the parts of a tuple
+    pub not-tuple : (n : ℕ) → (tag ≡ 10 → ⊥) → rowWorld .parts row n (state .stores .memory) ≡ not (reasonNumber PartCount)
+    not-tuple n other = taken-other row n look (λ e. other (sym kind-tag ∙ e))
+
+    module _ (n : ℕ) (tuple : tag ≡ 10) {size : ℕ} (sized : size ≡ length (partsOf (shapeOf word))) where
+      tuple-parts : rowWorld .parts row n (state .stores .memory)
+          ≡ andThen (sure (reasonNumber PartCount) (eqb (length (partsOf (shapeOf word))) n)) (λ _. got (λ i. getD (partsOf (shapeOf word)) i row))
+      tuple-parts = let shape = shape-tupled word (sym tagged ∙ tuple) in ap (taken rowModel row n) (as-word ∙ shape) ∙ rw shape
+
+      pub tuple-other : (size ≡ n → ⊥) → rowWorld .parts row n (state .stores .memory) ≡ not (reasonNumber PartCount)
+      tuple-other differs = tuple-parts ∙ rw (← sized, ne-eqb size n differs)
+
+      pub tuple-taken : size ≡ n → rowWorld .parts row n (state .stores .memory) ≡ got (λ i. getD (partsOf (shapeOf word)) i row)
+      tuple-taken same = tuple-parts ∙ rw (← sized, eq-eqb size n same)
 
     -- what a key opens, and what it verifies for a body
     module _ (key : ℕ) where

@@ -1,9 +1,9 @@
 -- What a method of the machine does is a step of figure 4 at rows, on the slices that are lent.
-use Prim.Native.Nat.{ℕ, _≤_}
+use Prim.Native.Nat.{ℕ, zero, suc, _+_, _≤_}
 use mathlib.Core.Path.{_≡_}
 use mathlib.Core.Bool.{Bool}
 use mathlib.Core.List.{List, []}
-use lib.ListN.{length}
+use lib.ListN.{length, set}
 use Rattle.answers.specs.Numbers.{reasonNumber}
 use Rattle.answers.specs.declared.Reason.{Reason}
 use Rattle.code.specs.declared.TermRow.{TermRow}
@@ -55,6 +55,11 @@ naming g used counter = record { place = g .place; accumulator = g .accumulator;
 -- a key goes with another: `goesWith`, which looks at their two rows alone
 unfoldable pub keysPair : List ℕ → ℕ → ℕ → Bool
 keysPair rows key other = goesWith rowModel key other (record { rows = rows; used = 0; counter = 0; certificates = [] })
+
+-- n rows written to the cells from b on, one after another as in `setMessages`
+unfoldable pub spread : List ℕ → ℕ → ℕ → (ℕ → ℕ) → List ℕ
+spread cells b zero row = cells
+spread cells b (suc n) row = set (spread cells b n row) (b + n) (row n)
 
 -- the used rows are within the slice, and row numbers are below 65,535
 pub record Within (rows : List ℕ) (used : ℕ) : Type 0 where

@@ -9,6 +9,7 @@ pub mod making;
 pub mod moving;
 pub mod opening;
 pub mod rows;
+pub mod tuples;
 
 pub struct Registers {
     pub place: u32,
