@@ -1,7 +1,7 @@
 -- Laws of term rows, of the term table and of the finder.
 pub mod FieldLaws
-pub mod RowLaws
 pub mod ShapeLaws
+pub mod RowLaws
 pub mod TableLaws
 pub mod ScanLaws
 pub mod FinderLaws

@@ -1,11 +1,9 @@
--- `lowest` and `usedRows`: how a loop goes through them, and what the lowest place is.
-use Prim.Native.Nat.{ℕ, zero, suc, _+_, _<_, _≤_}
+-- How a loop goes through `lowest`, `each` and `usedRows`.
+use Prim.Native.Nat.{ℕ, suc, _+_, _<_, _≤_}
 use mathlib.Core.Path.{_≡_, refl, _∙_}
-use mathlib.Core.Logic.{⊎-elim}
 use mathlib.Core.Bool.{Bool, true, false}
 use mathlib.Core.Option.{Option, none, some}
 use mathlib.Core.List.{List, [], _∷_}
-use native.Mathlib.Nat.{zero-add, eq-or-lt-of-le}
 use native.Mathlib.Numerals.{add-one}
 use native.Mathlib.Omega.{arith}
 use lib.ListN.{length, getD, drop, drop-of-length-le}
@@ -42,36 +40,6 @@ module _ (test : ℕ → ℕ → Bool) (all : List ℕ) (i : ℕ) where
   pub passed-end : length all ≤ i → Passed → lowest test all ≡ none
   unfolding lowestFrom
   passed-end h passed = passed ∙ rw (drop-of-length-le all {i = i} h)
-
-module _ (test : ℕ → ℕ → Bool) (all : List ℕ) where
-  abbrev pub Fails : ℕ → ℕ → Type 0
-  Fails from to = (place : ℕ) → from ≤ place → place < to → test place (getD all place 0) ≡ false
-
-  -- what the lowest place from one on is, and what it means that there is none
-  abbrev pub Is : ℕ → Option ℕ → Type 0
-  Is from none = Fails from (length all)
-  Is from (some place) = (place < length all) × ((test place (getD all place 0) ≡ true) × Fails from place)
-
-  fails-next : (i to : ℕ) → test i (getD all i 0) ≡ false → Fails (suc i) to → Fails i to
-  fails-next i to e rest place h l = ⊎-elim (λ q. rw (← q) e) (λ g. rest place g l) (eq-or-lt-of-le h)
-
-  is-next : (i : ℕ) → test i (getD all i 0) ≡ false → (answer : Option ℕ) → Is (suc i) answer → Is i answer
-  is-next i e none rest = fails-next i (length all) e rest
-  is-next i e (some place) rest = (rest .0, (rest .1 .0, fails-next i place e (rest .1 .1)))
-
-  is-here : (i : ℕ) → i < length all → Is (suc i) (lowestFrom (suc i) test (drop (suc i) all)) → (b : Bool) → test i (getD all i 0) ≡ b
-      → Is i (lowestFrom i test (drop i all))
-  unfolding lowestFrom
-  is-here i h rest true e = rw (drop-cons all i 0 h, e, lowestFrom) (h, (e, λ place g l. absurd (omega arith)))
-  is-here i h rest false e = rw (drop-cons all i 0 h, e, lowestFrom) (is-next i e (lowestFrom (suc i) test (drop (suc i) all)) rest)
-
-  is-from : (left i : ℕ) → i + left ≡ length all → Is i (lowestFrom i test (drop i all))
-  unfolding lowestFrom
-  is-from zero i n = rw (drop-of-length-le all {i = i} (omega arith)) (λ place h l. absurd (omega arith))
-  is-from (suc left) i n = is-here i (omega arith) (is-from left (suc i) (omega arith)) _ refl
-
-  pub lowest-is : (answer : Option ℕ) → lowest test all ≡ answer → Is 0 answer
-  lowest-is answer e = rw e at (is-from (length all) 0 (zero-add _))
 
 module _ (test : ℕ → Bool) (all : List ℕ) (i : ℕ) where
   -- a loop that has passed so many elements, at each of which the test holds

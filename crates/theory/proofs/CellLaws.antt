@@ -1,14 +1,14 @@
 -- Message cells by their numbers: named below 64, scratch from there on.
-use Prim.Native.Nat.{ℕ, zero, suc, _+_, _-_, _<_}
-use mathlib.Core.Path.{_≡_, refl, ap}
-use mathlib.Core.Bool.{Bool, true, false}
-use mathlib.Core.Option.{Option, some}
+use Prim.Native.Nat.{ℕ, zero, suc, _+_, _<_}
+use mathlib.Core.Path.{_≡_, refl}
+use mathlib.Core.Bool.{true, false}
+use mathlib.Core.Option.{some}
 use mathlib.Core.List.{List, _∷_}
 use native.Mathlib.Nat.{add-assoc, add-suc, add-sub-cancel-left}
 use native.Mathlib.Omega.{arith}
 use borrow.Author.Tests.{lt-ltb, le-ltb}
 use lib.Dec.{ltb}
-use Rattle.theory.specs.Outcome.{Outcome, done, bind, need}
+use Rattle.theory.specs.Outcome.{done}
 use Rattle.theory.specs.Store.{put, puts}
 use Rattle.theory.specs.World.{World}
 use Rattle.theory.specs.Machine.{namedCells, State, setRaw, withStores, withScratch, message, setMessage, setMessages, messages}
@@ -48,11 +48,10 @@ module _ (W : World) (s : State W) where
   setMessages-scratch b zero g = refl
   setMessages-scratch b (suc n) g = rw (add-assoc, setMessages-scratch b n g) (setMessage-scratch W _ (b + n) (g n))
 
-  pub messages-scratch : (place b n : ℕ)
-      → messages W place s (namedCells + b) (suc n)
-      ≡ bind (need place (s .scratches b)) λ m. bind (messages W place s (namedCells + suc b) n) λ ms. done (m ∷ ms)
+  pub messages-scratch : (place b n : ℕ) (m : W .Msg) (ms : List (W .Msg)) → s .scratches b ≡ some m
+      → messages W place s (namedCells + suc b) n ≡ done ms → messages W place s (namedCells + b) (suc n) ≡ done (m ∷ ms)
   unfolding messages
-  messages-scratch place b n = rw (message-scratch W s b, add-suc)
+  messages-scratch place b n m ms p q = rw (message-scratch W s b, p, ← add-suc namedCells b, q)
 
 module _ (e : Env) where
   pub readable-named : (r : ℕ) → r < namedCells → readable e r ≡ e .raws r

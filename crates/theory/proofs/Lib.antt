@@ -1,6 +1,34 @@
--- Compiled code does what the rules say; the cases of document 01.
+-- The theorems of the paper.
+pub mod Cases
 pub mod StoreLaws
 pub mod CellLaws
 pub mod Reasons
+pub mod Models
 pub mod Simulation
-pub mod Cases
+pub mod Goes
+pub mod Steps
+pub mod Matching
+pub mod Creating
+pub mod Adequacy
+pub mod Compiled
+pub mod FigureLaws
+pub mod MatchingRules
+pub mod CreatingRules
+pub mod InLimits
+pub mod SetCells
+pub mod Places
+pub mod Fitting
+pub mod Related
+pub mod Refinement
+pub mod ModelRefinement
+pub mod Meaning
+pub mod ValidMemory
+pub mod RowsAreTerms
+pub mod RowsRunAsTerms
+pub mod RowSteps
+pub mod Room
+pub mod Theorems
+pub mod ValidLent
+pub mod RowsKept
+pub mod ValidAgain
+pub mod CompileLaws

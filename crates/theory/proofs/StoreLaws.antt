@@ -1,12 +1,12 @@
 -- Stores after a write.
 use Prim.Native.Nat.{ℕ, zero, suc, _+_, _<_}
-use mathlib.Core.Path.{_≡_, refl, _∙_, ap}
+use mathlib.Core.Path.{_≡_, refl, sym, _∙_, ap, fun-ext}
 use mathlib.Core.Bool.{Bool, true, false, cond}
 use mathlib.Core.Option.{Option, none, some}
 use native.Mathlib.Decide.{ℕ-discrete}
 use native.Mathlib.Omega.{arith}
 use borrow.Author.Tests.{eq-eqb, ne-eqb}
-use lib.Dec.{eqb}
+use lib.Dec.{T, eqb, eqb→eq}
 use Rattle.theory.specs.Outcome.{isSome}
 use Rattle.theory.specs.Store.{put, puts}
 
@@ -18,6 +18,19 @@ module _ {A : Type 0} where
   pub put-other : (f : ℕ → A) (k j : ℕ) (x : A) → (k ≡ j → ⊥) → put f k x j ≡ f j
   unfolding put
   put-other f k j x other = rw (ne-eqb k j other)
+
+  pub put-back : (f : ℕ → A) {k j : ℕ} {y : A} (x : A) → (k ≡ j → ⊥) → put f k x j ≡ y → f j ≡ y
+  put-back f x n e = sym (put-other f _ _ x n) ∙ e
+
+  -- two different places may be written in either order
+  pub put-comm : (f : ℕ → A) (k j : ℕ) (x y : A) → (k ≡ j → ⊥) → put (put f k x) j y ≡ put (put f j y) k x
+  unfolding put
+  put-comm f k j x y n = fun-ext λ i. go i (eqb k i) (eqb j i) (eqb→eq k i) (eqb→eq j i)
+    where
+      go : (i : ℕ) (a b : Bool) → (T a → k ≡ i) → (T b → j ≡ i) → cond b y (cond a x (f i)) ≡ cond a x (cond b y (f i))
+      go i true true p q = absurd (n (p tt ∙ sym (q tt)))
+      go i true false p q = refl
+      go i false b p q = refl
 
   pub puts-below : (f : ℕ → A) (b n : ℕ) (g : ℕ → A) (j : ℕ) → j < b → puts f b n g j ≡ f j
   unfolding puts

@@ -1,3 +1,8 @@
--- Laws of packed fields and of tests over lists.
+-- Laws of words in memory, of packed fields, and of tests over lists.
+pub mod ByteLaws
 pub mod FieldLaws
+pub mod All
+pub mod TestLaws
 pub mod LowestLaws
+pub mod SearchLaws
+pub mod OneOfLaws

@@ -1,3 +1,4 @@
+-- Past the end a list reads as zero. Assumes nothing.
 use mathlib.Core.Path.{sym}
 use lib.ListN.{List·getD-eq-default}
 use borrow.Author.Needs.{needs}

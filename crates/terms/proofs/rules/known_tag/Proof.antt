@@ -1,3 +1,4 @@
+-- Below 1, or not. Assumes nothing.
 use Rattle.terms.proofs.RuleLaws.{known-ways}
 use borrow.Author.Needs.{needs}
 use Rattle.terms.proofs.rules.known_tag.Statement.{statement}

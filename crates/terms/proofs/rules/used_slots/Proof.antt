@@ -1,3 +1,4 @@
+-- The number of parts by each shape. Assumes nothing.
 use Rattle.terms.proofs.RuleLaws.{slots-ways}
 use borrow.Author.Needs.{needs}
 use Rattle.terms.proofs.rules.used_slots.Statement.{statement}
