@@ -18,7 +18,7 @@ use Rattle.machine.specs.Machine.{Slices, withObjects, withMessages, wit
 use Rattle.machine.specs.declared.Registers.{Registers}
 use Rattle.machine.specs.declared.Step.{Step}
 use Rattle.machine.specs.declared.Step.the-variants.{Next, Stuck, NoRoom}
-use Rattle.machine.proofs.RowLaws.{Finds, found-grown, found-row, full-kept}
+use Rattle.machine.proofs.FoundLaws.{Finds, found-length, found-row, full-kept}
 use Rattle.machine.proofs.StateLaws.{accumulator-made, object-made}
 use Rattle.machine.proofs.WorldLaws.{Placing, placed-at, placed-full}
 
@@ -82,7 +82,7 @@ module _ (g : Registers) (x : Slices) {term : ℕ} {found : Found} {rows′ : Li
         (Next (holding (usingRows g used) row)) (withRows x rows′)
     makes-accumulator =
         gets place _ (placed-at _ _ _ _ answer e)
-        (next (accumulator-made _ _ _ _ (row .0) (found-row answer e) _) (record { objects-length = refl; messages-length = refl; rows-length = found-grown answer e .long }))
+        (next (accumulator-made _ _ _ _ (row .0) (found-row answer e) _) (record { objects-length = refl; messages-length = refl; rows-length = found-length answer }))
 
     pub makes-object : (v : ℕ) → v < length (x .objects) → Agrees x
         (bind (at place (placing g x term)) λ r. done (withStores rowWorld (stateAt g x) (setObject rowWorld (setMemory rowWorld (stateAt g x .stores) (r .1)) v (r .0))))
@@ -90,4 +90,4 @@ module _ (g : Registers) (x : Slices) {term : ℕ} {found : Found} {rows′ : Li
     makes-object v inside =
         gets place _ (placed-at _ _ _ _ answer e)
         (next (object-made _ _ _ _ (row .0) (found-row answer e) _ v inside)
-        (record { objects-length = length-set (x .objects) v (row .0); messages-length = refl; rows-length = found-grown answer e .long }))
+        (record { objects-length = length-set (x .objects) v (row .0); messages-length = refl; rows-length = found-length answer }))

@@ -1,6 +1,7 @@
 -- Laws of the machine over the lent slices.
 pub mod KeyLaws
 pub mod RowLaws
+pub mod FoundLaws
 pub mod StateLaws
 pub mod WorldLaws
 pub mod AgreeLaws

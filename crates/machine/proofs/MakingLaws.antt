@@ -23,7 +23,7 @@ use Rattle.machine.specs.declared.Registers.{Registers}
 use Rattle.machine.specs.declared.Step.the-variants.{Next, Stuck, NoRoom}
 use Rattle.machine.proofs.StateLaws.{object-made, accumulator-unset, accumulator-row, object-unset, object-row}
 use Rattle.machine.proofs.WorldLaws.{names-full, created-at, created-full, opposite-other as opposite-is-other, opposite-private as opposite-is-made}
-use Rattle.machine.proofs.RowLaws.{Finds, finds, found-grown, found-row, full-kept}
+use Rattle.machine.proofs.FoundLaws.{Finds, finds, found-length, found-row, full-kept}
 use Rattle.machine.proofs.AgreeLaws.{reads, gets, fills, answers-as, unset-stops, stops, finds-no-room, makes-accumulator, makes-object}
 
 -- the slices of a method that sees objects and rows
@@ -52,7 +52,7 @@ module _ (g : Registers) (kinds rows objects : List ℕ) (v : Object) where
     create-next row used objects′ g₁ inside e w p x =
         rw (w, p, add-one, ← wanted) (gets _ _ (created-at _ _ _ _ _ free answer e)
         (next (object-made _ _ _ _ (row .0) (found-row answer e) _ (v .0) inside)
-        (record { objects-length = length-set objects (v .0) (row .0); messages-length = refl; rows-length = found-grown answer e .long })))
+        (record { objects-length = length-set objects (v .0) (row .0); messages-length = refl; rows-length = found-length answer })))
 
 module _ (g : Registers) (rows objects : List ℕ) (private public : Object) (kind : ℕ → ℕ) (key : ℕ) (read : key ≡ getD objects (private .0) unset) where
   pub opposite-unset : key ≡ unset → Does kind (Opposite private public) g (λ x. over objects rows x) (Stuck Unset) (λ x. over objects rows x)

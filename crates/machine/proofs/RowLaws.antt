@@ -1,85 +1,76 @@
--- The table only grows: no step touches a used row, nor one past those that it takes.
-use Prim.Native.Nat.{ℕ, _+_, _<_, _≤_}
-use mathlib.Core.Path.{_≡_, refl, sym, subst}
-use mathlib.Core.List.{List}
+-- A step at rows that goes on appends one row and takes one name at most; what it appended can be cleared again.
+use Prim.Native.Nat.{ℕ, suc, _+_, _-_, _<_, _≤_}
+use mathlib.Core.Path.{_≡_, refl, sym, _∙_}
+use mathlib.Core.Bool.{Bool, true, false, cond}
+use mathlib.Core.List.{List, [], _∷_}
+use native.Mathlib.Decide.{decLt}
 use native.Mathlib.Omega.{arith}
-use lib.ListN.{length, getD, set, length-set}
-use lib.Seq.{getD-set-other}
-use Rattle.code.specs.declared.TermRow.{TermRow}
-use Rattle.terms.specs.Finder.{Located, asTermRow, located, locate}
-use Rattle.terms.specs.declared.Found.{Found}
-use Rattle.terms.specs.declared.Found.the-variants.{At, Full}
-use Rattle.stores.specs.Cells.{unset}
-use Rattle.machine.specs.Machine.{Within}
+use lib.Dec.{ltb}
+use lib.ListN.{length, getD}
+use lib.Seq.{ext-getD}
+use Rattle.code.specs.declared.Instruction.{Instruction}
+use Rattle.terms.specs.Shape.{atom}
+use Rattle.terms.specs.Row.{wordOf}
+use Rattle.terms.specs.Finder.{locate}
 use Rattle.terms.proofs.FinderLaws.{located-as}
+use Rattle.theory.specs.Outcome.{done, got, full, andThen}
+use Rattle.theory.specs.RowModel.{Table, withCounter, mostNames, placed, rowModel, rowWorld}
+use Rattle.theory.specs.Machine.{line, State, step}
+use Rattle.theory.proofs.RowSteps.{Answers, gets, fills, Ends, ends, Moves, step-moves}
+use Rattle.theory.proofs.RowsKept.{Appended, exec-appends}
 
--- rows of which some more are used, at most one
-pub record Grown (rows : List ℕ) (used : ℕ) (rows′ : List ℕ) (used′ : ℕ) : Type 0 where
-  pub long : length rows′ ≡ length rows
-  pub kept : (row : ℕ) → row < used → getD rows′ row 0 ≡ getD rows row 0
-  pub rest : (row : ℕ) → used′ ≤ row → getD rows′ row 0 ≡ getD rows row 0
-  pub up : used ≤ used′
-  pub inside : used′ ≤ length rows
+-- one row and one name at most
+pub record One (x y : Table) : Type 0 where
+  pub row : y .used ≤ x .used + 1
+  pub name : y .counter ≤ x .counter + 1
 
-module _ (rows : List ℕ) (used : ℕ) (fits : used ≤ length rows) where
-  pub grown-none : Grown rows used rows used
-  grown-none = record { long = refl; kept = λ row l. refl; rest = λ row l. refl; up = omega arith; inside = fits }
+module _ (x : Table) (fits : x .used ≤ length (x .rows)) where
+  placed-one : (counter : ℕ) → counter ≤ x .counter + 1 → (word : ℕ)
+      → Answers (Unit {0}) (λ r. One x (r .1)) (placed (withCounter x counter) (locate (x .rows) (x .used) word))
+  placed-one counter one word =
+      located-as (x .rows) (x .used) word fits (λ l. Answers (Unit {0}) (λ r. One x (r .1)) (placed (withCounter x counter) l))
+      (λ row l e. gets (record { row = omega arith; name = one }))
+      (λ absent l. gets (record { row = omega arith; name = one }))
+      (λ absent l. fills tt)
 
-  pub grown-one : (word : ℕ) → used < length rows → Grown rows used (set rows used word) (used + 1)
-  grown-one word free = record {
-    long = length-set rows used word;
-    kept = λ row l. getD-set-other rows used row word 0 (λ e. omega arith);
-    rest = λ row l. getD-set-other rows used row word 0 (λ e. omega arith);
-    up = omega arith;
-    inside = omega arith;
+  created-one : (kind : ℕ) (b : Bool)
+      → Answers (Unit {0}) (λ r. One x (r .1))
+      (andThen {A = ℕ × Table} (cond b (got (x .counter, withCounter x (suc (x .counter)))) full) λ r. rowModel .make (atom kind (r .0)) (r .1))
+  created-one kind true = placed-one (suc (x .counter)) (omega arith) (wordOf (atom kind (x .counter)))
+  created-one kind false = fills tt
+
+  moves-one : Moves (Unit {0}) (One x) x
+  moves-one = record {
+    left = record { row = omega arith; name = omega arith };
+    makes = λ shape. placed-one (x .counter) (omega arith) (wordOf shape);
+    creates = λ kind. created-one kind (ltb (x .counter) mostNames);
   }
 
--- what the finder's answer says of the rows
-module _ (rows : List ℕ) (used word : ℕ) (fits : used ≤ length rows) where
-  record Answers (l : Located) : Type 0 where
-    at : (row : TermRow) (used′ : ℕ) → l .found ≡ At row used′ → (row .0 < used′) × Grown rows used (l .rows) used′
-    full : l .found ≡ Full → l .rows ≡ rows
+module _ (kind : ℕ → ℕ) (place : ℕ) (i : Instruction) (s s′ : State rowWorld) (fits : s .stores .memory .used ≤ length (s .stores .memory .rows))
+    (goes : step rowWorld kind place i s ≡ done s′) where
+  pub step-appends : Appended (s .stores .memory) (s′ .stores .memory)
+  step-appends = exec-appends kind (line place i ∷ []) s s′ fits (rw goes)
 
-  answers : Answers (locate rows used word)
-  answers =
-      located-as rows used word fits Answers
-      (λ row l e. record { at = λ row′ used′ q. taken row rows used row′ used′ q (omega arith) (grown-none rows used fits); full = λ q. clash q })
-      (λ absent free. record { at = λ row′ used′ q. taken used (set rows used word) (used + 1) row′ used′ q (omega arith) (grown-one rows used fits word free); full = λ q. clash q })
-      (λ absent past. record { at = λ row used′ q. clash (sym q); full = λ q. refl })
+  pub step-one : One (s .stores .memory) (s′ .stores .memory)
+  step-one = go (rw goes at (step-moves (Unit {0}) kind place s (moves-one (s .stores .memory) fits) i))
     where
-      taken : (row : ℕ) (after : List ℕ) (used″ : ℕ) (row′ : TermRow) (used′ : ℕ) → At (asTermRow row) used″ ≡ At row′ used′ → row < used″ → Grown rows used after used″
-          → (row′ .0 < used′) × Grown rows used after used′
-      taken row after used″ row′ used′ q l grown =
-          let e : used″ ≡ used′ = cc in
-          let f : row ≡ row′ .0 = cc in
-          (omega arith, subst (Grown rows used after) e grown)
+      go : Ends (Unit {0}) (λ (t : State rowWorld). One (s .stores .memory) (t .stores .memory)) (done s′) → One (s .stores .memory) (s′ .stores .memory)
+      go (ends one) = one
 
-      clash : {A : Type 0} {row : TermRow} {used′ : ℕ} → At row used′ ≡ Full → A
-      clash q = let z : _≡_ {A = ℕ} 0 1 = cc in absurd (omega arith)
+-- rows that are zero from one on to another, and as they were elsewhere
+pub record Cleared (rows : List ℕ) (from to : ℕ) (rows′ : List ℕ) : Type 0 where
+  pub long : length rows′ ≡ length rows
+  pub zeros : (row : ℕ) → from ≤ row → row < to → getD rows′ row 0 ≡ 0
+  pub below : (row : ℕ) → row < from → getD rows′ row 0 ≡ getD rows row 0
+  pub above : (row : ℕ) → to ≤ row → getD rows′ row 0 ≡ getD rows row 0
 
--- the finder's answer for a term, and the rows after it
-pub record Finds (rows : List ℕ) (used term : ℕ) (found : Found) (rows′ : List ℕ) : Type 0 where
-  pub within : Within rows used
-  pub says : located found rows′ ≡ locate rows used term
-
-pub finds : {rows rows′ : List ℕ} {used word term : ℕ} {found : Found} → Within rows used → word ≡ term → located found rows′ ≡ locate rows used word
-    → Finds rows used term found rows′
-finds within packs says = record { within = within; says = rw (← packs) says }
-
-module _ {rows rows′ : List ℕ} {used term : ℕ} {found : Found} (answer : Finds rows used term found rows′) where
-  answered : Answers rows used term (answer .within .used-rows) (located found rows′)
-  answered = rw (answer .says) (answers rows used term (answer .within .used-rows))
-
-  pub found-grown : {row : TermRow} {used′ : ℕ} → found ≡ At row used′ → Grown rows used rows′ used′
-  found-grown {row} {used′} e = answered .at row used′ e .1
-
-  -- its row is no cell's unset
-  pub found-row : {row : TermRow} {used′ : ℕ} → found ≡ At row used′ → row .0 ≡ unset → ⊥
-  found-row {row} {used′} e q =
-      let below : row .0 < used′ = answered .at row used′ e .0 in
-      let inside : used′ ≤ length rows = found-grown e .inside in
-      let few : length rows ≤ 4096 = answer .within .few-rows in
-      omega arith
-
-  pub full-kept : found ≡ Full → rows′ ≡ rows
-  full-kept e = answered .full e
+-- what was appended to a table whose unused rows are zero, and is cleared again
+pub appended-cleared : {x y : Table} {rows : List ℕ} → Appended x y → ((row : ℕ) → x .used ≤ row → getD (x .rows) row 0 ≡ 0)
+    → Cleared (y .rows) (x .used) (y .used) rows → rows ≡ x .rows
+appended-cleared {x} {y} {rows} appended unused cleared =
+    ext-getD 0 rows (x .rows) (cleared .long ∙ appended .same-length) (λ row l. go row (decLt row (x .used)) (decLt row (y .used)))
+  where
+    go : (row : ℕ) → Dec (row < x .used) → Dec (row < y .used) → getD rows row 0 ≡ getD (x .rows) row 0
+    go row (yes below) upto = cleared .below row below ∙ appended .kept row below
+    go row (no from) (yes below) = cleared .zeros row (omega (arith, from)) below ∙ sym (unused row (omega (arith, from)))
+    go row (no from) (no past) = cleared .above row (omega (arith, past)) ∙ appended .rest row (omega (arith, past))

@@ -32,7 +32,7 @@ use Rattle.machine.specs.Machine.{Slices, withObjects, withMessages, wit
 use Rattle.machine.specs.declared.Registers.{Registers}
 use Rattle.machine.specs.declared.Step.{Step}
 use Rattle.machine.specs.declared.Step.the-variants.{Next, Stuck, NoRoom}
-use Rattle.machine.proofs.RowLaws.{Finds, finds}
+use Rattle.machine.proofs.FoundLaws.{Finds, finds}
 use Rattle.machine.proofs.StateLaws.{inside, spread-length, spread-same, object-unset, object-row, message-unset, message-row, messages-set}
 use Rattle.machine.proofs.WorldLaws.{not-tuple, tuple-other, tuple-taken}
 use Rattle.machine.proofs.AgreeLaws.{reads, gets, unset-stops, stops, finds-no-room, makes-object}

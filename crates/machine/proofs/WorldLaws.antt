@@ -25,7 +25,7 @@ use Rattle.theory.specs.RowModel.{Table, withRows, withCounter, mostNames, plac
 use Rattle.theory.specs.Machine.{State}
 use Rattle.theory.specs.Run.{stateOver}
 use Rattle.machine.specs.Machine.{keysPair}
-use Rattle.machine.proofs.RowLaws.{Finds}
+use Rattle.machine.proofs.FoundLaws.{Finds}
 
 -- only an encryption is opened, only a signature verified
 opened-other : (key : ℕ) (shape : Shape ℕ) (x : Table) → (kindOf shape ≡ 7 → ⊥) → opened rowModel key shape x ≡ not (reasonNumber NotOpened)
