@@ -1,1 +1,14 @@
-// What a terminal holds.
+// What a terminal holds: kinds, cells, certificates, accumulator.
+use code::TermRow;
+
+pub mod cells;
+pub mod certificates;
+
+pub use cells::declares;
+pub use certificates::certified;
+
+// What the certificates say of an agent: its public key's row, or nothing.
+pub enum Certificate {
+    Key(TermRow),
+    None,
+}
