@@ -1,4 +1,4 @@
--- DECRYPT and VERIFY, a way out at a time.
+-- KEY OF, DECRYPT and VERIFY, a way out at a time.
 use Prim.Native.Nat.{ℕ}
 use mathlib.Core.Path.{_≡_, refl, sym, _∙_, ap}
 use mathlib.Core.Bool.{Bool, true, false, not}
@@ -6,25 +6,49 @@ use mathlib.Core.List.{List}
 use native.Mathlib.Omega.{arith}
 use borrow.Author.Tests.{eq-eqb, ne-eqb, not-true, not-false}
 use lib.ListN.{getD}
-use Rattle.answers.specs.declared.Reason.the-variants.{Unset, NotOpened, NotVerified}
+use Rattle.answers.specs.declared.Reason.the-variants.{Unset, NoCertificate, NotOpened, NotVerified}
 use Rattle.code.specs.declared.Object.{Object}
 use Rattle.code.specs.declared.Raw.{Raw}
-use Rattle.code.specs.declared.Instruction.the-variants.{Decrypt, Verify}
+use Rattle.code.specs.declared.TermRow.{TermRow}
+use Rattle.code.specs.declared.Instruction.the-variants.{KeyOf, Decrypt, Verify}
 use Rattle.word.specs.Fields.{split, at}
 use Rattle.terms.specs.Row.{rowWidths, tagOf}
 use Rattle.terms.specs.Finder.{asTermRow}
 use Rattle.stores.specs.Cells.{unset}
-use Rattle.machine.specs.Machine.{Slices, withObjects, withMessages, withRows, holding, keysPair, next, Does}
+use Rattle.stores.specs.Certificates.{certified}
+use Rattle.stores.specs.Answer.{certificateOf}
+use Rattle.stores.specs.declared.Certificate.{Certificate}
+use Rattle.stores.specs.declared.Certificate.the-variants.{Key, None}
+use Rattle.machine.specs.Machine.{Slices, withObjects, withMessages, withRows, withCertificates, holding, keysPair, next, Does}
 use Rattle.machine.specs.declared.Registers.{Registers}
 use Rattle.machine.specs.declared.Step.{Step}
 use Rattle.machine.specs.declared.Step.the-variants.{Next, Stuck}
 use Rattle.machine.proofs.StateLaws.{accumulator-unset, accumulator-row, object-unset, object-row, message-unset, message-row, accumulator-made}
-use Rattle.machine.proofs.WorldLaws.{decrypt-other as not-encrypted, opening, verify-other as not-signed, verifying}
+use Rattle.machine.proofs.WorldLaws.{certificate-none, certificate-key, certificate-row, decrypt-other as not-encrypted, opening, verify-other as not-signed, verifying}
 use Rattle.machine.proofs.AgreeLaws.{same-lengths, reads, gets, unset-stops, stops}
 
 -- a part is a row's number
 part-row : (part word place : ℕ) → part ≡ at 4 (split rowWidths word) → part ≡ unset → ⊥
 part-row part word place is e = omega arith
+
+module _ (g : Registers) (certificates : List ℕ) (kind : ℕ → ℕ) where
+  abbrev KeysOf : Step → Type 0
+  KeysOf answer = Does kind KeyOf g (λ x. withCertificates x certificates) answer (λ x. withCertificates x certificates)
+
+  pub key-of-unset : g .accumulator .0 ≡ unset → KeysOf (Stuck Unset)
+  key-of-unset e x = unset-stops _ _ (accumulator-unset _ _ _ _ e)
+
+  module _ (isRow : g .accumulator .0 ≡ unset → ⊥) (says : Certificate) (certificate : says ≡ certificateOf (certified certificates (g .accumulator .0))) where
+    pub key-of-none : says ≡ None → KeysOf (Stuck NoCertificate)
+    key-of-none e x = reads _ _ (accumulator-row _ _ _ _ isRow) (stops _ _ (certificate-none _ _ _ _ _ certificate e))
+
+    pub key-of-next : (key : TermRow) (g′ : Registers) → says ≡ Key key → g′ ≡ holding g key → KeysOf (Next g′)
+    key-of-next key g′ e p x =
+        rw p (reads _ _ (accumulator-row _ _ _ _ isRow)
+        (gets _ _ (certificate-key _ _ _ _ _ certificate e)
+        (next (accumulator-made _ _ _ _ (key .0) (certificate-row certificates _ certificate e) _) (same-lengths _))))
+
+pub ruleset key-of-ways = (key-of-unset, key-of-none, key-of-next)
 
 module _ (g : Registers) (rows objects : List ℕ) (v : Object) (kind : ℕ → ℕ) (key : ℕ) (read : key ≡ getD objects (v .0) unset) where
   abbrev Decrypts : Step → Type 0

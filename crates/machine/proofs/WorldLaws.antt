@@ -1,14 +1,15 @@
 -- The operations of the world of rows, on the memory of a state.
 use Prim.Native.Nat.{ℕ, suc, _<_, _≤_}
 use mathlib.Core.Path.{_≡_, refl, sym, _∙_, ap}
-use mathlib.Core.Bool.{Bool, _&&_}
-use mathlib.Core.List.{List}
+use mathlib.Core.Bool.{Bool, true, false, _&&_}
+use mathlib.Core.Option.{Option, none, some}
+use mathlib.Core.List.{List, [], _∷_}
 use native.Mathlib.Omega.{arith}
 use borrow.Author.Tests.{eq-eqb, ne-eqb, lt-ltb, le-ltb}
 use lib.ListN.{length, getD}
 use lib.Dec.{eqb}
 use Rattle.answers.specs.Numbers.{reasonNumber}
-use Rattle.answers.specs.declared.Reason.the-variants.{OtherKind, PartCount, NotOpened, NotVerified}
+use Rattle.answers.specs.declared.Reason.the-variants.{OtherKind, PartCount, NoCertificate, NotOpened, NotVerified}
 use Rattle.code.specs.declared.TermRow.{TermRow}
 use Rattle.word.specs.Fields.{split, at}
 use Rattle.terms.specs.Shape.{Shape, atom, encrypted, signed, hashed, tupled, kindOf, partsOf}
@@ -18,8 +19,13 @@ use Rattle.terms.specs.declared.Found.{Found}
 use Rattle.terms.specs.declared.Found.the-variants.{At, Full}
 use Rattle.terms.proofs.RowLaws.{tag-kind}
 use Rattle.terms.proofs.ShapeLaws.{shape-atom, shape-encrypted, shape-signed, shape-tupled}
+use Rattle.stores.specs.Cells.{unset}
+use Rattle.stores.specs.Certificates.{agentOf, keyOf as keyIn, certified}
+use Rattle.stores.specs.Answer.{certificateOf}
+use Rattle.stores.specs.declared.Certificate.{Certificate}
+use Rattle.stores.specs.declared.Certificate.the-variants.{Key, None}
 use Rattle.theory.specs.Outcome.{Answer, got, not, full, andThen, sure}
-use Rattle.theory.specs.World.{World, create, op, decrypt, verify}
+use Rattle.theory.specs.World.{World, create, op, keyOf, decrypt, verify}
 use Rattle.theory.specs.Model.{Model, opposite, opened, verified, taken}
 use Rattle.theory.specs.RowModel.{Table, withRows, withCounter, mostNames, placed, rowModel, rowWorld}
 use Rattle.theory.specs.Machine.{State}
@@ -48,6 +54,30 @@ taken-other row n (encrypted key body) other = refl
 taken-other row n (signed key body) other = refl
 taken-other row n (hashed body) other = refl
 taken-other row n (tupled parts) other = absurd (other refl)
+
+no-certificate : (key : Option ℕ) → certificateOf key ≡ None → key ≡ none
+no-certificate none e = refl
+no-certificate (some key) e = let z : _≡_ {A = ℕ} 0 1 = cc in absurd (omega arith)
+
+a-certificate : (key : Option ℕ) {row : TermRow} → certificateOf key ≡ Key row → key ≡ some (row .0)
+a-certificate none e = let z : _≡_ {A = ℕ} 0 1 = cc in absurd (omega arith)
+a-certificate (some key) {row} e = let same : key ≡ row .0 = cc in ap some same
+
+-- a certificate's key is a row's number
+keys-below : (certificates : List ℕ) (agent key : ℕ) → certified certificates agent ≡ some key → key < 4096
+unfolding certified keyIn
+keys-below [] agent key e = let z : _≡_ {A = ℕ} 0 1 = cc in absurd (omega arith)
+keys-below (word ∷ rest) agent key e = go (eqb (agentOf word) agent) e (keys-below rest agent key)
+  where
+    go : (b : Bool) → elim b [ true ↦ some (keyIn word) | false ↦ certified rest agent ] ≡ some key → (certified rest agent ≡ some key → key < 4096) → key < 4096
+    go true q later = let same : keyIn word ≡ key = cc in omega arith
+    go false q later = later q
+
+pub certificate-row : (certificates : List ℕ) (agent : ℕ) {says : Certificate} {key : TermRow} → says ≡ certificateOf (certified certificates agent) → says ≡ Key key
+    → key .0 ≡ unset → ⊥
+certificate-row certificates agent {key = key} certificate e q =
+    let below = keys-below certificates agent (key .0) (a-certificate (certified certificates agent) (sym certificate ∙ e)) in
+    omega arith
 
 module _ (accumulator : ℕ) (objects messages : List ℕ) (table : Table) where
   abbrev state : State rowWorld
@@ -123,6 +153,16 @@ module _ (accumulator : ℕ) (objects messages : List ℕ) (table : Table) where
         verifying body signature goes =
             ap (λ shape. verified rowModel key body shape table) (look-signed signature locked holds)
             ∙ ap (λ b. sure (reasonNumber NotVerified) (b && eqb body inner)) (sym goes)
+
+  -- the key of an agent's certificate
+  module _ (agent : ℕ) {says : Certificate} (certificate : says ≡ certificateOf (certified (table .certificates) agent)) where
+    pub certificate-none : says ≡ None → rowWorld .apply (keyOf agent) (state .stores .memory) ≡ not (reasonNumber NoCertificate)
+    unfolding stateOver
+    certificate-none e = rw (no-certificate (certified (table .certificates) agent) (sym certificate ∙ e))
+
+    pub certificate-key : {key : TermRow} → says ≡ Key key → rowWorld .apply (keyOf agent) (state .stores .memory) ≡ got (key .0, table)
+    unfolding stateOver
+    certificate-key e = rw (a-certificate (certified (table .certificates) agent) (sym certificate ∙ e))
 
   -- the finder's answer
   module _ {rows′ : List ℕ} {term : ℕ} {found : Found} (answer : Finds (table .rows) (table .used) term found rows′) where

@@ -1,7 +1,7 @@
-// Instructions that look into a term.
+// Instructions that look a key up, or into a term.
 ghost use Prim.Native.Nat.{ℕ};
-ghost use Rattle.code.specs.declared.Instruction.the-variants.{Decrypt, Verify};
-ghost use Rattle.machine.specs.Machine.{withObjects, withMessages, withRows, Does};
+ghost use Rattle.code.specs.declared.Instruction.the-variants.{KeyOf, Decrypt, Verify};
+ghost use Rattle.machine.specs.Machine.{withObjects, withMessages, withRows, withCertificates, Does};
 use super::Registers;
 use super::Step;
 use super::cells::UNSET;
@@ -12,8 +12,24 @@ use answers::Reason;
 use code::Object;
 use code::Raw;
 use code::TermRow;
+use stores::Certificate;
 
 impl Registers {
+    pub fn key_of(self, certificates: &[u64]) -> Step
+        ensures { λ s. ⌜ ((kind : ℕ → ℕ) → Does kind KeyOf self
+            (λ x. withCertificates x (now (certificates .entry))) s
+            (λ x. withCertificates x (now (certificates .entry)))) ⌝ }
+    {
+        let agent = self.accumulator.0;
+        if agent == UNSET {
+            return Step::Stuck(Reason::Unset);
+        }
+        let Certificate::Key(key) = stores::certified(certificates, agent) else {
+            return Step::Stuck(Reason::NoCertificate);
+        };
+        Step::Next(self.holding(key))
+    }
+
     pub fn decrypt(self, rows: &[u64], objects: &[u16], v: Object) -> Step
         ensures { λ s. ⌜ ((kind : ℕ → ℕ) → Does kind (Decrypt v) self
             (λ x. withRows (withObjects x (now (objects .entry))) (now (rows .entry))) s
