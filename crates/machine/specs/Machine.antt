@@ -24,6 +24,9 @@ pub record Slices : Type 0 where
   pub rows : List ℕ
   pub certificates : List ℕ
 
+abbrev pub slices : List ℕ → List ℕ → List ℕ → List ℕ → Slices
+slices objects messages rows certificates = record { objects = objects; messages = messages; rows = rows; certificates = certificates }
+
 abbrev pub withObjects : Slices → List ℕ → Slices
 withObjects x objects = record { objects = objects; messages = x .messages; rows = x .rows; certificates = x .certificates }
 
