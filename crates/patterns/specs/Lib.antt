@@ -4,3 +4,5 @@ pub mod Row
 pub mod Rules
 pub mod Tree
 pub mod Kinds
+pub mod Marks
+pub mod RowKinds

@@ -12,11 +12,10 @@ abbrev pub partsBy : (ℕ → Pattern) → List ℕ → Parts
 partsBy below [] = end
 partsBy below (child ∷ rest) = part (below child) (partsBy below rest)
 
--- the form of a row by its tag
-abbrev pub formBy : (ℕ → Pattern) → ℕ → Fields → Pattern
-formBy below place row =
-    getD
-    (object place (row .v)
+-- the forms of a row, by tag
+abbrev pub formsBy : (ℕ → Pattern) → ℕ → Fields → List Pattern
+formsBy below place row =
+    object place (row .v)
     ∷ raw place (row .r)
     ∷ constant place (row .v) (row .x)
     ∷ opposite place (row .v) (row .y)
@@ -26,8 +25,10 @@ formBy below place row =
     ∷ hash place (row .v) (row .r)
     ∷ tuple place (row .v) (partsBy below (children row))
     ∷ letIn place (row .r) (below (getD (row .slots) 0 0)) (below (getD (row .slots) 1 0))
-    ∷ [])
-    (row .tag) (object place (row .v))
+    ∷ []
+
+abbrev pub formBy : (ℕ → Pattern) → ℕ → Fields → Pattern
+formBy below place row = getD (formsBy below place row) (row .tag) (object place (row .v))
 
 -- a row that is not there
 abbrev pub noPattern : Pattern

@@ -1,6 +1,10 @@
 // The term table.
 use code::TermRow;
 
+pub mod row;
+
+pub use row::tag;
+
 // What the finder answers: the term's row and the number of used rows then, or that there is no room.
 pub enum Found {
     At(TermRow, u16),

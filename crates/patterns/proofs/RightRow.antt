@@ -1,0 +1,156 @@
+-- Refusal 5 in the words of document 01. Assumes nothing.
+use Prim.Native.Nat.{ℕ, zero, suc, _<_, _≤_}
+use mathlib.Core.Path.{_≡_, refl, sym, subst, _∙_}
+use mathlib.Core.Logic.{_↔_, _⊎_, Iff·rfl}
+use mathlib.Core.Bool.{Bool, true, false, not, _&&_}
+use mathlib.Core.Option.{none, some}
+use mathlib.Core.List.{List, [], _∷_}
+use native.Mathlib.Omega.{arith}
+use lib.ListN.{length, getD}
+use lib.Dec.{T, T-not, not-T, eqb, leb}
+use Rattle.word.proofs.TestLaws.{both, equals, at-most, fails}
+use Rattle.word.proofs.LowestLaws.{one-of-two, lowest-none}
+use Rattle.word.proofs.ScanLaws.{LowestWith, lowest-with}
+use Rattle.patterns.specs.Pattern.{Key, plainKey, opKey, certifiedKey}
+use Rattle.patterns.specs.Row.{Fields, fieldsOf}
+use Rattle.patterns.specs.Rules.{badPattern}
+use Rattle.patterns.specs.Tree.{keyBy}
+use Rattle.patterns.specs.Kinds.{privateSide, publicSide, encryptionKey, signatureKey, wrongKind}
+use Rattle.patterns.specs.RowKinds.{kindsBy, rowKinds}
+use Rattle.patterns.proofs.ArmLaws.{below-ten}
+use Rattle.patterns.proofs.GoodRow.{GoodKey, GoodRow}
+use Rattle.patterns.proofs.KindLaws.{wrong-rows, other-way}
+use Rattle.patterns.proofs.RuleLaws.{fieldsAt, all-good}
+
+module _ (kind : ℕ → ℕ) (row : Fields) where
+  -- the key of a matched E or a created S: a variable of kind 5 or 6
+  pub record PrivateKey : Type 0 where
+    pub plain : row .f ≡ 0
+    pub kinds : (kind (row .x) ≡ 5) ⊎ (kind (row .x) ≡ 6)
+
+  -- the key of a matched S or a created E: a variable of kind 4 or 6, or a public key that is found
+  pub record PublicKey : Type 0 where
+    pub plain : row .f ≡ 0 → (kind (row .x) ≡ 4) ⊎ (kind (row .x) ≡ 6)
+    pub op : row .f ≡ 1 → (kind (row .x) ≡ 4) × (kind (row .y) ≡ 5)
+    pub own : row .f ≡ 2 → (kind (row .x) ≡ 4) × (kind (row .y) ≡ 3)
+
+  abbrev pub RightKey : Bool → Type 0
+  RightKey true = PublicKey
+  RightKey false = PrivateKey
+
+-- every variable of a row has the kind that the row's form wants
+pub record RightRow (create : Bool) (kind : ℕ → ℕ) (row : Fields) : Type 0 where
+  pub object : row .tag ≡ 0 → (1 ≤ kind (row .v)) × (kind (row .v) ≤ 9)
+  pub constant : row .tag ≡ 2 → kind (row .v) ≡ 1
+  pub opposite : row .tag ≡ 3 → (kind (row .v) ≡ 4) × (kind (row .y) ≡ 5)
+  pub keyOf : row .tag ≡ 4 → (kind (row .v) ≡ 4) × (kind (row .y) ≡ 3)
+  pub encryption : row .tag ≡ 5 → (kind (row .v) ≡ 7) × RightKey kind row create
+  pub signature : row .tag ≡ 6 → (kind (row .v) ≡ 8) × RightKey kind row (not create)
+  pub hash : row .tag ≡ 7 → kind (row .v) ≡ 9
+  pub tuple : row .tag ≡ 8 → kind (row .v) ≡ 10
+
+-- what holds of each form of a key holds of a row's
+by-key : (P : Key → Type 0) (row : Fields) → row .f ≤ 2 → (row .f ≡ 0 → P (plainKey (row .x))) → (row .f ≡ 1 → P (opKey (row .x) (row .y))) → (row .f ≡ 2 → P (certifiedKey (row .x) (row .y)))
+    → P (keyBy row)
+by-key P row = go (row .f) refl
+  where
+    go : (f : ℕ) → row .f ≡ f → row .f ≤ 2 → (row .f ≡ 0 → P (plainKey (row .x))) → (row .f ≡ 1 → P (opKey (row .x) (row .y))) → (row .f ≡ 2 → P (certifiedKey (row .x) (row .y))) → P (keyBy row)
+    go zero e few plain op own = rw e (plain e)
+    go (suc zero) e few plain op own = rw e (op e)
+    go (suc (suc zero)) e few plain op own = rw e (own e)
+    go (suc (suc (suc f))) e few plain op own = absurd (omega arith)
+
+-- a row of one form of key is of no other
+other : {A : Type 0} {m n k : ℕ} → m ≡ n → m ≡ k → T (not (eqb n k)) → A
+other {n = n} {k = k} e e′ differ = absurd (T-not (eqb n k) differ (equals n k .1 (sym e ∙ e′)))
+
+module _ (kind : ℕ → ℕ) (row : Fields) (few : row .f ≤ 2) where
+  private-says : T (privateSide kind (keyBy row)) ↔ PrivateKey kind row
+  private-says =
+      by-key (λ key. T (privateSide kind key) ↔ PrivateKey kind row) row few
+      (λ e. (λ h. record { plain = e; kinds = one-of-two 5 6 (kind (row .x)) .0 h }, λ g. one-of-two 5 6 (kind (row .x)) .1 (g .kinds)))
+      (λ e. (λ h. absurd h, λ g. other e (g .plain) tt)) λ e. (λ h. absurd h, λ g. other e (g .plain) tt)
+
+  public-says : T (publicSide kind (keyBy row)) ↔ PublicKey kind row
+  public-says =
+      by-key (λ key. T (publicSide kind key) ↔ PublicKey kind row) row few
+      (λ e.
+      let two = one-of-two 4 6 (kind (row .x)) in
+      (λ h. record { plain = λ _. two .0 h; op = λ e′. other e e′ tt; own = λ e′. other e e′ tt }, λ g. two .1 (g .plain e)))
+      (λ e. simp (both, equals) (λ h. record { plain = λ e′. other e e′ tt; op = λ _. h; own = λ e′. other e e′ tt }, λ g. g .op e))
+      λ e. simp (both, equals) (λ h. record { plain = λ e′. other e e′ tt; op = λ e′. other e e′ tt; own = λ _. h }, λ g. g .own e)
+
+  key-says : (create : Bool) → T (encryptionKey create kind (keyBy row)) ↔ RightKey kind row create
+  key-says true = public-says
+  key-says false = private-says
+
+module _ (create : Bool) (kind : ℕ → ℕ) (row : Fields) where
+  bare-says : T (leb 1 (kind (row .v)) && leb (kind (row .v)) 9) ↔ ((1 ≤ kind (row .v)) × (kind (row .v) ≤ 9))
+  bare-says = simp (both, at-most) Iff·rfl
+
+  two-say : (a b : ℕ) → T (eqb (kind (row .v)) a && eqb (kind (row .y)) b) ↔ ((kind (row .v) ≡ a) × (kind (row .y) ≡ b))
+  two-say a b = simp (both, equals) Iff·rfl
+
+  key-two : (few : row .f ≤ 2) (a : ℕ) (way : Bool) → T (eqb (kind (row .v)) a && encryptionKey way kind (keyBy row)) ↔ ((kind (row .v) ≡ a) × RightKey kind row way)
+  key-two few a way = simp (both, equals, key-says kind row few way) Iff·rfl
+
+  module _ (place : ℕ) (good : GoodRow place row) where
+    into : T (rowKinds create kind row) → RightRow create kind row
+    unfolding kindsBy
+    into h =
+        record {
+          object = λ e. bare-says .0 (by-tag 0 e);
+          constant = λ e. equals (kind (row .v)) 1 .0 (by-tag 2 e);
+          opposite = λ e. two-say 4 5 .0 (by-tag 3 e);
+          keyOf = λ e. two-say 4 3 .0 (by-tag 4 e);
+          encryption = λ e. key-two (good .encryption e .0 .form) 7 create .0 (by-tag 5 e);
+          signature = λ e. key-two (good .signature e .0 .form) 8 (not create) .0 (rw other-way (by-tag 6 e));
+          hash = λ e. equals (kind (row .v)) 9 .0 (by-tag 7 e);
+          tuple = λ e. equals (kind (row .v)) 10 .0 (by-tag 8 e);
+        }
+      where
+        by-tag : (tag : ℕ) → row .tag ≡ tag → T (kindsBy create kind row tag)
+        by-tag tag e = subst (λ (t : ℕ). T (kindsBy create kind row t)) e h
+
+    back : RightRow create kind row → T (rowKinds create kind row)
+    unfolding kindsBy
+    back g =
+        below-ten (λ tag. row .tag ≡ tag → T (kindsBy create kind row tag))
+        (λ e. bare-says .1 (g .object e))
+        (λ e. tt)
+        (λ e. equals (kind (row .v)) 1 .1 (g .constant e))
+        (λ e. two-say 4 5 .1 (g .opposite e))
+        (λ e. two-say 4 3 .1 (g .keyOf e))
+        (λ e. key-two (good .encryption e .0 .form) 7 create .1 (g .encryption e))
+        (λ e. rw (← (other-way create kind (keyBy row))) (key-two (good .signature e .0 .form) 8 (not create) .1 (g .signature e)))
+        (λ e. equals (kind (row .v)) 9 .1 (g .hash e))
+        (λ e. equals (kind (row .v)) 10 .1 (g .tuple e))
+        (λ e. tt)
+        (row .tag) (good .tag) refl
+
+module _ (create : Bool) (kind : ℕ → ℕ) (rows : List ℕ) (passed : badPattern rows ≡ none) where
+  right-says : (place : ℕ) → place < length rows → T (rowKinds create kind (fieldsAt rows place)) ↔ RightRow create kind (fieldsAt rows place)
+  right-says place inside =
+      let good = all-good rows passed place inside in
+      (into create kind (fieldsAt rows place) place good, back create kind (fieldsAt rows place) place good)
+
+  -- 5, exactly, of rows that passed: the lowest row with a wrong kind
+  pub wrong-kind-at : (i : ℕ) → (wrongKind create kind rows ≡ some i) ↔ LowestWith (λ place. RightRow create kind (fieldsAt rows place) → ⊥) (length rows) i
+  wrong-kind-at i = rw (wrong-rows create kind rows) (lowest-with _ _ rows 0 says i)
+    where
+      says : (place : ℕ) → place < length rows → T (not (rowKinds create kind (fieldsAt rows place))) ↔ (RightRow create kind (fieldsAt rows place) → ⊥)
+      says place inside =
+          let test = rowKinds create kind (fieldsAt rows place) in
+          (λ h g. T-not test h (right-says place inside .1 g), λ h. not-T test λ t. h (right-says place inside .0 t))
+
+  pub wrong-kind-none : (wrongKind create kind rows ≡ none) ↔ ((place : ℕ) → place < length rows → RightRow create kind (fieldsAt rows place))
+  wrong-kind-none =
+      let low = lowest-none (λ place word. not (rowKinds create kind (fieldsOf word))) 0 rows in
+      rw (wrong-rows create kind rows) (
+        λ e place inside. right-says place inside .0 (twice (rowKinds create kind (fieldsAt rows place)) .0 (low .0 e place inside)),
+        λ h. low .1 λ place inside. twice (rowKinds create kind (fieldsAt rows place)) .1 (right-says place inside .1 (h place inside)),
+      )
+    where
+      twice : (b : Bool) → T (not (not b)) ↔ T b
+      twice true = (λ h. h, λ h. h)
+      twice false = (λ h. h, λ h. h)

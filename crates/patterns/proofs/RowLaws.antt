@@ -1,0 +1,31 @@
+-- The fields of any word. Assumes nothing.
+use Prim.Native.Nat.{ℕ, zero, suc, _<_, _≤_, min}
+use mathlib.Core.Path.{_≡_, refl}
+use native.Mathlib.Omega.{arith}
+use lib.ListN.{length, getD, take, length-take}
+use lib.Seq.{getD-take}
+use Rattle.patterns.specs.Row.{fieldsOf, childrenOf}
+
+pub slots-four : (word : ℕ) → length (fieldsOf word .slots) ≡ 4
+unfolding fieldsOf
+slots-four word = refl
+
+pub slot-below : (word slot : ℕ) → getD (fieldsOf word .slots) slot 0 < 128
+unfolding fieldsOf
+slot-below word zero = omega arith
+slot-below word (suc zero) = omega arith
+slot-below word (suc (suc zero)) = omega arith
+slot-below word (suc (suc (suc zero))) = omega arith
+slot-below word (suc (suc (suc (suc slot)))) = omega arith
+
+pub raw-below : (word : ℕ) → fieldsOf word .r < 64
+unfolding fieldsOf
+raw-below word = omega arith
+
+pub children-count : (word : ℕ) → length (childrenOf word) ≡ min (fieldsOf word .n) 4
+unfolding fieldsOf
+children-count word = length-take (fieldsOf word .n) (fieldsOf word .slots)
+
+-- a child stands in its slot
+pub child-slot : (word slot : ℕ) → slot < length (childrenOf word) → getD (childrenOf word) slot 0 ≡ getD (fieldsOf word .slots) slot 0
+child-slot word slot inside = getD-take (fieldsOf word .n) (fieldsOf word .slots) slot 0 (omega (arith, children-count word))

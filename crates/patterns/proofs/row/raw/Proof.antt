@@ -1,0 +1,14 @@
+use borrow.Author.Needs.{needs}
+use Rattle.patterns.specs.Row.{fieldsOf}
+use Rattle.patterns.proofs.row.raw.Statement.{statement}
+use Rattle.patterns.proofs.row.raw.Tie as tie
+
+cast-result : tie.Need-cast-result
+cast-result c = search needs
+
+returns : tie.Need-returns
+unfolding fieldsOf
+returns c = search needs
+
+pub raw-spec : {M : Type 1} → statement M
+raw-spec = tie.close (tie.spec cast-result returns)

@@ -1,0 +1,67 @@
+// The fields of a pattern row.
+ghost use mathlib.Core.Path.{_≡_};
+ghost use Rattle.patterns.specs.Row.{fieldsOf};
+
+pub fn tag(word: u64) -> u8
+    ensures { λ r. ⌜ r ≡ fieldsOf word .tag ⌝ }
+{
+    ((word >> 60) % 16) as u8
+}
+
+// V, the variable before the colon.
+pub fn variable(word: u64) -> u8
+    ensures { λ r. ⌜ r ≡ fieldsOf word .v ⌝ }
+{
+    ((word >> 54) % 64) as u8
+}
+
+// F, the form of a key.
+pub fn key_form(word: u64) -> u8
+    ensures { λ r. ⌜ r ≡ fieldsOf word .f ⌝ }
+{
+    ((word >> 52) % 4) as u8
+}
+
+pub fn x(word: u64) -> u8
+    ensures { λ r. ⌜ r ≡ fieldsOf word .x ⌝ }
+{
+    ((word >> 44) % 256) as u8
+}
+
+pub fn y(word: u64) -> u8
+    ensures { λ r. ⌜ r ≡ fieldsOf word .y ⌝ }
+{
+    ((word >> 38) % 64) as u8
+}
+
+// R, the raw variable.
+pub fn raw(word: u64) -> u8
+    ensures { λ r. ⌜ r ≡ fieldsOf word .r ⌝ }
+{
+    ((word >> 32) % 64) as u8
+}
+
+// n, the number of children.
+pub fn count(word: u64) -> u8
+    ensures { λ r. ⌜ r ≡ fieldsOf word .n ⌝ }
+{
+    ((word >> 29) % 8) as u8
+}
+
+// The four slots for children.
+pub fn slots(word: u64) -> [u8; 4]
+    ensures { λ r. ⌜ r ≡ fieldsOf word .slots ⌝ }
+{
+    [
+        ((word >> 22) % 128) as u8,
+        ((word >> 15) % 128) as u8,
+        ((word >> 8) % 128) as u8,
+        ((word >> 1) % 128) as u8,
+    ]
+}
+
+pub fn spare(word: u64) -> u8
+    ensures { λ r. ⌜ r ≡ fieldsOf word .spare ⌝ }
+{
+    (word % 2) as u8
+}

@@ -1,0 +1,147 @@
+// Bad pattern rows: refusal 4.
+ghost use mathlib.Core.Path.{_≡_};
+ghost use mathlib.Core.Bool.{Bool, true, false, not};
+ghost use mathlib.Core.List.{[]};
+ghost use Prim.Native.Nat.{ℕ, _-_, _≤_};
+ghost use lib.ListN.{length, getD, take, drop};
+ghost use lib.Dec.{eqb, ltb};
+ghost use Rattle.word.specs.Lowest.{lowest, each, placeOf};
+ghost use Rattle.patterns.specs.Row.{fieldsOf, childrenOf};
+ghost use Rattle.patterns.specs.Rules.{form, formFits, rowFits, badPattern};
+ghost use Rattle.patterns.specs.Marks.{takeAll, Marked};
+use crate::row;
+use word::Place;
+
+// Which rows are children already, and whether one was named again.
+pub struct Taken {
+    pub marks: [bool; 128],
+    pub again: bool,
+}
+
+// Slots past the children are zero.
+fn rest_zero(count: u8, slots: [u8; 4]) -> bool
+    ensures { λ r. ⌜ r ≡ each (eqb 0) (drop count slots) ⌝ }
+{
+    ((0 < count) | (0 == slots[0]))
+        & ((1 < count) | (0 == slots[1]))
+        & ((2 < count) | (0 == slots[2]))
+        & ((3 < count) | (0 == slots[3]))
+}
+
+// A child has a smaller number than its owner.
+fn all_below(place: usize, count: u8, slots: [u8; 4]) -> bool
+    ensures { λ r. ⌜ r ≡ each (λ child. ltb child place) (take count slots) ⌝ }
+{
+    ((count <= 0) | ((slots[0] as usize) < place))
+        & ((count <= 1) | ((slots[1] as usize) < place))
+        & ((count <= 2) | ((slots[2] as usize) < place))
+        & ((count <= 3) | ((slots[3] as usize) < place))
+}
+
+// A row is good in itself as a form that uses some of V, F, X, Y and R and has so many children.
+fn form_fits(place: usize, word: u64, uses: [bool; 5], least: u8, most: u8) -> bool
+    ensures { λ r. ⌜ r ≡ formFits place (fieldsOf word) (form (getD uses 0 false) (getD uses 1 false) (getD uses 2 false) (getD uses 3 false) (getD uses 4 false) least most) ⌝ }
+{
+    let n = row::count(word);
+    let children = row::slots(word);
+    let unused = (uses[0] | (row::variable(word) == 0))
+        & (uses[1] | (row::key_form(word) == 0))
+        & (uses[2] | (row::x(word) == 0))
+        & (uses[3] | (row::y(word) == 0))
+        & (uses[4] | (row::raw(word) == 0))
+        & rest_zero(n, children)
+        & (row::spare(word) == 0);
+    let counted = (least <= n) & (n <= most);
+    let key = !uses[1] | ((row::key_form(word) <= 2) & (row::x(word) <= 63));
+    unused & counted & key & all_below(place, n, children)
+}
+
+// A row is good in itself, by the table of the forms: which of V, F, X, Y and R are used, and the number of children.
+pub fn row_fits(place: usize, word: u64) -> bool
+    ensures { λ r. ⌜ r ≡ rowFits place (fieldsOf word) ⌝ }
+{
+    // In a key Y is used where F is 1 or 2.
+    let uses_y = 1 <= row::key_form(word);
+    let form = row::tag(word);
+    match form {
+        0 => form_fits(place, word, [true, false, false, false, false], 0, 0),
+        1 => form_fits(place, word, [false, false, false, false, true], 0, 0),
+        2 => form_fits(place, word, [true, false, true, false, false], 0, 0),
+        3 => form_fits(place, word, [true, false, false, true, false], 0, 0),
+        4 => form_fits(place, word, [true, false, false, true, false], 0, 0),
+        5 => form_fits(place, word, [true, true, true, uses_y, false], 1, 1),
+        6 => form_fits(place, word, [true, true, true, uses_y, true], 0, 0),
+        7 => form_fits(place, word, [true, false, false, false, true], 0, 0),
+        8 => form_fits(place, word, [true, false, false, false, false], 0, 4),
+        9 => form_fits(place, word, [false, false, false, false, true], 2, 2),
+        _ => false,
+    }
+}
+
+fn nothing_taken() -> Taken
+    ensures { λ r. ⌜ Marked r [] × (r .again ≡ false) ⌝ }
+{
+    Taken {
+        marks: [false; 128],
+        again: false,
+    }
+}
+
+// The number of children; there are four slots.
+fn child_count(word: u64) -> usize
+    ensures { λ r. ⌜ r ≡ length (childrenOf word) ⌝ }
+{
+    let n = row::count(word) as usize;
+    if n < 4 { n } else { 4 }
+}
+
+fn take_children(taken: Taken, word: u64) -> Taken
+    ensures { λ r. ⌜ r ≡ takeAll taken (childrenOf word) ⌝ }
+{
+    let children = row::slots(word);
+    let n = child_count(word);
+    let mut marks = taken.marks;
+    let mut again = taken.again;
+    let mut slot = 0;
+    while slot < n {
+        let child = children[slot] as usize;
+        again = again | marks[child];
+        marks[child] = true;
+        slot += 1;
+    }
+    Taken { marks, again }
+}
+
+// The lowest row but the root, the last, that is nobody's child.
+fn first_unnamed(marks: [bool; 128], count: usize) -> Place
+    requires { ⌜ count ≤ 96 ⌝ }
+    ensures { λ r. ⌜ r ≡ placeOf (lowest (λ place mark. not mark) (take (count - 1) marks)) ⌝ }
+{
+    let mut place = 0;
+    while place + 1 < count {
+        if !marks[place] {
+            return Place::At(place as u32);
+        }
+        place += 1;
+    }
+    Place::Nowhere
+}
+
+// 4: the lowest row bad in itself or naming a child already taken, else the lowest row nobody names.
+pub fn first_bad_pattern(rows: &[u64]) -> Place
+    requires { ⌜ length (now rows) ≤ 96 ⌝ }
+    ensures { λ r. ⌜ r ≡ placeOf (badPattern (now (rows .entry))) ⌝ }
+{
+    let mut taken = nothing_taken();
+    let mut place = 0;
+    while place < rows.len() {
+        let word = rows[place];
+        taken = take_children(taken, word);
+        if !row_fits(place, word) | taken.again {
+            return Place::At(place as u32);
+        }
+        place += 1;
+    }
+    let marks = taken.marks;
+    first_unnamed(marks, rows.len())
+}

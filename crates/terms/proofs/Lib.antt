@@ -1,0 +1,4 @@
+-- Laws of term rows, of the term table and of the finder.
+pub mod RowLaws
+pub mod TableLaws
+pub mod FinderLaws

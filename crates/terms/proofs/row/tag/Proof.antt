@@ -1,0 +1,12 @@
+-- `terms::tag` meets its contract: what stands above the other fields is below 16 by itself. Assumes nothing.
+use native.Mathlib.Omega.{arith}
+use Rattle.terms.specs.Row.{tagOf}
+use Rattle.terms.proofs.row.tag.Statement.{statement}
+use Rattle.terms.proofs.row.tag.Tie as tie
+
+returns : tie.Need-returns
+unfolding tagOf
+returns c = omega arith
+
+pub tag-spec : {M : Type 1} → statement M
+tag-spec = tie.close (tie.spec returns)

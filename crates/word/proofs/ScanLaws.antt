@@ -1,0 +1,99 @@
+-- How a loop goes through `lowest`, and which tests give the same answer. Assumes nothing.
+use Prim.Native.Nat.{ℕ, suc, _+_, _<_, _≤_}
+use mathlib.Core.Path.{_≡_, refl, sym, _∙_}
+use mathlib.Core.Logic.{_↔_}
+use mathlib.Core.Bool.{Bool, true, false}
+use mathlib.Core.Option.{Option, none, some}
+use mathlib.Core.List.{List, [], _∷_}
+use native.Mathlib.Numerals.{add-one}
+use native.Mathlib.Omega.{arith}
+use lib.ListN.{length, getD, drop, drop-of-length-le}
+use lib.Seq.{drop-cons}
+use lib.Dec.{T, T-not, not-T}
+use Rattle.word.specs.Lowest.{lowestFrom, lowest}
+use Rattle.word.proofs.LowestLaws.{passes, lowest-none, lowest-some}
+
+module _ {A : Type 0} (test : ℕ → A → Bool) where
+  lowest-hit : (i : ℕ) (a : A) (rest : List A) → test i a ≡ true → lowestFrom i test (a ∷ rest) ≡ some i
+  unfolding lowestFrom
+  lowest-hit i a rest h = rw (h, lowestFrom)
+
+  lowest-miss : (i : ℕ) (a : A) (rest : List A) → test i a ≡ false → lowestFrom i test (a ∷ rest) ≡ lowestFrom (suc i) test rest
+  unfolding lowestFrom
+  lowest-miss i a rest h = rw (h, lowestFrom)
+
+  lowest-end : (i : ℕ) → lowestFrom i test [] ≡ none
+  unfolding lowestFrom
+  lowest-end i = refl
+
+  -- nothing is found before a place: what is left gives the answer
+  abbrev pub Left : List A → ℕ → Type 0
+  Left all i = lowest test all ≡ lowestFrom i test (drop i all)
+
+  module _ (all : List A) (default : A) (i : ℕ) (left : Left all i) where
+    pub scan-hit : i < length all → test i (getD all i default) ≡ true → lowest test all ≡ some i
+    scan-hit inside h = left ∙ rw (drop-cons all i default) (lowest-hit i (getD all i default) (drop (suc i) all) h)
+
+    pub scan-miss : i < length all → test i (getD all i default) ≡ false → Left all (i + 1)
+    scan-miss inside h = left ∙ rw (add-one, drop-cons all i default) (lowest-miss i (getD all i default) (drop (suc i) all) h)
+
+    pub scan-end : length all ≤ i → lowest test all ≡ none
+    scan-end past = left ∙ rw (drop-of-length-le all {i = i} past) (lowest-end i)
+
+-- two tests that agree at each place
+module _ {A B : Type 0} (test : ℕ → A → Bool) (other : ℕ → B → Bool) (all : List A) (others : List B) (a : A) (b : B) where
+  pub lowest-same : length all ≡ length others → ((i : ℕ) → i < length all → test i (getD all i a) ≡ other i (getD others i b)) → lowest test all ≡ lowest other others
+  lowest-same long same = go (lowest test all) refl
+    where
+      go : (o : Option ℕ) → lowest test all ≡ o → lowest test all ≡ lowest other others
+      go none e =
+          e ∙ sym (lowest-none other b others .1 λ i l. let l′ : i < length all = omega arith in rw (← (same i l′)) (lowest-none test a all .0 e i l′))
+      go (some i) e =
+          let h = lowest-some test a all i .0 e in
+          let inside : i < length all = h .inside in
+          e
+          ∙ sym
+          (lowest-some other b others i .1
+          (record {
+            inside = omega arith;
+            holds = rw (← (same i inside)) (h .holds);
+            earlier = λ j l. rw (← (same j (omega arith))) (h .earlier j l);
+          }))
+
+-- the lowest number below a count that has a property
+pub record LowestWith (P : ℕ → Type 0) (count i : ℕ) : Type 0 where
+  pub inside : i < count
+  pub holds : P i
+  pub earlier : (j : ℕ) → j < i → P j → ⊥
+
+-- no number below a count has it
+abbrev pub NoneWith : (ℕ → Type 0) → ℕ → Type 0
+NoneWith P count = (i : ℕ) → i < count → P i → ⊥
+
+-- where the test of a place says a property of it, so does the answer
+module _ {A : Type 0} (test : ℕ → A → Bool) (P : ℕ → Type 0) (all : List A) (default : A) (says : (i : ℕ) → i < length all → T (test i (getD all i default)) ↔ P i) where
+  pub none-with : (lowest test all ≡ none) ↔ NoneWith P (length all)
+  none-with = (
+    λ e i inside h. T-not (passes test default all i) (lowest-none test default all .0 e i inside) (says i inside .1 h),
+    λ h. lowest-none test default all .1 λ i inside. not-T (passes test default all i) λ t. h i inside (says i inside .0 t),
+  )
+
+  pub lowest-with : (i : ℕ) → (lowest test all ≡ some i) ↔ LowestWith P (length all) i
+  lowest-with i = (
+    λ e.
+        let h = lowest-some test default all i .0 e in
+        let inside : i < length all = h .inside in
+        record {
+          inside = inside;
+          holds = says i inside .0 (h .holds);
+          earlier = λ j less p. T-not (passes test default all j) (h .earlier j less) (says j (omega arith) .1 p);
+        },
+    λ h.
+        let inside : i < length all = h .inside in
+        lowest-some test default all i .1
+        (record {
+          inside = inside;
+          holds = says i inside .1 (h .holds);
+          earlier = λ j less. not-T (passes test default all j) λ t. h .earlier j less (says j (omega arith) .0 t);
+        }),
+  )
