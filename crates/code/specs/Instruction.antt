@@ -6,6 +6,8 @@ use lib.ListN.{getD}
 use Rattle.word.specs.Fields.{split, join, at}
 use Rattle.code.specs.declared.Object.{Object}
 use Rattle.code.specs.declared.Raw.{Raw}
+use Rattle.code.specs.declared.Read.{Read}
+use Rattle.code.specs.declared.Read.the-variants.{Is, Not}
 use Rattle.code.specs.declared.Instruction.{Instruction}
 use Rattle.code.specs.declared.Instruction.the-variants.{Load, Store, StoreConst, Decode, Encode, Create, AnalyzeTuple, CreateTuple, Opposite, KeyOf, Match, Encrypt, Decrypt, Sign, Verify, Hash}
 
@@ -58,3 +60,8 @@ unfoldable pub instructionOf : ℕ → Option Instruction
 instructionOf word =
     let fields = split wordWidths word in
     instructionBy (at 0 fields) (at 1 fields) (at 2 fields) (at 3 fields)
+
+-- the code's answer for what a word says
+abbrev pub readOf : Option Instruction → Read
+readOf (some instruction) = Is instruction
+readOf none = Not

@@ -1,4 +1,13 @@
-// The instruction, over numbers of three sorts that are never taken for each other.
+// The instruction, over numbers of three sorts that are never taken for each other, and its word.
+use word::Place;
+ghost use mathlib.Core.Path.{_≡_};
+ghost use mathlib.Core.List.{[], _∷_};
+ghost use Prim.Native.Nat.{_<_, _≤_};
+ghost use lib.ListN.{length, getD, take};
+ghost use Rattle.word.specs.Fields.{join};
+ghost use Rattle.word.specs.Lowest.{placeOf};
+ghost use Rattle.code.specs.Instruction.{wordWidths, wordOf, instructionOf, readOf};
+ghost use Rattle.code.specs.Words.{hasKind, cellsFit, operandsFit, goodWord, badWord};
 
 // An object variable.
 pub struct Object(pub u8);
@@ -27,4 +36,161 @@ pub enum Instruction {
     Sign(Object),
     Verify(Object, Raw),
     Hash(Object),
+}
+
+// What a word says: an instruction, or that there is none of its operation.
+pub enum Read {
+    Is(Instruction),
+    Not,
+}
+
+// Operation, A, B and n in their fields; the sum fits even where n is too wide for its own.
+fn packed(operation: u32, a: u8, b: u8, n: u8) -> u32
+    requires { ⌜ operation < 18 ⌝ }
+    ensures { λ r. ⌜ r ≡ join wordWidths (operation ∷ a ∷ b ∷ n ∷ 0 ∷ []) ⌝ }
+{
+    operation * 134217728 + (a as u32) * 524288 + (b as u32) * 2048 + (n as u32) * 256
+}
+
+// Operands go into A, then B.
+pub fn word_of(instruction: Instruction) -> u32
+    ensures { λ r. ⌜ r ≡ wordOf instruction ⌝ }
+{
+    match instruction {
+        Instruction::Load(r) => packed(2, r.0, 0, 0),
+        Instruction::Store(r) => packed(3, r.0, 0, 0),
+        Instruction::StoreConst(c, byte) => packed(4, c.0, byte, 0),
+        Instruction::Decode(v) => packed(5, v.0, 0, 0),
+        Instruction::Encode(v) => packed(6, v.0, 0, 0),
+        Instruction::Create(v) => packed(7, v.0, 0, 0),
+        Instruction::AnalyzeTuple(t, first, n) => packed(8, t.0, first.0, n),
+        Instruction::CreateTuple(t, first, n) => packed(9, t.0, first.0, n),
+        Instruction::Opposite(private, public) => packed(10, private.0, public.0, 0),
+        Instruction::KeyOf => packed(11, 0, 0, 0),
+        Instruction::Match(r) => packed(12, r.0, 0, 0),
+        Instruction::Encrypt(v) => packed(13, v.0, 0, 0),
+        Instruction::Decrypt(v) => packed(14, v.0, 0, 0),
+        Instruction::Sign(v) => packed(15, v.0, 0, 0),
+        Instruction::Verify(v, r) => packed(16, v.0, r.0, 0),
+        Instruction::Hash(h) => packed(17, h.0, 0, 0),
+    }
+}
+
+// Fields that the instruction does not use are not looked at.
+pub fn instruction_of(word: u32) -> Read
+    ensures { λ r. ⌜ r ≡ readOf (instructionOf word) ⌝ }
+{
+    let a = (word / 524288 % 256) as u8;
+    let b = (word / 2048 % 256) as u8;
+    let n = (word / 256 % 8) as u8;
+    match word / 134217728 {
+        2 => Read::Is(Instruction::Load(Raw(a))),
+        3 => Read::Is(Instruction::Store(Raw(a))),
+        4 => Read::Is(Instruction::StoreConst(Object(a), b)),
+        5 => Read::Is(Instruction::Decode(Object(a))),
+        6 => Read::Is(Instruction::Encode(Object(a))),
+        7 => Read::Is(Instruction::Create(Object(a))),
+        8 => Read::Is(Instruction::AnalyzeTuple(Object(a), Raw(b), n)),
+        9 => Read::Is(Instruction::CreateTuple(Object(a), Raw(b), n)),
+        10 => Read::Is(Instruction::Opposite(Object(a), Object(b))),
+        11 => Read::Is(Instruction::KeyOf),
+        12 => Read::Is(Instruction::Match(Raw(a))),
+        13 => Read::Is(Instruction::Encrypt(Object(a))),
+        14 => Read::Is(Instruction::Decrypt(Object(a))),
+        15 => Read::Is(Instruction::Sign(Object(a))),
+        16 => Read::Is(Instruction::Verify(Object(a), Raw(b))),
+        17 => Read::Is(Instruction::Hash(Object(a))),
+        _ => Read::Not,
+    }
+}
+
+// The kind of an object variable; a number past the 64 variables has none.
+fn kind_at(kinds: &[u8], v: Object) -> u8
+    ensures { λ r. ⌜ r ≡ getD (take 64 (now (kinds .entry))) (v .0) 0 ⌝ }
+{
+    let at = v.0 as usize;
+    if at < 64 && at < kinds.len() {
+        kinds[at]
+    } else {
+        0
+    }
+}
+
+fn has_kind(kinds: &[u8], v: Object, kind: u8) -> bool
+    requires { ⌜ 0 < kind ⌝ }
+    ensures { λ r. ⌜ r ≡ hasKind (λ n. getD (now (kinds .entry)) n 0) v (kind ∷ []) ⌝ }
+{
+    kind_at(kinds, v) == kind
+}
+
+fn has_either(kinds: &[u8], v: Object, first: u8, second: u8) -> bool
+    requires { ⌜ (0 < first) × (0 < second) ⌝ }
+    ensures { λ r. ⌜ r ≡ hasKind (λ n. getD (now (kinds .entry)) n 0) v (first ∷ second ∷ []) ⌝ }
+{
+    let kind = kind_at(kinds, v);
+    kind == first || kind == second
+}
+
+// Any kind but that of an undeclared variable.
+fn declared(kinds: &[u8], v: Object) -> bool
+    ensures { λ r. ⌜ r ≡ hasKind (λ n. getD (now (kinds .entry)) n 0) v (1 ∷ 2 ∷ 3 ∷ 4 ∷ 5 ∷ 6 ∷ 7 ∷ 8 ∷ 9 ∷ 10 ∷ []) ⌝ }
+{
+    let kind = kind_at(kinds, v);
+    1 <= kind && kind <= 10
+}
+
+// So many consecutive message cells, at most four.
+fn cells_fit(first: Raw, n: u8) -> bool
+    ensures { λ r. ⌜ r ≡ cellsFit first n ⌝ }
+{
+    n <= 4 && (first.0 as u32) + (n as u32) <= 256
+}
+
+// The kinds that figure 4 wants, and cells that are there.
+fn operands_fit(kinds: &[u8], instruction: Instruction) -> bool
+    ensures { λ r. ⌜ r ≡ operandsFit (λ n. getD (now (kinds .entry)) n 0) instruction ⌝ }
+{
+    match instruction {
+        Instruction::Load(_) => true,
+        Instruction::Store(_) => true,
+        Instruction::StoreConst(c, _) => has_kind(kinds, c, 1),
+        Instruction::Decode(v) => declared(kinds, v),
+        Instruction::Encode(v) => declared(kinds, v),
+        Instruction::Create(v) => has_kind(kinds, v, 2) || has_either(kinds, v, 5, 6),
+        Instruction::AnalyzeTuple(t, first, n) => has_kind(kinds, t, 10) && cells_fit(first, n),
+        Instruction::CreateTuple(t, first, n) => has_kind(kinds, t, 10) && cells_fit(first, n),
+        Instruction::Opposite(private, public) => has_kind(kinds, private, 5)
+            && has_kind(kinds, public, 4),
+        Instruction::KeyOf => true,
+        Instruction::Match(_) => true,
+        Instruction::Encrypt(v) => has_either(kinds, v, 4, 6),
+        Instruction::Decrypt(v) => has_either(kinds, v, 5, 6),
+        Instruction::Sign(v) => has_either(kinds, v, 5, 6),
+        Instruction::Verify(v, _) => has_either(kinds, v, 4, 6),
+        Instruction::Hash(h) => has_kind(kinds, h, 9),
+    }
+}
+
+// A good word is the word of its own instruction, so that what the instruction does not use is zero.
+pub fn good_word(kinds: &[u8], word: u32) -> bool
+    ensures { λ r. ⌜ r ≡ goodWord (λ n. getD (now (kinds .entry)) n 0) word ⌝ }
+{
+    match instruction_of(word) {
+        Read::Is(instruction) => word_of(instruction) == word && operands_fit(kinds, instruction),
+        Read::Not => false,
+    }
+}
+
+// Refusal 9.
+pub fn first_bad_word(kinds: &[u8], code: &[u32]) -> Place
+    requires { ⌜ length (now code) ≤ 65536 ⌝ }
+    ensures { λ r. ⌜ r ≡ placeOf (badWord (λ n. getD (now (kinds .entry)) n 0) (now (code .entry))) ⌝ }
+{
+    let count = code.len();
+    for place in 0..count {
+        if !good_word(kinds, code[place]) {
+            return Place::At(place as u32);
+        }
+    }
+    Place::Nowhere
 }

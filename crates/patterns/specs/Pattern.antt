@@ -1,5 +1,5 @@
 -- Figure 1. The first number of each form is its row.
-use Prim.Native.Nat.{ℕ, zero, suc, _+_, _<_}
+use Prim.Native.Nat.{ℕ, zero, suc, _+_, _<_, _≤_}
 
 -- the key of E and S: a variable, k : op(K) or k : keyOf(a)
 pub data Key : Type 0 where
@@ -74,3 +74,21 @@ unfoldable mutual
   pub PartsBelow : ℕ → Parts → Type 0
   PartsBelow most end = Unit {0}
   PartsBelow most (part p ps) = RawsBelow most p × PartsBelow most ps
+
+-- what a row has room for: bytes below 256, and at most four parts
+unfoldable mutual
+  pub Packed : Pattern → Type 0
+  Packed (object row v) = Unit {0}
+  Packed (raw row r) = Unit {0}
+  Packed (constant row c b) = b < 256
+  Packed (opposite row k K) = Unit {0}
+  Packed (keyOf row k a) = Unit {0}
+  Packed (encryption row e key p) = Packed p
+  Packed (signature row s key r) = Unit {0}
+  Packed (hash row h r) = Unit {0}
+  Packed (tuple row t ps) = (count ps ≤ 4) × PackedParts ps
+  Packed (letIn row r p₁ p₂) = Packed p₁ × Packed p₂
+
+  pub PackedParts : Parts → Type 0
+  PackedParts end = Unit {0}
+  PackedParts (part p ps) = Packed p × PackedParts ps

@@ -1,9 +1,24 @@
 // The term table.
 use code::TermRow;
 
-pub mod row;
+mod finder;
+mod row;
+mod rules;
 
+pub use finder::find;
+pub use row::atom_word;
+pub use row::encrypted_word;
+pub use row::hashed_word;
+pub use row::number;
+pub use row::part;
+pub use row::part_count;
+pub use row::row_at;
+pub use row::signed_word;
 pub use row::tag;
+pub use row::tuple_word;
+pub use rules::first_bad_row;
+pub use rules::row_fits;
+pub use rules::used_rows;
 
 // What the finder answers: the term's row and the number of used rows then, or that there is no room.
 pub enum Found {

@@ -69,6 +69,7 @@ worked = (
   record {
     empty-tuple = refl;
     created-tuple = refl;
+    hash-matched = refl;
     child-twice = refl;
     child-taken = refl;
     child-missing = refl;

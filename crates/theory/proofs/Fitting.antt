@@ -3,12 +3,12 @@ use mathlib.Core.Path.{_≡_, refl, subst}
 use mathlib.Core.Logic.{inl, inr}
 use mathlib.Core.Option.{Option, none, some}
 use mathlib.Core.List.{List, [], _∷_}
-use Prim.Native.Nat.{ℕ, _+_, _/_, _^_, _<_, _≤_}
-use native.Mathlib.Nat.{mod-lt}
+use Prim.Native.Nat.{ℕ, _+_, _<_, _≤_}
 use native.Mathlib.Omega.{arith}
 use lib.Dec.{T, eqb, leb, ltb}
 use Rattle.word.specs.Fields.{split, at}
 use Rattle.word.specs.Lowest.{oneOf}
+use Rattle.word.proofs.FieldLaws.{split-fits}
 use Rattle.word.proofs.All.{All, all-getD}
 use Rattle.word.proofs.TestLaws.{both, at-most}
 use Rattle.word.proofs.LowestLaws.{one-all}
@@ -19,7 +19,6 @@ use Rattle.code.specs.declared.Instruction.{Instruction}
 use Rattle.code.specs.declared.Instruction.the-variants.{Load, Store, StoreConst, Decode, Encode, Create, AnalyzeTuple, CreateTuple, Opposite, KeyOf, Match, Encrypt, Decrypt, Sign, Verify, Hash}
 use Rattle.terms.proofs.TableLaws.{Encrypts, Signs}
 use Rattle.theory.specs.World.{creatable}
-use Rattle.theory.specs.World as Voc
 
 abbrev pub Fits : (ℕ → ℕ) → Instruction → Type 0
 Fits kind (StoreConst c b) = (kind (c .0) ≡ 1) × (b < 256)
@@ -104,10 +103,11 @@ decoded : (word : ℕ) → Decoded (instructionOf word)
 unfolding instructionOf
 decoded word =
     let fields = split wordWidths word in
-    decoded-by (at 0 fields) (at 1 fields) (at 2 fields) (at 3 fields) (mod-lt (word / 2 ^ 11) (omega arith))
+    decoded-by (at 0 fields) (at 1 fields) (at 2 fields) (at 3 fields) (split-fits wordWidths word .1 .1 .0)
 
 -- so the instructions of good code words fit
-pub good-word-fits : (kind : ℕ → ℕ) (word : ℕ) (i : Instruction) → instructionOf word ≡ some i → T (goodWord kind word) → T (operandsFit kind i) × ByteFits i
+pub good-word-fits : (kind : ℕ → ℕ) (word : ℕ) (i : Instruction) → instructionOf word ≡ some i → T (goodWord kind word)
+    → T (operandsFit kind i) × ByteFits i
 unfolding goodWord
 good-word-fits kind word i e good =
     (both (eqb (wordOf i) word) (operandsFit kind i) .0 (subst (λ o. T (wordFits kind word o)) e good) .1, subst Decoded e (decoded word))

@@ -1,4 +1,22 @@
--- Rows stand for terms: one world read in another.
+-- The theorems of the paper.
+pub mod Cases
+pub mod StoreLaws
+pub mod CellLaws
+pub mod Reasons
+pub mod Models
+pub mod Simulation
+pub mod Goes
+pub mod Steps
+pub mod Matching
+pub mod Creating
+pub mod Adequacy
+pub mod Compiled
+pub mod FigureLaws
+pub mod MatchingRules
+pub mod CreatingRules
+pub mod InLimits
+pub mod SetCells
+pub mod Places
 pub mod Fitting
 pub mod Related
 pub mod Refinement
@@ -7,5 +25,10 @@ pub mod Meaning
 pub mod ValidMemory
 pub mod RowsAreTerms
 pub mod RowsRunAsTerms
+pub mod RowSteps
 pub mod Room
-pub mod Cases
+pub mod Theorems
+pub mod ValidLent
+pub mod RowsKept
+pub mod ValidAgain
+pub mod CompileLaws

@@ -135,7 +135,8 @@ module _ {rows : List ℕ} {counter : ℕ} (valid : ValidTable rows counter) whe
   abbrev Smaller : ℕ → ℕ → Term → Type 0
   Smaller bound part t = (part < bound) × (part < usedRows rows) × (meaning rows part ≡ t)
 
-  same-below : (bound row other : ℕ) → row < bound → other < bound → row < usedRows rows → other < usedRows rows → meaning rows row ≡ meaning rows other → row ≡ other
+  same-below : (bound row other : ℕ) → row < bound → other < bound → row < usedRows rows → other < usedRows rows
+      → meaning rows row ≡ meaning rows other → row ≡ other
   same-below zero row other l m used also same = absurd (omega arith)
   same-below (suc bound) row other l m used also same =
       let once : (a c : ℕ) (t : Term) → Smaller bound a t → Smaller bound c t → a ≡ c =

@@ -1,5 +1,5 @@
 -- One world read in another: the same code on both gives the same end, cell by cell, unless the left runs out of room.
-use mathlib.Core.Path.{_≡_, refl, sym, _∙_, ap}
+use mathlib.Core.Path.{_≡_, refl, sym, _∙_, ap, subst}
 use mathlib.Core.Bool.{Bool, true, false, cond}
 use mathlib.Core.Option.{Option, some}
 use mathlib.Core.List.{List, [], _∷_}
@@ -76,11 +76,11 @@ module _ {W T : World} (F : Reading W T) where
 
   -- what has to be shown of two worlds
   pub record Refines : Type 0 where
-    pub applies : (x : W .Mem) (c : T .Mem) (o : Op (W .Msg)) (o′ : Op (T .Msg)) → F .Good x c → OpR (F .Means x) (F .kind) o o′
+    pub applies : {x : W .Mem} {c : T .Mem} {o : Op (W .Msg)} {o′ : Op (T .Msg)} → F .Good x c → OpR (F .Means x) (F .kind) o o′
         → AnswerR (Made x (Makes o′)) (W .apply o x) (T .apply o′ c)
-    pub tests : (x : W .Mem) (c : T .Mem) (q : Test (W .Msg)) (q′ : Test (T .Msg)) → F .Good x c → TestR (F .Means x) q q′
+    pub tests : {x : W .Mem} {c : T .Mem} {q : Test (W .Msg)} {q′ : Test (T .Msg)} → F .Good x c → TestR (F .Means x) q q′
         → AnswerR (λ _ _. Shows (F .kind) q′) (W .test q x) (T .test q′ c)
-    pub takes : (x : W .Mem) (c : T .Mem) (a : W .Msg) (t : T .Msg) (n : ℕ) → F .Good x c → F .Means x a t
+    pub takes : {x : W .Mem} {c : T .Mem} {a : W .Msg} {t : T .Msg} (n : ℕ) → F .Good x c → F .Means x a t
         → AnswerR (λ g h. (i : ℕ) → i < n → F .Means x (g i) (h i)) (W .parts a n x) (T .parts t n c)
 
 module _ {A B : Type 0} (R : ℕ → A → B → Type 0) where
@@ -110,151 +110,161 @@ module _ (W : World) where
   memory-kept s first (suc n) g = memory-set (setMessages W s first n g) (first + n) (g n) ∙ memory-kept s first n g
 
 module _ {W T : World} (F : Reading W T) (kind : ℕ → ℕ) where
-  -- an object cell has a message of its variable's kind
-  abbrev pub ObjectR : W .Mem → ℕ → W .Msg → T .Msg → Type 0
-  ObjectR x v a t = F .Means x a t × (F .kind t ≡ kind v)
+  -- what a cell holds; an object cell's message has its variable's kind
+  abbrev pub MessageR : State W → W .Msg → T .Msg → Type 0
+  MessageR s = F .Means (s .stores .memory)
+
+  abbrev pub ObjectR : State W → ℕ → W .Msg → T .Msg → Type 0
+  ObjectR s v a b = MessageR s a b × (F .kind b ≡ kind v)
 
   pub record StateR (s : State W) (t : State T) : Type 0 where
     pub good : F .Good (s .stores .memory) (t .stores .memory)
-    pub accumulators : CellR (F .Means (s .stores .memory)) (s .accumulator) (t .accumulator)
-    pub scratchCells : (i : ℕ) → CellR (F .Means (s .stores .memory)) (s .scratches i) (t .scratches i)
-    pub objects : (v : ℕ) → CellR (ObjectR (s .stores .memory) v) (s .stores .σ v) (t .stores .σ v)
-    pub raws : (r : ℕ) → CellR (F .Means (s .stores .memory)) (s .stores .ρ r) (t .stores .ρ r)
+    pub accumulators : CellR (MessageR s) (s .accumulator) (t .accumulator)
+    pub scratchCells : (i : ℕ) → CellR (MessageR s) (s .scratches i) (t .scratches i)
+    pub objects : (v : ℕ) → CellR (ObjectR s v) (s .stores .σ v) (t .stores .σ v)
+    pub raws : (r : ℕ) → CellR (MessageR s) (s .stores .ρ r) (t .stores .ρ r)
 
   -- the memory grows
-  grown : (s : State W) (t : State T) (x : W .Mem) (c : T .Mem) → StateR s t → F .Good x c → Kept F (s .stores .memory) x
+  grown : {s : State W} {t : State T} {x : W .Mem} {c : T .Mem} → StateR s t → F .Good x c → Kept F (s .stores .memory) x
       → StateR (withStores W s (setMemory W (s .stores) x)) (withStores T t (setMemory T (t .stores) c))
-  grown s t x c r good kept =
+  grown st good kept =
       record {
         good = good;
-        accumulators = cell-map kept (r .accumulators);
-        scratchCells = λ i. cell-map kept (r .scratchCells i);
-        objects = λ v. cell-map (λ a b m. (kept a b (m .0), m .1)) (r .objects v);
-        raws = λ i. cell-map kept (r .raws i);
+        accumulators = cell-map kept (st .accumulators);
+        scratchCells = λ i. cell-map kept (st .scratchCells i);
+        objects = λ v. cell-map (λ a b m. (kept a b (m .0), m .1)) (st .objects v);
+        raws = λ r. cell-map kept (st .raws r);
       }
 
-  accumulated : (s : State W) (t : State T) (a : W .Msg) (b : T .Msg) → StateR s t → F .Means (s .stores .memory) a b
-      → StateR (withAccumulator W s a) (withAccumulator T t b)
-  accumulated s t a b r m = record { good = r .good; accumulators = set m; scratchCells = r .scratchCells; objects = r .objects; raws = r .raws }
+  -- one cell is written
+  module _ {s : State W} {t : State T} (st : StateR s t) {a : W .Msg} {b : T .Msg} where
+    accumulator-set : MessageR s a b → StateR (withAccumulator W s a) (withAccumulator T t b)
+    accumulator-set m = record { good = st .good; accumulators = set m; scratchCells = st .scratchCells; objects = st .objects; raws = st .raws }
 
-  object-set : (s : State W) (t : State T) (v : ℕ) (a : W .Msg) (b : T .Msg) → StateR s t → ObjectR (s .stores .memory) v a b
-      → StateR (withStores W s (setObject W (s .stores) v a)) (withStores T t (setObject T (t .stores) v b))
-  object-set s t v a b r m =
-      record { good = r .good; accumulators = r .accumulators; scratchCells = r .scratchCells; objects = put-related (ObjectR (s .stores .memory)) _ _ v m (r .objects); raws = r .raws }
+    object-set : (v : ℕ) → ObjectR s v a b → StateR (withStores W s (setObject W (s .stores) v a)) (withStores T t (setObject T (t .stores) v b))
+    object-set v m =
+        record {
+          good = st .good;
+          accumulators = st .accumulators;
+          scratchCells = st .scratchCells;
+          objects = put-related (ObjectR s) _ _ v m (st .objects);
+          raws = st .raws;
+        }
 
-  -- message cells by their numbers, read and written
-  message-related : (s : State W) (t : State T) (cell : ℕ) → StateR s t → CellR (F .Means (s .stores .memory)) (message W s cell) (message T t cell)
+    raw-set : (r : ℕ) → MessageR s a b → StateR (withStores W s (setRaw W (s .stores) r a)) (withStores T t (setRaw T (t .stores) r b))
+    raw-set r m =
+        record {
+          good = st .good;
+          accumulators = st .accumulators;
+          scratchCells = st .scratchCells;
+          objects = st .objects;
+          raws = put-related (λ _. MessageR s) _ _ r m (st .raws);
+        }
+
+    scratch-set : (i : ℕ) → MessageR s a b → StateR (withScratch W s i a) (withScratch T t i b)
+    scratch-set i m =
+        record {
+          good = st .good;
+          accumulators = st .accumulators;
+          scratchCells = put-related (λ _. MessageR s) _ _ i m (st .scratchCells);
+          objects = st .objects;
+          raws = st .raws;
+        }
+
+    message-set : (cell : ℕ) → MessageR s a b → StateR (setMessage W s cell a) (setMessage T t cell b)
+    unfolding setMessage
+    message-set cell m = go (ltb cell namedCells)
+      where
+        go : (named : Bool)
+            → StateR (cond named (withStores W s (setRaw W (s .stores) cell a)) (withScratch W s (cell - namedCells) a))
+            (cond named (withStores T t (setRaw T (t .stores) cell b)) (withScratch T t (cell - namedCells) b))
+        go true = raw-set cell m
+        go false = scratch-set (cell - namedCells) m
+
+  messages-set : {s : State W} {t : State T} (first n : ℕ) {g : ℕ → W .Msg} {h : ℕ → T .Msg} → StateR s t
+      → ((i : ℕ) → i < n → MessageR s (g i) (h i)) → StateR (setMessages W s first n g) (setMessages T t first n h)
+  unfolding setMessages
+  messages-set first zero st m = st
+  messages-set {s} first (suc n) {g} {h} st m =
+      message-set (messages-set first n st λ i l. m i (omega arith)) (first + n)
+      (subst (λ x. F .Means x (g n) (h n)) (sym (memory-kept W s first n g)) (m n (omega arith)))
+
+  -- message cells are read by their numbers
+  message-related : {s : State W} {t : State T} (cell : ℕ) → StateR s t → CellR (MessageR s) (message W s cell) (message T t cell)
   unfolding message
-  message-related s t cell r = go (ltb cell namedCells)
-    where
-      go : (b : Bool) → CellR (F .Means (s .stores .memory)) (cond b (s .stores .ρ cell) (s .scratches (cell - namedCells))) (cond b (t .stores .ρ cell) (t .scratches (cell - namedCells)))
-      go true = r .raws cell
-      go false = r .scratchCells (cell - namedCells)
-
-  messages-related : (place : ℕ) (s : State W) (t : State T) (first n : ℕ) → StateR s t
-      → OutcomeR (λ ms ns. EachR (F .Means (s .stores .memory)) ms ns × (length ns ≡ n)) (messages W place s first n) (messages T place t first n)
-  unfolding messages
-  messages-related place s t first zero r = dones (nil, refl)
-  messages-related place s t first (suc n) r =
-      bind-related _ _ (need-related place (message-related s t first r)) λ a b m.
-      bind-related _ _ (messages-related place s t (suc first) n r) λ ls ns ms. dones (cons m (ms .0), ap suc (ms .1))
-
-  raw-set : (s : State W) (t : State T) (cell : ℕ) (a : W .Msg) (b : T .Msg) → StateR s t → F .Means (s .stores .memory) a b
-      → StateR (withStores W s (setRaw W (s .stores) cell a)) (withStores T t (setRaw T (t .stores) cell b))
-  raw-set s t cell a b r m =
-      record {
-        good = r .good;
-        accumulators = r .accumulators;
-        scratchCells = r .scratchCells;
-        objects = r .objects;
-        raws = put-related (λ _. F .Means (s .stores .memory)) _ _ cell m (r .raws);
-      }
-
-  scratch-set : (s : State W) (t : State T) (i : ℕ) (a : W .Msg) (b : T .Msg) → StateR s t → F .Means (s .stores .memory) a b
-      → StateR (withScratch W s i a) (withScratch T t i b)
-  scratch-set s t i a b r m =
-      record {
-        good = r .good;
-        accumulators = r .accumulators;
-        scratchCells = put-related (λ _. F .Means (s .stores .memory)) _ _ i m (r .scratchCells);
-        objects = r .objects;
-        raws = r .raws;
-      }
-
-  message-set : (s : State W) (t : State T) (cell : ℕ) (a : W .Msg) (b : T .Msg) → StateR s t → F .Means (s .stores .memory) a b
-      → StateR (setMessage W s cell a) (setMessage T t cell b)
-  unfolding setMessage
-  message-set s t cell a b r m = go (ltb cell namedCells)
+  message-related {s} {t} cell st = go (ltb cell namedCells)
     where
       go : (named : Bool)
-          → StateR (cond named (withStores W s (setRaw W (s .stores) cell a)) (withScratch W s (cell - namedCells) a))
-          (cond named (withStores T t (setRaw T (t .stores) cell b)) (withScratch T t (cell - namedCells) b))
-      go true = raw-set s t cell a b r m
-      go false = scratch-set s t (cell - namedCells) a b r m
+          → CellR (MessageR s) (cond named (s .stores .ρ cell) (s .scratches (cell - namedCells)))
+          (cond named (t .stores .ρ cell) (t .scratches (cell - namedCells)))
+      go true = st .raws cell
+      go false = st .scratchCells (cell - namedCells)
 
-  messages-set : (s : State W) (t : State T) (first n : ℕ) (g : ℕ → W .Msg) (h : ℕ → T .Msg) → StateR s t
-      → ((i : ℕ) → i < n → F .Means (s .stores .memory) (g i) (h i)) → StateR (setMessages W s first n g) (setMessages T t first n h)
-  unfolding setMessages
-  messages-set s t first zero g h r m = r
-  messages-set s t first (suc n) g h r m =
-      message-set _ _ (first + n) (g n) (h n) (messages-set s t first n g h r λ i l. m i (omega arith)) (rw (memory-kept W s first n g) (m n (omega arith)))
+  messages-related : (place : ℕ) {s : State W} {t : State T} (first n : ℕ) → StateR s t
+      → OutcomeR (λ ms ns. EachR (MessageR s) ms ns × (length ns ≡ n)) (messages W place s first n) (messages T place t first n)
+  unfolding messages
+  messages-related place first zero st = dones (nil, refl)
+  messages-related place first (suc n) st =
+      bind-related (need-related place (message-related first st)) λ a b m.
+      bind-related (messages-related place (suc first) n st) λ ls ns ms. dones (cons m (ms .0), ap suc (ms .1))
 
 module _ {W T : World} (F : Reading W T) (L : Refines F) (kind : ℕ → ℕ) where
-  -- a made message, to the accumulator or to an object cell
-  accumulator-made : (place : ℕ) (s : State W) (t : State T) (o : Op (W .Msg)) (o′ : Op (T .Msg)) → StateR F kind s t
-      → OpR (F .Means (s .stores .memory)) (F .kind) o o′ → OutcomeR (StateR F kind) (makeAccumulator W kind place s o) (makeAccumulator T kind place t o′)
-  accumulator-made place s t o o′ r m =
-      bind-related _ _ (at-related place (L .applies _ _ o o′ (r .good) m)) λ a b made.
-      dones (accumulated F kind _ _ (a .0) (b .0) (grown F kind s t (a .1) (b .1) r (made .good) (made .kept)) (made .means))
+  abbrev States : State W → State T → Type 0
+  States = StateR F kind
 
-  object-made : (place : ℕ) (s : State W) (t : State T) (v : ℕ) (o : Op (W .Msg)) (o′ : Op (T .Msg)) → StateR F kind s t
-      → OpR (F .Means (s .stores .memory)) (F .kind) o o′ → ((k : ℕ) → Makes o′ k → k ≡ kind v)
-      → OutcomeR (StateR F kind) (makeObject W kind place s v o) (makeObject T kind place t v o′)
-  object-made place s t v o o′ r m right =
-      bind-related _ _ (at-related place (L .applies _ _ o o′ (r .good) m)) λ a b made.
-      dones (object-set F kind _ _ v (a .0) (b .0) (grown F kind s t (a .1) (b .1) r (made .good) (made .kept)) (made .means, right _ (made .kind)))
+  -- a made message goes to the accumulator, or to an object cell
+  module _ (place : ℕ) {s : State W} {t : State T} (st : States s t) where
+    accumulator-made : {o : Op (W .Msg)} {o′ : Op (T .Msg)} → OpR (F .Means (s .stores .memory)) (F .kind) o o′
+        → OutcomeR States (makeAccumulator W kind place s o) (makeAccumulator T kind place t o′)
+    accumulator-made m =
+        bind-related (at-related place (L .applies (st .good) m)) λ a b made.
+        dones (accumulator-set F kind (grown F kind st (made .good) (made .kept)) (made .means))
 
-  step-related : (place : ℕ) (i : Instruction) (s : State W) (t : State T) → Fits kind i → StateR F kind s t → OutcomeR (StateR F kind) (step W kind place i s) (step T kind place i t)
-  step-related place (Load r) s t fits st = bind-related _ _ (need-related place (message-related F kind s t (r .0) st)) λ a b m. dones (accumulated F kind s t a b st m)
-  step-related place (Store r) s t fits st = bind-related _ _ (need-related place (st .accumulators)) λ a b m. dones (message-set F kind s t (r .0) a b st m)
-  step-related place (StoreConst c b) s t fits st = object-made place s t (c .0) _ _ st (byteR (fits .1)) λ k e. e ∙ sym (fits .0)
-  step-related place (Decode v) s t fits st =
-      bind-related _ _ (need-related place (st .accumulators)) λ a b m.
-      bind-related _ _ (at-related place (L .tests _ _ _ _ (st .good) (isR m))) λ _ _ e. dones (object-set F kind s t (v .0) a b st (m, e))
-  step-related place (Encode v) s t fits st = bind-related _ _ (need-related place (st .objects (v .0))) λ a b m. dones (accumulated F kind s t a b st (m .0))
-  step-related place (Create v) s t fits st = object-made place s t (v .0) _ _ st (createR fits) λ k e. e
-  step-related place (AnalyzeTuple u b n) s t fits st =
-      bind-related _ _ (need-related place (st .objects (u .0))) λ a c m.
-      bind-related _ _ (at-related place (L .takes _ _ a c n (st .good) (m .0))) λ g h ms. dones (messages-set F kind s t (b .0) n g h st ms)
-  step-related place (CreateTuple u b n) s t fits st =
-      bind-related _ _ (messages-related F kind place s t (b .0) n st) λ ms ns rs.
-      object-made place s t (u .0) _ _ st (tupleR (rw (rs .1) (fits .1)) (rs .0)) λ k e. e ∙ sym (fits .0)
-  step-related place (Opposite K k) s t fits st =
-      bind-related _ _ (need-related place (st .objects (K .0))) λ a b m. object-made place s t (k .0) _ _ st (opR (m .0)) λ k e. e ∙ sym fits
-  step-related place KeyOf s t fits st = bind-related _ _ (need-related place (st .accumulators)) λ a b m. accumulator-made place s t _ _ st (keyOfR m)
-  step-related place (Match r) s t fits st =
-      bind-related _ _ (need-related place (st .accumulators)) λ a b m.
-      bind-related _ _ (need-related place (message-related F kind s t (r .0) st)) λ c d n.
-      bind-related _ _ (at-related place (L .tests _ _ _ _ (st .good) (sameR m n))) λ _ _ _. dones st
-  step-related place (Encrypt v) s t fits st =
-      bind-related _ _ (need-related place (st .objects (v .0))) λ k l m.
-      bind-related _ _ (need-related place (st .accumulators)) λ a b n. accumulator-made place s t _ _ st (encryptR (rw (m .1) fits) (m .0) n)
-  step-related place (Decrypt v) s t fits st =
-      bind-related _ _ (need-related place (st .objects (v .0))) λ k l m.
-      bind-related _ _ (need-related place (st .accumulators)) λ a b n. accumulator-made place s t _ _ st (decryptR (m .0) n)
-  step-related place (Sign v) s t fits st =
-      bind-related _ _ (need-related place (st .objects (v .0))) λ k l m.
-      bind-related _ _ (need-related place (st .accumulators)) λ a b n. accumulator-made place s t _ _ st (signR (rw (m .1) fits) (m .0) n)
-  step-related place (Verify v r) s t fits st =
-      bind-related _ _ (need-related place (st .objects (v .0))) λ k l m.
-      bind-related _ _ (need-related place (message-related F kind s t (r .0) st)) λ a b n.
-      bind-related _ _ (need-related place (st .accumulators)) λ c d o.
-      bind-related _ _ (at-related place (L .tests _ _ _ _ (st .good) (verifyR (m .0) n o))) λ _ _ _. dones st
-  step-related place (Hash h) s t fits st = bind-related _ _ (need-related place (st .accumulators)) λ a b m. accumulator-made place s t _ _ st (hashR m)
+    object-made : (v : ℕ) {o : Op (W .Msg)} {o′ : Op (T .Msg)} → OpR (F .Means (s .stores .memory)) (F .kind) o o′
+        → ((k : ℕ) → Makes o′ k → k ≡ kind v) → OutcomeR States (makeObject W kind place s v o) (makeObject T kind place t v o′)
+    object-made v m right =
+        bind-related (at-related place (L .applies (st .good) m)) λ a b made.
+        dones (object-set F kind (grown F kind st (made .good) (made .kept)) v (made .means, right _ (made .kind)))
+
+    step-related : (i : Instruction) → Fits kind i → OutcomeR States (step W kind place i s) (step T kind place i t)
+    step-related (Load r) fits = bind-related (need-related place (message-related F kind (r .0) st)) λ a b m. dones (accumulator-set F kind st m)
+    step-related (Store r) fits = bind-related (need-related place (st .accumulators)) λ a b m. dones (message-set F kind st (r .0) m)
+    step-related (StoreConst c b) fits = object-made (c .0) (byteR (fits .1)) λ k e. e ∙ sym (fits .0)
+    step-related (Decode v) fits =
+        bind-related (need-related place (st .accumulators)) λ a b m.
+        bind-related (at-related place (L .tests (st .good) (isR m))) λ _ _ e. dones (object-set F kind st (v .0) (m, e))
+    step-related (Encode v) fits = bind-related (need-related place (st .objects (v .0))) λ a b m. dones (accumulator-set F kind st (m .0))
+    step-related (Create v) fits = object-made (v .0) (createR fits) λ k e. e
+    step-related (AnalyzeTuple u b n) fits =
+        bind-related (need-related place (st .objects (u .0))) λ a c m.
+        bind-related (at-related place (L .takes n (st .good) (m .0))) λ g h ms. dones (messages-set F kind (b .0) n st ms)
+    step-related (CreateTuple u b n) fits =
+        bind-related (messages-related F kind place (b .0) n st) λ ms ns rs.
+        object-made (u .0) (tupleR (rw (rs .1) (fits .1)) (rs .0)) λ k e. e ∙ sym (fits .0)
+    step-related (Opposite K k) fits =
+        bind-related (need-related place (st .objects (K .0))) λ a b m. object-made (k .0) (opR (m .0)) λ k e. e ∙ sym fits
+    step-related KeyOf fits = bind-related (need-related place (st .accumulators)) λ a b m. accumulator-made (keyOfR m)
+    step-related (Match r) fits =
+        bind-related (need-related place (st .accumulators)) λ a b m. bind-related (need-related place (message-related F kind (r .0) st)) λ c d n.
+        bind-related (at-related place (L .tests (st .good) (sameR m n))) λ _ _ _. dones st
+    step-related (Encrypt v) fits =
+        bind-related (need-related place (st .objects (v .0))) λ k l m.
+        bind-related (need-related place (st .accumulators)) λ a b n. accumulator-made (encryptR (rw (m .1) fits) (m .0) n)
+    step-related (Decrypt v) fits =
+        bind-related (need-related place (st .objects (v .0))) λ k l m.
+        bind-related (need-related place (st .accumulators)) λ a b n. accumulator-made (decryptR (m .0) n)
+    step-related (Sign v) fits =
+        bind-related (need-related place (st .objects (v .0))) λ k l m.
+        bind-related (need-related place (st .accumulators)) λ a b n. accumulator-made (signR (rw (m .1) fits) (m .0) n)
+    step-related (Verify v r) fits =
+        bind-related (need-related place (st .objects (v .0))) λ k l m. bind-related (need-related place (message-related F kind (r .0) st)) λ a b n.
+        bind-related (need-related place (st .accumulators)) λ c d o.
+        bind-related (at-related place (L .tests (st .good) (verifyR (m .0) n o))) λ _ _ _. dones st
+    step-related (Hash h) fits = bind-related (need-related place (st .accumulators)) λ a b m. accumulator-made (hashR m)
 
   -- the same code on both
-  pub exec-related : (code : List Line) (s : State W) (t : State T) → All (λ l. Fits kind (l .instruction)) code → StateR F kind s t
+  pub exec-related : (code : List Line) {s : State W} {t : State T} → All (λ l. Fits kind (l .instruction)) code → StateR F kind s t
       → OutcomeR (StateR F kind) (exec W kind code s) (exec T kind code t)
-  exec-related [] s t fits r = dones r
-  exec-related (l ∷ code) s t fits r =
-      bind-related _ _ (step-related (l .place) (l .instruction) s t (fits .0) r) λ s′ t′ r′. exec-related code s′ t′ (fits .1) r′
+  exec-related [] fits st = dones st
+  exec-related (l ∷ code) fits st =
+      bind-related (step-related (l .place) st (l .instruction) (fits .0)) λ s t next. exec-related code (fits .1) next

@@ -1,5 +1,6 @@
 -- Two things related part by part: lists, cells, answers, outcomes and shapes.
 use mathlib.Core.Path.{_≡_, refl, ap}
+use mathlib.Core.Logic.{_≢_}
 use mathlib.Core.Option.{Option, none, some}
 use mathlib.Core.List.{List, [], _∷_}
 use Prim.Native.Nat.{ℕ, zero, suc, _<_}
@@ -29,6 +30,11 @@ module _ {A B : Type 0} (R : A → B → Type 0) where
     stucks : {place why : ℕ} → OutcomeR (stuck place why) (stuck place why)
     rooms : {place : ℕ} {outcome : Outcome B} → OutcomeR (room place) outcome
 
+  -- the same end on both sides
+  pub data SameEnd : Outcome A → Outcome B → Type 0 where
+    both-done : {a : A} {b : B} → R a b → SameEnd (done a) (done b)
+    both-stuck : {place why : ℕ} → SameEnd (stuck place why) (stuck place why)
+
   -- the same head over related parts
   pub data ShapeR : Shape A → Shape B → Type 0 where
     atomR : {tag number : ℕ} → ShapeR (atom tag number) (atom tag number)
@@ -55,6 +61,11 @@ module _ {A B : Type 0} {R : A → B → Type 0} where
   at-related place (gots r) = dones r
   at-related place nots = stucks
   at-related place fulls = rooms
+
+  pub same-end : {outcome : Outcome A} {other : Outcome B} → OutcomeR R outcome other → ((place : ℕ) → outcome ≢ room place) → SameEnd R outcome other
+  same-end (dones r) space = both-done r
+  same-end stucks space = both-stuck
+  same-end (rooms {place = place}) space = absurd (space place refl)
 
   pub same-kind : {shape : Shape A} {other : Shape B} → ShapeR R shape other → kindOf shape ≡ kindOf other
   same-kind atomR = refl
@@ -99,8 +110,8 @@ module _ {A B : Type 0} {R Q : A → B → Type 0} (f : (a : A) (b : B) → R a 
 
 -- one part of a run after another
 module _ {A B C D : Type 0} {R : A → B → Type 0} {Q : C → D → Type 0} where
-  pub bind-related : {outcome : Outcome A} {other : Outcome B} (f : A → Outcome C) (g : B → Outcome D)
-      → OutcomeR R outcome other → ((a : A) (b : B) → R a b → OutcomeR Q (f a) (g b)) → OutcomeR Q (bind outcome f) (bind other g)
-  bind-related f g (dones r) next = next _ _ r
-  bind-related f g stucks next = stucks
-  bind-related f g rooms next = rooms
+  pub bind-related : {outcome : Outcome A} {other : Outcome B} {f : A → Outcome C} {g : B → Outcome D} → OutcomeR R outcome other
+      → ((a : A) (b : B) → R a b → OutcomeR Q (f a) (g b)) → OutcomeR Q (bind outcome f) (bind other g)
+  bind-related (dones r) next = next _ _ r
+  bind-related stucks next = stucks
+  bind-related rooms next = rooms

@@ -28,7 +28,7 @@ use Rattle.theory.specs.TermModel as Term
 use Rattle.theory.proofs.Related.{EachR, nil, cons, CellR, unset, AnswerR, gots, fulls, ShapeR, atomR, encryptedR, signedR, hashedR, tupledR, each-length, same-kind, shape-map}
 use Rattle.theory.proofs.Related as Related
 use Rattle.theory.proofs.Refinement.{Reading, Kept, Made}
-use Rattle.theory.proofs.ModelRefinement.{Makeable, ModelRefines}
+use Rattle.theory.proofs.ModelRefinement.{Makeable, Fresh, ModelRefines}
 use Rattle.theory.proofs.ValidMemory.{ValidMemory, used-inside, row-small, name-taken, row-kept, row-added}
 use Rattle.theory.proofs.Meaning.{reshaped, meaning, shape-term, meaning-of, shape-related, meaning-once, meaning-kept, related-reshaped}
 
@@ -84,7 +84,8 @@ module _ {x : Table} (v : ValidMemory x) where
       (go (eqb (agentOf word) row) (certified-means rest (pairs .1) row t m))
     where
       go : (b : Bool) → CellR (Means x) (certified rest row) (certifiedTerm rows rest t)
-          → CellR (Means x) (elim b [ true ↦ some (keyOf word) | false ↦ certified rest row ]) (cond b (some (meaning rows (keyOf word))) (certifiedTerm rows rest t))
+          → CellR (Means x) (elim b [ true ↦ some (keyOf word) | false ↦ certified rest row ])
+          (cond b (some (meaning rows (keyOf word))) (certifiedTerm rows rest t))
       go true later = Related.set (pairs .0 .key .0, refl)
       go false later = later
 
@@ -125,18 +126,24 @@ module _ {x : Table} (v : ValidMemory x) where
   -- the row of a shape means the shape's term
   row-means : (row : ℕ) {s : Shape ℕ} {u : Shape Term} → row < used → shapeOf (getD rows row 0) ≡ s → ShapeR (Means x) s u → Means x row (termOf u)
   row-means row l e m =
-      (l, meaning-of (v .table) row (is-used row l) ∙ ap (λ s. termOf (reshaped (meaning rows) s)) e ∙ ap termOf (related-reshaped (Means x) (meaning rows) (λ a t n. n .1) m))
+      let parts = related-reshaped (Means x) (meaning rows) (λ a t n. n .1) m in
+      (l, meaning-of (v .table) row (is-used row l) ∙ ap (λ s. termOf (reshaped (meaning rows) s)) e ∙ ap termOf parts)
 
   -- rows that are kept keep their meanings, and so do the certificates
   module _ (others : List ℕ) (same : (row : ℕ) → row < used → getD others row 0 ≡ getD rows row 0) where
     means-kept : (row : ℕ) → row < used → meaning others row ≡ meaning rows row
     means-kept row l = meaning-kept (v .table) others (λ row h. same row (omega arith)) row (is-used row l)
 
-    certified-kept : (certificates : List ℕ) → All (GoodPair rows used) certificates → (t : Term) → certifiedTerm others certificates t ≡ certifiedTerm rows certificates t
+    certified-kept : (certificates : List ℕ) → All (GoodPair rows used) certificates → (t : Term)
+        → certifiedTerm others certificates t ≡ certifiedTerm rows certificates t
     unfolding certifiedTerm
     certified-kept [] pairs t = refl
     certified-kept (word ∷ rest) pairs t =
         rw (means-kept (agentOf word) (pairs .0 .agent .0), means-kept (keyOf word) (pairs .0 .key .0), certified-kept rest (pairs .1) t)
+
+-- a name is taken on both sides
+abbrev FreshR : Table → ℕ × Table → ℕ × Names → Type 0
+FreshR x = Fresh rowModel termModel rowsRead (λ c n. n < c .counter) x
 
 -- what is made means the same on both sides
 module _ {x : Table} (v : ValidMemory x) where
@@ -177,18 +184,14 @@ module _ {x : Table} (v : ValidMemory x) where
         located-as rows used (wordOf s) (used-inside v) (λ l. AnswerR MadeR (placed x l) (got (termOf u, namesOf x))) (λ row l e. gots (present row l e))
         (λ absent free. gots (added absent free)) (λ absent past. fulls)
 
-  -- a name is taken on both sides
-  abbrev FreshR : ℕ × Table → ℕ × Names → Type 0
-  FreshR r q = (r .0 ≡ q .0) × (ValidMemory (r .1) × (q .1 ≡ namesOf (r .1))) × Kept rowsRead x (r .1) × (q .0 < q .1 .counter)
-
-  fresh-name : AnswerR FreshR (name counter (withCounter x)) (name counter (Term.withCounter (namesOf x)))
+  fresh-name : AnswerR (FreshR x) (name counter (withCounter x)) (name counter (Term.withCounter (namesOf x)))
   fresh-name = go (ltb counter mostNames) (is-below counter mostNames .0)
     where
-      taken : counter < mostNames → FreshR (counter, withCounter x (suc counter)) (counter, Term.withCounter (namesOf x) (suc counter))
-      taken below = (refl, (name-taken v below, refl), λ a t m. m, omega arith)
+      taken : counter < mostNames → FreshR x (counter, withCounter x (suc counter)) (counter, Term.withCounter (namesOf x) (suc counter))
+      taken below = record { same = refl; good = (name-taken v below, refl); kept = λ a t m. m; taken = omega arith }
 
       go : (b : Bool) → (T b → counter < mostNames)
-          → AnswerR FreshR (cond b (got (counter, withCounter x (suc counter))) full) (cond b (got (counter, Term.withCounter (namesOf x) (suc counter))) full)
+          → AnswerR (FreshR x) (cond b (got (counter, withCounter x (suc counter))) full) (cond b (got (counter, Term.withCounter (namesOf x) (suc counter))) full)
       go true below = gots (taken (below tt))
       go false below = fulls
 
@@ -196,10 +199,10 @@ pub rows-are-terms : ModelRefines rowModel termModel rowsRead
 rows-are-terms = record {
   Named = λ c n. n < c .counter;
   kinds = λ t c. refl;
-  looks = λ x c row t good m. looked (good .0) row t m;
-  makes = λ x c s u good m makes. rw (good .1) (made (good .0) m (rw (good .1) at makes));
-  freshes = λ x c good. rw (good .1) (fresh-name (good .0));
-  named = λ x c row t good m private. rw (good .1) (named-means (good .0) row t m private);
-  certificates = λ x c row t good m. rw (good .1) (certified-means (good .0) (x .certificates) (good .0 .certificates .pairs) row t m);
-  equals = λ x c row other t u good m n. equal-means (good .0) row other t u m n;
+  looks = λ good m. looked (good .0) _ _ m;
+  makes = λ good m makes. rw (good .1) (made (good .0) m (rw (good .1) at makes));
+  freshes = λ good. rw (good .1) (fresh-name (good .0));
+  named = λ good m private. rw (good .1) (named-means (good .0) _ _ m private);
+  certificates = λ good m. rw (good .1) (certified-means (good .0) _ (good .0 .certificates .pairs) _ _ m);
+  equals = λ good m n. equal-means (good .0) _ _ _ _ m n;
 }

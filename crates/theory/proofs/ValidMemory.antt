@@ -9,8 +9,6 @@ use Rattle.terms.specs.Rules.{usedRows}
 use Rattle.terms.proofs.TableLaws.{GoodRow, ValidTable, used-rows, used-added, valid-added, valid-raised}
 use Rattle.stores.proofs.CertificateLaws.{ValidCertificates, certificates-kept}
 use Rattle.theory.specs.RowModel.{Table, withRows, withCounter, mostNames}
-use Rattle.theory.specs.TermModel as Term
-use Rattle.theory.proofs.Related as Related
 
 -- a table that run accepts: rows, counter and certificates
 pub record ValidMemory (x : Table) : Type 0 where

@@ -82,6 +82,9 @@ pub record Corners : Type 0 where
       (after
       (word 2 0 0 0 ∷ word 3 66 0 0 ∷ word 9 1 66 1 ∷ word 6 1 0 0 ∷ word 3 64 0 0 ∷ word 2 1 0 0 ∷ word 3 65 0 0 ∷ word 9 0 64 2
       ∷ word 6 0 0 0 ∷ []))
+  -- a matched hash ends in its MATCH
+  pub hash-matched : compile false (row (7 ∷ 1 ∷ 0 ∷ 0 ∷ 0 ∷ 0 ∷ []) ∷ []) (kinds (0 ∷ 9 ∷ [])) (cells []) (cells (0 ∷ [])) slice
+      ≡ leaves (Done 5) (after (word 5 1 0 0 ∷ word 3 64 0 0 ∷ word 2 0 0 0 ∷ word 17 1 0 0 ∷ word 12 64 0 0 ∷ []))
   -- a child named twice by one row, and by two rows; a row that nobody names
   pub child-twice : compile false (objectRow 0 ∷ tupleRow 1 (0 ∷ 0 ∷ []) ∷ []) (kinds (2 ∷ 10 ∷ [])) (cells []) (cells []) slice ≡ leaves (BadPattern 1) slice
   pub child-taken : compile false (objectRow 0 ∷ tupleRow 1 (0 ∷ []) ∷ tupleRow 1 (1 ∷ 0 ∷ []) ∷ []) (kinds (2 ∷ 10 ∷ [])) (cells []) (cells []) slice ≡ leaves (BadPattern 2) slice

@@ -1,6 +1,9 @@
--- Laws of packed fields and of tests.
-pub mod All
+-- Laws of words in memory, of packed fields, and of tests over lists.
+pub mod ByteLaws
 pub mod FieldLaws
+pub mod All
 pub mod TestLaws
 pub mod LowestLaws
 pub mod ScanLaws
+pub mod SearchLaws
+pub mod OneOfLaws

@@ -39,7 +39,10 @@ one-at (k ∷ rest) (suc i) l = either (eqb k (getD rest i 0)) (oneOf rest (getD
 
 -- one of several numbers stands at some place
 pub one-of : (all : List ℕ) (n : ℕ) → T (oneOf all n) ↔ ((i : ℕ) × (i < length all) × (getD all i 0 ≡ n))
-one-of all n = (one-all (λ k. (i : ℕ) × (i < length all) × (getD all i 0 ≡ k)) all n (at-all _ all 0 λ i l. (i, l, refl)), λ h. rw (← (h .2)) (one-at all (h .0) (h .1)))
+one-of all n = (
+  one-all (λ k. (i : ℕ) × (i < length all) × (getD all i 0 ≡ k)) all n (at-all _ all 0 λ i l. (i, l, refl)),
+  λ h. rw (← (h .2)) (one-at all (h .0) (h .1)),
+)
 
 pub one-of-two : (a b n : ℕ) → T (oneOf (a ∷ b ∷ []) n) ↔ ((n ≡ a) ⊎ (n ≡ b))
 one-of-two a b n = (

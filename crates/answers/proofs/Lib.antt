@@ -1,0 +1,2 @@
+-- The laws of the numbers that come back.
+pub mod NumberLaws

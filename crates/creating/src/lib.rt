@@ -1,0 +1,1 @@
+// Figure 6: the code that creates a message.

@@ -1,0 +1,226 @@
+-- The rules of a row, a way out of the code at a time.
+use Prim.Native.Nat.{ℕ, suc, _+_, _<_, _≤_}
+use mathlib.Core.Path.{_≡_, refl, sym, _∙_, ap}
+use mathlib.Core.Bool.{Bool, true, false, not, _&&_, _||_}
+use mathlib.Core.Option.{Option, none, some}
+use mathlib.Core.List.{List, [], _∷_}
+use native.Mathlib.Decide.{ℕ-discrete}
+use native.Mathlib.Omega.{arith}
+use lib.ListN.{length, getD, take}
+use lib.Seq.{length-take-le, take-all}
+use lib.Dec.{eqb, leb, ltb}
+use borrow.Author.Tests.{eq-eqb, ne-eqb, le-leb, lt-leb, lt-ltb, le-ltb}
+use Rattle.word.specs.Fields.{at}
+use Rattle.word.specs.Lowest.{oneOf, lowestFrom, placeOf}
+use Rattle.word.specs.declared.Place.{Place}
+use Rattle.word.specs.declared.Place.the-variants.{At, Nowhere}
+use Rattle.terms.specs.declared.Checked.the-variants.{Bad, Used}
+use Rattle.terms.specs.Shape.{Shape, atom, encrypted, signed, hashed, tupled, partsOf}
+use Rattle.terms.specs.Row.{wordOf, tagOf, shapeOf}
+use Rattle.terms.specs.Finder.{equalRow}
+use Rattle.terms.specs.Rules.{knownTag, unusedZero, numberFits, partsBelow, keyFits, earlierEqual, usedRows, fits, badRow, badTerm, checkedBy, checked}
+use Rattle.terms.proofs.ShapeLaws.{field, slotsOf, numberOf, Plain, shape-encrypted, shape-signed, shape-hashed, shape-tupled, shape-atom, by-tag, parts-taken, parts-at}
+use Rattle.terms.proofs.ScanLaws.{placed-at, placed-nowhere, Passed, passed-hit, passed-miss, passed-end, Held, held-stop, held-more, held-end}
+
+-- a flag that goes through `&&`: the next rule was looked at, or the flag was false already
+pub and-more : {flag all next rule : Bool} → flag ≡ all → flag ≡ true → next ≡ rule → next ≡ all && rule
+and-more {all = all} {rule = rule} is e q = rw (sym is ∙ e) q
+
+pub and-kept : {flag all next : Bool} (rule : Bool) → flag ≡ all → flag ≡ false → next ≡ flag → next ≡ all && rule
+and-kept {all = all} rule is e q = rw (sym is ∙ e) (q ∙ e)
+
+pub known-low : (word tag : ℕ) → tag ≡ tagOf word → tag < 1 → leb 1 tag ≡ knownTag word
+unfolding knownTag
+known-low word tag is low = rw (← is, lt-leb 1 tag low)
+
+pub known-high : (word tag : ℕ) → tag ≡ tagOf word → 1 ≤ tag → leb tag 10 ≡ knownTag word
+unfolding knownTag
+known-high word tag is high = rw (← is, le-leb 1 tag high)
+
+pub ruleset known-ways = (known-low, known-high)
+
+module _ (word tag : ℕ) (is : tag ≡ tagOf word) where
+  pub slots-encrypted : tag ≡ 7 → 2 ≡ length (partsOf (shapeOf word))
+  slots-encrypted e = rw (shape-encrypted word (sym is ∙ e))
+
+  pub slots-signed : tag ≡ 8 → 2 ≡ length (partsOf (shapeOf word))
+  slots-signed e = rw (shape-signed word (sym is ∙ e))
+
+  pub slots-hashed : tag ≡ 9 → 1 ≡ length (partsOf (shapeOf word))
+  slots-hashed e = rw (shape-hashed word (sym is ∙ e))
+
+  pub slots-tupled : (n : ℕ) → tag ≡ 10 → n ≡ field 1 word → n < 4 → n ≡ length (partsOf (shapeOf word))
+  slots-tupled n e count h = rw (shape-tupled word (sym is ∙ e), ← count, length-take-le n (slotsOf word) (omega arith))
+
+  pub slots-full : (n : ℕ) → tag ≡ 10 → n ≡ field 1 word → 4 ≤ n → 4 ≡ length (partsOf (shapeOf word))
+  slots-full n e count h = rw (shape-tupled word (sym is ∙ e), ← count, take-all n (slotsOf word) h)
+
+  pub slots-atom : (tag ≡ 7 → ⊥) → (tag ≡ 8 → ⊥) → (tag ≡ 9 → ⊥) → (tag ≡ 10 → ⊥) → 0 ≡ length (partsOf (shapeOf word))
+  slots-atom a b c d = rw (shape-atom word (λ low high. omega arith))
+
+pub ruleset slots-ways = (slots-encrypted, slots-signed, slots-hashed, slots-tupled, slots-full, slots-atom, arith)
+
+-- the word that was made of a row's fields is compared with the row
+module _ (word : ℕ) where
+  unused : (made : ℕ) (shape : Shape ℕ) → shapeOf word ≡ shape → made ≡ wordOf shape → eqb made word ≡ unusedZero word
+  unfolding unusedZero
+  unused made shape e q = rw (e, q)
+
+module _ (word tag : ℕ) (is : tag ≡ tagOf word) where
+  pub unused-encrypted : (key body made : ℕ) → tag ≡ 7 → key ≡ field 3 word → body ≡ field 4 word
+      → made ≡ wordOf (encrypted key body) → eqb made word ≡ unusedZero word
+  unused-encrypted key body made e k b q = unused word made _ (shape-encrypted word (sym is ∙ e)) (rw (k, b) at q)
+
+  pub unused-signed : (key body made : ℕ) → tag ≡ 8 → key ≡ field 3 word → body ≡ field 4 word
+      → made ≡ wordOf (signed key body) → eqb made word ≡ unusedZero word
+  unused-signed key body made e k b q = unused word made _ (shape-signed word (sym is ∙ e)) (rw (k, b) at q)
+
+  pub unused-hashed : (body made : ℕ) → tag ≡ 9 → body ≡ field 3 word → made ≡ wordOf (hashed body) → eqb made word ≡ unusedZero word
+  unused-hashed body made e b q = unused word made _ (shape-hashed word (sym is ∙ e)) (rw b at q)
+
+  pub unused-tupled : (slots : List ℕ) (n made : ℕ) → tag ≡ 10 → slots ≡ slotsOf word → n ≡ length (partsOf (shapeOf word))
+      → made ≡ wordOf (tupled (take n slots)) → eqb made word ≡ unusedZero word
+  unused-tupled slots n made e s k q =
+      let shape = shape-tupled word (sym is ∙ e) in
+      let parts : take n slots ≡ partsOf (shapeOf word) = rw (s, k) (sym (parts-taken word)) in
+      unused word made (tupled (partsOf (shapeOf word))) (shape ∙ ap (λ (s : Shape ℕ). tupled (partsOf s)) (sym shape)) (rw parts at q)
+
+  pub unused-atom : (number made : ℕ) → (tag ≡ 7 → ⊥) → (tag ≡ 8 → ⊥) → (tag ≡ 9 → ⊥) → (tag ≡ 10 → ⊥)
+      → number ≡ numberOf word → made ≡ wordOf (atom tag number) → eqb made word ≡ unusedZero word
+  unused-atom number made a b c d n q = unused word made _ (shape-atom word (λ low high. omega arith)) (rw (is, n) at q)
+
+pub ruleset unused-ways = (unused-encrypted, unused-signed, unused-hashed, unused-tupled, unused-atom)
+
+-- the rule of a number
+module _ (word tag : ℕ) (is : tag ≡ tagOf word) (counter : ℕ) where
+  pub number-byte : (number : ℕ) → tag ≡ 1 → number ≡ numberOf word → ltb number 256 ≡ numberFits counter (shapeOf word)
+  unfolding numberFits
+  number-byte number e n = rw (shape-atom word (λ low high. omega arith), n, ← is, e)
+
+  pub number-agent : tag ≡ 3 → true ≡ numberFits counter (shapeOf word)
+  unfolding numberFits
+  number-agent e = rw (shape-atom word (λ low high. omega arith), ← is, e)
+
+  pub number-none : 7 ≤ tag → tag < 11 → true ≡ numberFits counter (shapeOf word)
+  unfolding numberFits
+  number-none low high =
+      by-tag word (λ (shape : Shape ℕ). true ≡ numberFits counter shape) (λ e. refl) (λ e. refl) (λ e. refl) (λ e. refl)
+      (λ plain. absurd (plain (omega arith) (omega arith)))
+
+  pub number-name : (number : ℕ) → (tag ≡ 1 → ⊥) → (tag ≡ 3 → ⊥) → Plain tag → number ≡ numberOf word
+      → ltb number counter ≡ numberFits counter (shapeOf word)
+  unfolding numberFits
+  number-name number a b plain n =
+      rw (shape-atom word (λ low high. plain (omega arith) (omega arith)), n, ← is, ne-eqb tag 1 a, ne-eqb tag 3 b)
+
+pub ruleset number-ways = (number-byte, number-agent, number-none)
+
+-- the rule of the parts: a loop over the slots
+abbrev pub Below : ℕ → ℕ → ℕ → Type 0
+Below row word slot = Held (λ part. ltb part row) (partsOf (shapeOf word)) slot
+
+module _ (row word slot part : ℕ) (inside : slot < length (partsOf (shapeOf word)))
+    (below : Below row word slot) (is : part ≡ field (3 + slot) word) where
+  pub below-stop : row ≤ part → false ≡ partsBelow row (shapeOf word)
+  unfolding partsBelow
+  below-stop h = sym (held-stop (λ part. ltb part row) (partsOf (shapeOf word)) slot inside below (rw (parts-at word slot inside, ← is, le-ltb part row h)))
+
+  pub below-more : part < row → Below row word (slot + 1)
+  below-more h = held-more (λ part. ltb part row) (partsOf (shapeOf word)) slot inside below (rw (parts-at word slot inside, ← is, lt-ltb part row h))
+
+pub below-end : (row word slot : ℕ) → length (partsOf (shapeOf word)) ≤ slot → Below row word slot → true ≡ partsBelow row (shapeOf word)
+unfolding partsBelow
+below-end row word slot h below = sym (held-end _ _ slot h below)
+
+-- the rule of a key
+module _ (rows : List ℕ) (word tag : ℕ) (is : tag ≡ tagOf word) where
+  pub key-encrypted : (key : ℕ) (fit : Bool) → tag ≡ 7 → key ≡ field 3 word → fit ≡ oneOf (4 ∷ 6 ∷ []) (tagOf (getD rows key 0))
+      → fit ≡ keyFits rows (shapeOf word)
+  unfolding keyFits
+  key-encrypted key fit e k f = rw (shape-encrypted word (sym is ∙ e), ← k) f
+
+  pub key-signed : (key : ℕ) (fit : Bool) → tag ≡ 8 → key ≡ field 3 word → fit ≡ oneOf (5 ∷ 6 ∷ []) (tagOf (getD rows key 0))
+      → fit ≡ keyFits rows (shapeOf word)
+  unfolding keyFits
+  key-signed key fit e k f = rw (shape-signed word (sym is ∙ e), ← k) f
+
+  pub key-none : (tag ≡ 7 → ⊥) → (tag ≡ 8 → ⊥) → true ≡ keyFits rows (shapeOf word)
+  unfolding keyFits
+  key-none a b =
+      by-tag word (λ (shape : Shape ℕ). true ≡ keyFits rows shape) (λ e. absurd (a (is ∙ e))) (λ e. absurd (b (is ∙ e)))
+      (λ e. refl) (λ e. refl) (λ plain. refl)
+
+pub ruleset key-ways = (key-encrypted, key-signed, key-none)
+
+-- one of two kinds
+module _ (rows : List ℕ) (key word tag kind : ℕ) (row : word ≡ getD rows key 0) (is : tag ≡ tagOf word) where
+  whose : tag ≡ tagOf (getD rows key 0)
+  whose = is ∙ ap tagOf row
+
+  pub kind-first : tag ≡ kind → eqb tag kind ≡ oneOf (kind ∷ 6 ∷ []) (tagOf (getD rows key 0))
+  unfolding oneOf
+  kind-first e = rw (← whose, eq-eqb tag kind e, eq-eqb kind tag (sym e))
+
+  pub kind-second : (tag ≡ kind → ⊥) → eqb tag 6 ≡ oneOf (kind ∷ 6 ∷ []) (tagOf (getD rows key 0))
+  unfolding oneOf
+  kind-second e = rw (← whose, ne-eqb kind tag (λ q. e (sym q))) (go (ℕ-discrete tag 6))
+    where
+      go : Dec (tag ≡ 6) → eqb tag 6 ≡ eqb 6 tag || false
+      go (yes q) = rw (eq-eqb tag 6 q, eq-eqb 6 tag (sym q))
+      go (no q) = rw (ne-eqb tag 6 q, ne-eqb 6 tag (λ p. q (sym p)))
+
+pub ruleset kind-ways = (kind-first, kind-second)
+
+-- the rule of equal rows
+module _ (word : ℕ) where
+  abbrev there : Option ℕ → Bool
+  there none = false
+  there (some place) = true
+
+  one-of-step : (from : ℕ) (hit rest : Bool) (answer : Option ℕ) → rest ≡ there answer
+      → hit || rest ≡ there (elim hit [ true ↦ some from | false ↦ answer ])
+  one-of-step from true rest answer e = refl
+  one-of-step from false rest answer e = e
+
+  one-of-lowest : (from : ℕ) (rows : List ℕ) → oneOf rows word ≡ there (lowestFrom from (λ row other. eqb other word) rows)
+  unfolding oneOf lowestFrom
+  one-of-lowest from [] = refl
+  one-of-lowest from (other ∷ rows) = one-of-step from (eqb other word) (oneOf rows word) _ (one-of-lowest (suc from) rows)
+
+  pub earlier-there : (rows : List ℕ) (row first : ℕ) (place : Place) → place ≡ placeOf (equalRow rows row word) → place ≡ At first
+      → true ≡ earlierEqual rows row word
+  unfolding earlierEqual equalRow
+  earlier-there rows row first place is e = rw (one-of-lowest 0 (take row rows), placed-at (equalRow rows row word) is e)
+
+  pub earlier-nowhere : (rows : List ℕ) (row : ℕ) (place : Place) → place ≡ placeOf (equalRow rows row word) → place ≡ Nowhere
+      → false ≡ earlierEqual rows row word
+  unfolding earlierEqual equalRow
+  earlier-nowhere rows row place is e = rw (one-of-lowest 0 (take row rows), placed-nowhere (equalRow rows row word) is e)
+
+pub ruleset earlier-ways = (earlier-there, earlier-nowhere)
+
+-- a bad row
+module _ (rows : List ℕ) (counter used row : ℕ) (is : used ≡ usedRows rows) where
+  pub bad-used : (fit : Bool) → row < used → fit ≡ fits rows counter row (getD rows row 0) → not fit ≡ badRow rows counter row (getD rows row 0)
+  unfolding badRow
+  bad-used fit h e = rw (← is, lt-ltb row used h, ← e)
+
+  pub bad-unused : used ≤ row → not (eqb (getD rows row 0) 0) ≡ badRow rows counter row (getD rows row 0)
+  unfolding badRow
+  bad-unused h = rw (← is, le-ltb row used h)
+
+pub ruleset bad-ways = (bad-used, bad-unused)
+
+-- the check of a table: a loop over its rows
+module _ (rows : List ℕ) (counter row : ℕ) (passed : Passed (badRow rows counter) rows row) where
+  module _ (bad : Bool) (is : bad ≡ badRow rows counter row (getD rows row 0)) (inside : row < length rows) where
+    pub checked-bad : bad ≡ true → Bad row ≡ checked rows counter
+    unfolding badTerm
+    checked-bad e = ap (λ (answer : Option ℕ). checkedBy answer rows) (sym (passed-hit (badRow rows counter) rows row inside passed (sym is ∙ e)))
+
+    pub checked-more : bad ≡ false → Passed (badRow rows counter) rows (row + 1)
+    checked-more e = passed-miss (badRow rows counter) rows row inside passed (sym is ∙ e)
+
+  pub checked-good : (used : ℕ) → used ≡ usedRows rows → length rows ≤ row → Used used ≡ checked rows counter
+  unfolding badTerm
+  checked-good used is h = ap Used is ∙ ap (λ (answer : Option ℕ). checkedBy answer rows) (sym (passed-end (badRow rows counter) rows row h passed))

@@ -1,0 +1,182 @@
+// The rules of a term table: refusal 2.
+ghost use mathlib.Core.Path.{_≡_};
+ghost use mathlib.Core.List.{[], _∷_};
+ghost use Prim.Native.Nat.{_≤_, _<_};
+ghost use lib.ListN.{length, getD, drop};
+ghost use Rattle.word.specs.Fields.{split};
+ghost use Rattle.word.specs.Lowest.{oneOf};
+ghost use Rattle.terms.specs.Shape.{partsOf};
+ghost use Rattle.terms.specs.Row.{rowWidths, tagOf, shapeOf};
+ghost use Rattle.terms.specs.Rules.{usedRows, knownTag, unusedZero, numberFits, partsBelow, keyFits, earlierEqual, fits, badRow, checked};
+use super::Checked;
+use super::finder::equal_row;
+use super::row::atom_word;
+use super::row::encrypted_word;
+use super::row::hashed_word;
+use super::row::number;
+use super::row::part;
+use super::row::part_count;
+use super::row::row_at;
+use super::row::signed_word;
+use super::row::tag;
+use super::row::tuple_word;
+use word::Place;
+
+// The used rows are those before the first zero row.
+pub fn used_rows(rows: &[u64]) -> usize
+    ensures { λ r. ⌜ r ≡ usedRows (now (rows .entry)) ⌝ }
+{
+    let mut i: usize = 0;
+    while i < rows.len() {
+        if rows[i] == 0 {
+            return i;
+        }
+        i += 1;
+    }
+    i
+}
+
+fn known_tag(word: u64) -> bool
+    ensures { λ r. ⌜ r ≡ knownTag word ⌝ }
+{
+    let t = tag(word);
+    1 <= t && t <= 10
+}
+
+// How many of its four slots a row uses, the key counted.
+fn used_slots(word: u64) -> usize
+    ensures { λ r. ⌜ (r ≡ length (partsOf (shapeOf word))) × (r ≤ 4) ⌝ }
+{
+    let t = tag(word);
+    match t {
+        7 => 2,
+        8 => 2,
+        9 => 1,
+        10 => {
+            let n = part_count(word);
+            if n < 4 { n as usize } else { 4 }
+        }
+        _ => 0,
+    }
+}
+
+// The four slots of parts, used or not.
+fn slots(word: u64) -> [u16; 4]
+    ensures { λ r. ⌜ r ≡ drop 3 (split rowWidths word) ⌝ }
+{
+    [part(word, 0), part(word, 1), part(word, 2), part(word, 3)]
+}
+
+// A row is the word of its shape.
+fn unused_zero(word: u64) -> bool
+    ensures { λ r. ⌜ r ≡ unusedZero word ⌝ }
+{
+    let t = tag(word);
+    match t {
+        7 => encrypted_word(part(word, 0), part(word, 1)) == word,
+        8 => signed_word(part(word, 0), part(word, 1)) == word,
+        9 => hashed_word(part(word, 0)) == word,
+        10 => tuple_word(slots(word), used_slots(word)) == word,
+        _ => atom_word(t, number(word)) == word,
+    }
+}
+
+// A byte is at most 255; nonces and keys are below the name counter; agents are any.
+fn number_fits(word: u64, counter: u32) -> bool
+    ensures { λ r. ⌜ r ≡ numberFits counter (shapeOf word) ⌝ }
+{
+    let t = tag(word);
+    match t {
+        1 => number(word) < 256,
+        3 | 7 | 8 | 9 | 10 => true,
+        _ => number(word) < counter as u64,
+    }
+}
+
+// Parts have smaller row numbers than their owner.
+fn parts_below(word: u64, row: usize) -> bool
+    ensures { λ r. ⌜ r ≡ partsBelow row (shapeOf word) ⌝ }
+{
+    let n = used_slots(word);
+    let mut slot: usize = 0;
+    while slot < n {
+        let other = part(word, slot) as usize;
+        if row <= other {
+            return false;
+        }
+        slot += 1;
+    }
+    true
+}
+
+// A key has one kind, or is a shared key.
+fn key_is(rows: &[u64], key: u16, kind: u64) -> bool
+    ensures { λ r. ⌜ r ≡ oneOf (kind ∷ 6 ∷ []) (tagOf (getD (now (rows .entry)) key 0)) ⌝ }
+{
+    let t = tag(row_at(rows, key));
+    t == kind || t == 6
+}
+
+// What encrypts is a public or a shared key, what signs a private or a shared one.
+fn key_fits(rows: &[u64], word: u64) -> bool
+    ensures { λ r. ⌜ r ≡ keyFits (now (rows .entry)) (shapeOf word) ⌝ }
+{
+    let t = tag(word);
+    match t {
+        7 => key_is(rows, part(word, 0), 4),
+        8 => key_is(rows, part(word, 0), 5),
+        _ => true,
+    }
+}
+
+// Of two equal rows the later is the bad one.
+fn earlier_equal(rows: &[u64], row: usize, word: u64) -> bool
+    requires { ⌜ (row ≤ length (now rows)) × (length (now rows) ≤ 4096) ⌝ }
+    ensures { λ r. ⌜ r ≡ earlierEqual (now (rows .entry)) row word ⌝ }
+{
+    let place = equal_row(rows, row, word);
+    match place {
+        Place::At(_) => true,
+        Place::Nowhere => false,
+    }
+}
+
+pub fn row_fits(rows: &[u64], counter: u32, row: usize) -> bool
+    requires { ⌜ (row < length (now rows)) × (length (now rows) ≤ 4096) ⌝ }
+    ensures { λ r. ⌜ r ≡ fits (now (rows .entry)) counter row (getD (now (rows .entry)) row 0) ⌝ }
+{
+    let word = rows[row];
+    known_tag(word)
+        && unused_zero(word)
+        && number_fits(word, counter)
+        && parts_below(word, row)
+        && key_fits(rows, word)
+        && !earlier_equal(rows, row, word)
+}
+
+// A used row is bad where it breaks a rule, any other where it is not zero.
+fn bad_row(rows: &[u64], counter: u32, used: usize, row: usize) -> bool
+    requires { ⌜ (used ≡ usedRows (now rows)) × ((row < length (now rows)) × (length (now rows) ≤ 4096)) ⌝ }
+    ensures { λ r. ⌜ r ≡ badRow (now (rows .entry)) counter row (getD (now (rows .entry)) row 0) ⌝ }
+{
+    if row < used {
+        !row_fits(rows, counter, row)
+    } else {
+        rows[row] != 0
+    }
+}
+
+pub fn first_bad_row(rows: &[u64], counter: u32) -> Checked
+    requires { ⌜ length (now rows) ≤ 4096 ⌝ }
+    ensures { λ r. ⌜ r ≡ checked (now (rows .entry)) counter ⌝ }
+{
+    let used = used_rows(rows);
+    let mut row: usize = 0;
+    while row < rows.len() {
+        if bad_row(rows, counter, used, row) {
+            return Checked::Bad(row as u32);
+        }
+        row += 1;
+    }
+    Checked::Used(used as u32)
+}

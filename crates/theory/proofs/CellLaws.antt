@@ -1,0 +1,83 @@
+-- Message cells by their numbers: named below 64, scratch from there on.
+use Prim.Native.Nat.{ℕ, zero, suc, _+_, _<_}
+use mathlib.Core.Path.{_≡_, refl}
+use mathlib.Core.Bool.{true, false}
+use mathlib.Core.Option.{some}
+use mathlib.Core.List.{List, _∷_}
+use native.Mathlib.Nat.{add-assoc, add-suc, add-sub-cancel-left}
+use native.Mathlib.Omega.{arith}
+use borrow.Author.Tests.{lt-ltb, le-ltb}
+use lib.Dec.{ltb}
+use Rattle.theory.specs.Outcome.{done}
+use Rattle.theory.specs.Store.{put, puts}
+use Rattle.theory.specs.World.{World}
+use Rattle.theory.specs.Machine.{namedCells, State, setRaw, withStores, withScratch, message, setMessage, setMessages, messages}
+use Rattle.theory.specs.Emission.{Env, readable, occupied, addRaw}
+
+named-cell : (r : ℕ) → r < namedCells → ltb r namedCells ≡ true
+named-cell r below = lt-ltb r namedCells below
+
+scratch-cell : (i : ℕ) → ltb (namedCells + i) namedCells ≡ false
+scratch-cell i = le-ltb (namedCells + i) namedCells (omega arith)
+
+module _ (W : World) (s : State W) where
+  pub message-named : (r : ℕ) → r < namedCells → message W s r ≡ s .stores .ρ r
+  unfolding message
+  message-named r below = rw (named-cell r below)
+
+  pub message-scratch : (i : ℕ) → message W s (namedCells + i) ≡ s .scratches i
+  unfolding message
+  message-scratch i = rw (scratch-cell i, add-sub-cancel-left namedCells i)
+
+  pub setMessage-named : (r : ℕ) (m : W .Msg) → r < namedCells → setMessage W s r m ≡ withStores W s (setRaw W (s .stores) r m)
+  unfolding setMessage
+  setMessage-named r m below = rw (named-cell r below)
+
+  pub setMessage-scratch : (i : ℕ) (m : W .Msg) → setMessage W s (namedCells + i) m ≡ withScratch W s i m
+  unfolding setMessage
+  setMessage-scratch i m = rw (scratch-cell i, add-sub-cancel-left namedCells i)
+
+module _ (W : World) (s : State W) where
+  -- the n scratch cells from b on
+  abbrev pub withScratches : ℕ → ℕ → (ℕ → W .Msg) → State W
+  withScratches b n g =
+      record { accumulator = s .accumulator; scratches = puts (s .scratches) b n (λ i. some (g i)); stores = s .stores }
+
+  pub setMessages-scratch : (b n : ℕ) (g : ℕ → W .Msg) → setMessages W s (namedCells + b) n g ≡ withScratches b n g
+  unfolding setMessages puts
+  setMessages-scratch b zero g = refl
+  setMessages-scratch b (suc n) g = rw (add-assoc, setMessages-scratch b n g) (setMessage-scratch W _ (b + n) (g n))
+
+  pub messages-scratch : (place b n : ℕ) (m : W .Msg) (ms : List (W .Msg)) → s .scratches b ≡ some m
+      → messages W place s (namedCells + suc b) n ≡ done ms → messages W place s (namedCells + b) (suc n) ≡ done (m ∷ ms)
+  unfolding messages
+  messages-scratch place b n m ms p q = rw (message-scratch W s b, p, ← add-suc namedCells b, q)
+
+module _ (e : Env) where
+  pub readable-named : (r : ℕ) → r < namedCells → readable e r ≡ e .raws r
+  unfolding readable
+  readable-named r below = rw (named-cell r below)
+
+  pub readable-scratch : (i : ℕ) → readable e (namedCells + i) ≡ true
+  unfolding readable
+  readable-scratch i = rw (scratch-cell i)
+
+  pub occupied-named : (r : ℕ) → r < namedCells → occupied e r ≡ e .raws r
+  unfolding occupied
+  occupied-named r below = rw (named-cell r below)
+
+  pub occupied-scratch : (i : ℕ) → occupied e (namedCells + i) ≡ false
+  unfolding occupied
+  occupied-scratch i = rw (scratch-cell i)
+
+  -- the environment after a named cell is written
+  abbrev pub withRaw : ℕ → Env
+  withRaw r = record { objects = e .objects; raws = put (e .raws) r true; next = e .next }
+
+  pub addRaw-named : (r : ℕ) → r < namedCells → addRaw e r ≡ withRaw r
+  unfolding addRaw
+  addRaw-named r below = rw (named-cell r below)
+
+  pub addRaw-scratch : (i : ℕ) → addRaw e (namedCells + i) ≡ e
+  unfolding addRaw
+  addRaw-scratch i = rw (scratch-cell i)

@@ -1,0 +1,122 @@
+-- After a finished run the stores and the table pass run's checks again.
+use mathlib.Core.Path.{_≡_, refl, sym, _∙_, ap, subst}
+use mathlib.Core.Logic.{Iff·rfl}
+use mathlib.Core.Option.{Option, none, some}
+use mathlib.Core.List.{List, [], _∷_, _++_}
+use Prim.Native.Nat.{ℕ, zero, suc, _+_, _<_, _≤_}
+use native.Mathlib.Nat.{zero-add, add-zero, add-suc, suc-add}
+use native.Mathlib.Omega.{arith}
+use borrow.Author.Tests.{ne-eqb}
+use lib.Dec.{T, eqb}
+use lib.ListN.{length, getD, length-append}
+use Rattle.word.specs.Lowest.{each}
+use Rattle.word.proofs.All.{All}
+use Rattle.word.proofs.LowestLaws.{each-all}
+use Rattle.terms.specs.Row.{tagOf}
+use Rattle.terms.specs.Rules.{usedRows}
+use Rattle.terms.proofs.TableLaws.{ValidTable, valid-table}
+use Rattle.stores.specs.Cells.{unset, held, cellOf, cellsFrom}
+use Rattle.stores.specs.Valid.{cellFits, objectFits, eachVariable}
+use Rattle.stores.proofs.CertificateLaws.{ValidCertificates, valid-certificates}
+use Rattle.theory.specs.RowModel.{Table, rowWorld}
+use Rattle.theory.specs.Machine.{State, namedCells, scratchCells}
+use Rattle.theory.specs.Compile.{kindIn, variables}
+use Rattle.theory.specs.Run.{Lent, stateOver, stateOf}
+use Rattle.theory.proofs.ValidMemory.{ValidMemory, used-inside}
+use Rattle.theory.proofs.RowsRunAsTerms.{Held, IsUsed, HasTag, ValidState}
+use Rattle.theory.proofs.RowsKept.{Appended}
+use Rattle.theory.proofs.ValidLent.{Accepted, cell-held, object-held, each-variable, stores-parts, tagged}
+
+-- the cells of a store
+pub length-cells : (n count : ℕ) (store : ℕ → Option ℕ) → length (cellsFrom n count store) ≡ count
+unfolding cellsFrom
+length-cells n zero store = refl
+length-cells n (suc count) store = ap suc (length-cells (suc n) count store)
+
+getD-cells : (n count : ℕ) (store : ℕ → Option ℕ) (i : ℕ) → i < count → getD (cellsFrom n count store) i unset ≡ cellOf (store (n + i))
+unfolding cellsFrom
+getD-cells n zero store i h = absurd (omega arith)
+getD-cells n (suc count) store zero h = rw (add-zero n)
+getD-cells n (suc count) store (suc i) h = getD-cells (suc n) count store i (omega arith) ∙ rw (add-suc n i, suc-add n i)
+
+-- a row below 65,535 in a cell is held there
+held-cell : (P : ℕ → Type 0) → ((row : ℕ) → P row → row < unset) → (cell : Option ℕ) → Held P cell → Held P (held (cellOf cell))
+unfolding held cellOf
+held-cell P small none h = tt
+held-cell P small (some row) h = rw (ne-eqb row 65535 (λ e. omega (arith, small row h))) h
+
+module _ (used : ℕ) (few : used ≤ 4096) where
+  fits-cell : (cell : Option ℕ) → Held (λ row. row < used) cell → T (cellFits used (cellOf cell))
+  fits-cell cell h = cell-held used (cellOf cell) .1 (held-cell (λ row. row < used) (λ row l. omega arith) cell h)
+
+  all-fit : (n count : ℕ) (store : ℕ → Option ℕ) → ((i : ℕ) → Held (λ row. row < used) (store i)) → All (λ cell. T (cellFits used cell)) (cellsFrom n count store)
+  unfolding cellsFrom
+  all-fit n zero store h = tt
+  all-fit n (suc count) store h = (fits-cell (store n) (h n), all-fit (suc n) count store h)
+
+all-append : {A : Type 0} (P : A → Type 0) (l m : List A) → All P l → All P m → All P (l ++ m)
+all-append P [] m h g = g
+all-append P (a ∷ l) m h g = (h .0, all-append P l m (h .1) g)
+
+-- what is lent after a finished run
+abbrev pub lentAfter : Lent → State rowWorld → Lent
+lentAfter x t = record {
+  kinds = x .kinds;
+  objects = cellsFrom 0 variables (t .stores .σ);
+  messages = cellsFrom 0 namedCells (t .stores .ρ) ++ cellsFrom 0 scratchCells (t .scratches);
+  certificates = x .certificates;
+  accumulator = cellOf (t .accumulator);
+  terms = t .stores .memory .rows;
+  counter = t .stores .memory .counter;
+}
+
+module _ (x : Lent) (a : Accepted x) (t : State rowWorld) (v : ValidState (kindIn (x .kinds)) t) (g : Appended (stateOf x .stores .memory) (t .stores .memory)) where
+  abbrev rows : List ℕ
+  rows = t .stores .memory .rows
+
+  abbrev used : ℕ
+  used = usedRows rows
+
+  few : used ≤ 4096
+  few = let h = used-inside (v .table) in let e = v .table .counted in omega (arith, v .table .rowsFew)
+
+  -- the used rows are those before the first zero row
+  counts : (cell : Option ℕ) → Held (IsUsed (t .stores .memory)) cell → Held (λ row. row < used) cell
+  counts cell h = subst (λ n. Held (λ row. row < n) cell) (v .table .counted) h
+
+  tags : (kind : ℕ) (cell : Option ℕ) → Held (HasTag (t .stores .memory) kind) cell → Held (λ row. (row < used) × (tagOf (getD rows row 0) ≡ kind)) cell
+  tags kind cell h = subst (λ n. Held (λ row. (row < n) × (tagOf (getD rows row 0) ≡ kind)) cell) (v .table .counted) h
+
+  objects-fit : T (eachVariable (objectFits rows used) (x .kinds) (cellsFrom 0 variables (t .stores .σ)))
+  objects-fit =
+      each-variable (objectFits rows used) (x .kinds) (cellsFrom 0 variables (t .stores .σ)) (a .kinds-length ∙ sym (length-cells 0 variables (t .stores .σ))) .1 λ o h.
+      let inside : o < variables = omega (arith, length-cells 0 variables (t .stores .σ)) in
+      rw (getD-cells 0 variables (t .stores .σ) o inside, zero-add o)
+      (object-held rows used (kindIn (x .kinds) o) (cellOf (t .stores .σ o)) (tagged (v .table .table)) .1
+      (held-cell (λ row. (row < used) × (tagOf (getD rows row 0) ≡ kindIn (x .kinds) o)) (λ row p. omega (arith, p .0, few)) (t .stores .σ o) (tags (kindIn (x .kinds) o) (t .stores .σ o) (v .objects o))))
+
+  messages-fit : T (each (cellFits used) (cellsFrom 0 namedCells (t .stores .ρ) ++ cellsFrom 0 scratchCells (t .scratches)))
+  messages-fit =
+      each-all (cellFits used) (λ cell. T (cellFits used cell)) (λ cell. Iff·rfl) _ .1
+      (all-append (λ cell. T (cellFits used cell)) (cellsFrom 0 namedCells (t .stores .ρ)) (cellsFrom 0 scratchCells (t .scratches))
+      (all-fit used few 0 namedCells (t .stores .ρ) λ i. counts (t .stores .ρ i) (v .raws i))
+      (all-fit used few 0 scratchCells (t .scratches) λ i. counts (t .scratches i) (v .scratches i)))
+
+  certificates-fit : ValidCertificates rows used (x .certificates)
+  unfolding stateOver
+  certificates-fit = subst (λ c. ValidCertificates rows used c) (g .certificates) (subst (λ n. ValidCertificates rows n (t .stores .memory .certificates)) (v .table .counted) (v .table .certificates))
+
+  pub accepted-again : Accepted (lentAfter x t)
+  accepted-again =
+      let ((kinds, _, _), _, _) = stores-parts (x .terms) (usedRows (x .terms)) (x .kinds) (x .objects) (x .messages) (x .certificates) (x .accumulator) .0 (a .good-stores) in
+      record {
+        kinds-length = a .kinds-length;
+        objects-length = length-cells 0 variables (t .stores .σ);
+        messages-length = length-append (cellsFrom 0 namedCells (t .stores .ρ)) (cellsFrom 0 scratchCells (t .scratches)) ∙ rw (length-cells 0 namedCells (t .stores .ρ), length-cells 0 scratchCells (t .scratches));
+        few-certificates = a .few-certificates;
+        few-rows = v .table .rowsFew;
+        few-names = v .table .namesFew;
+        good-rows = valid-table rows (t .stores .memory .counter) .1 (v .table .table);
+        good-stores = stores-parts rows used (x .kinds) (cellsFrom 0 variables (t .stores .σ)) (cellsFrom 0 namedCells (t .stores .ρ) ++ cellsFrom 0 scratchCells (t .scratches)) (x .certificates) (cellOf (t .accumulator)) .1
+            ((kinds, objects-fit, messages-fit), valid-certificates rows used (x .certificates) .1 certificates-fit, fits-cell used few (t .accumulator) (counts (t .accumulator) (v .accumulator)));
+      }
