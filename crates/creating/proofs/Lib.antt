@@ -3,3 +3,5 @@ pub mod RoomLaws
 pub mod KeyLaws
 pub mod FormLaws
 pub mod LeafLaws
+pub mod ChildLaws
+pub mod PartLaws

@@ -8,10 +8,12 @@ use code::Raw;
 use emission::Code;
 use emission::Emission;
 use emission::emit;
+use emission::scratch;
+use emission::take;
 ghost use mathlib.Core.Path.{_≡_};
 ghost use Rattle.patterns.specs.Row.{fieldsOf};
-ghost use Rattle.emission.specs.Budget.{RowAt};
-ghost use Rattle.creating.specs.Creates.{Creates, Leaf};
+ghost use Rattle.emission.specs.Budget.{Row, RowAt};
+ghost use Rattle.creating.specs.Creates.{Creates, Leaf, PartsAt, CreatesParts};
 
 // s : S(key, r)
 fn create_signature(
@@ -76,4 +78,131 @@ fn create_leaf(
         6 => create_signature(rows, kinds, code, emission, row, word),
         _ => forms::create_hash(code, emission, row, v, patterns::raw(word)),
     }
+}
+
+// The pattern of a row.
+pub fn create_row(rows: &[u64], kinds: &[u8], code: &mut Code, emission: &mut Emission, row: u8)
+    requires { ⌜ Row (now rows) row (now emission) ⌝ }
+    ensures { λ _. ⌜ Creates (now (rows .entry)) (now (kinds .entry)) row (now (emission .entry)) (now (code .entry)) (now (emission .exit)) (now (code .exit)) ⌝ }
+{
+    let word = rows[row as usize];
+    let tag = patterns::tag(word);
+    match tag {
+        5 => create_encryption(rows, kinds, code, emission, row, word),
+        8 => create_tuple(rows, kinds, code, emission, row, word),
+        9 => create_let(rows, kinds, code, emission, row, word),
+        _ => create_leaf(rows, kinds, code, emission, row, word),
+    }
+}
+
+// e : E(key, p)
+fn create_encryption(
+    rows: &[u64],
+    kinds: &[u8],
+    code: &mut Code,
+    emission: &mut Emission,
+    row: u8,
+    word: u64,
+)
+    requires { ⌜ RowAt (now rows) row word (now emission) ⌝ }
+    requires { ⌜ fieldsOf word .tag ≡ 5 ⌝ }
+    ensures { λ _. ⌜ Creates (now (rows .entry)) (now (kinds .entry)) row (now (emission .entry)) (now (code .entry)) (now (emission .exit)) (now (code .exit)) ⌝ }
+{
+    let children = patterns::slots(word);
+    keys::create_key(kinds, code, emission, row, word);
+    create_row(rows, kinds, code, emission, children[0]);
+    emit(
+        code,
+        emission,
+        row,
+        Instruction::Encrypt(Object(patterns::x(word))),
+    );
+    emit(
+        code,
+        emission,
+        row,
+        Instruction::Decode(Object(patterns::variable(word))),
+    );
+}
+
+// t : [p1 .. pn]
+fn create_tuple(
+    rows: &[u64],
+    kinds: &[u8],
+    code: &mut Code,
+    emission: &mut Emission,
+    row: u8,
+    word: u64,
+)
+    requires { ⌜ RowAt (now rows) row word (now emission) ⌝ }
+    requires { ⌜ fieldsOf word .tag ≡ 8 ⌝ }
+    ensures { λ _. ⌜ Creates (now (rows .entry)) (now (kinds .entry)) row (now (emission .entry)) (now (code .entry)) (now (emission .exit)) (now (code .exit)) ⌝ }
+{
+    let t = patterns::variable(word);
+    let n = patterns::count(word);
+    let first = take(emission, n);
+    create_parts(
+        rows,
+        kinds,
+        code,
+        emission,
+        row,
+        patterns::slots(word),
+        n,
+        first,
+        0,
+    );
+    emit(
+        code,
+        emission,
+        row,
+        Instruction::CreateTuple(Object(t), scratch(first), n),
+    );
+    emit(code, emission, row, Instruction::Encode(Object(t)));
+}
+
+// The first n children from the kth on, each into the scratch cell of its number.
+fn create_parts(
+    rows: &[u64],
+    kinds: &[u8],
+    code: &mut Code,
+    emission: &mut Emission,
+    row: u8,
+    children: [u8; 4],
+    n: u8,
+    first: u8,
+    k: u8,
+)
+    requires { ⌜ PartsAt (now rows) row children n first k (now emission) ⌝ }
+    ensures { λ _. ⌜ CreatesParts (now (rows .entry)) (now (kinds .entry)) row children n first k (now (emission .entry)) (now (code .entry)) (now (emission .exit)) (now (code .exit)) ⌝ }
+{
+    if k < n {
+        create_row(rows, kinds, code, emission, children[k as usize]);
+        emit(code, emission, row, Instruction::Store(scratch(first + k)));
+        create_parts(rows, kinds, code, emission, row, children, n, first, k + 1);
+    }
+}
+
+// let r = p1 in p2
+fn create_let(
+    rows: &[u64],
+    kinds: &[u8],
+    code: &mut Code,
+    emission: &mut Emission,
+    row: u8,
+    word: u64,
+)
+    requires { ⌜ RowAt (now rows) row word (now emission) ⌝ }
+    requires { ⌜ fieldsOf word .tag ≡ 9 ⌝ }
+    ensures { λ _. ⌜ Creates (now (rows .entry)) (now (kinds .entry)) row (now (emission .entry)) (now (code .entry)) (now (emission .exit)) (now (code .exit)) ⌝ }
+{
+    let children = patterns::slots(word);
+    create_row(rows, kinds, code, emission, children[0]);
+    emit(
+        code,
+        emission,
+        row,
+        Instruction::Store(Raw(patterns::raw(word))),
+    );
+    create_row(rows, kinds, code, emission, children[1]);
 }
