@@ -1,5 +1,5 @@
 -- A tuple, part by part. Assumes nothing.
-use Prim.Native.Nat.{ℕ, zero, suc, _+_, _-_, _*_, _≤_, _<_, min}
+use Prim.Native.Nat.{ℕ, suc, _+_, _-_, _*_, _≤_, _<_}
 use mathlib.Core.Path.{_≡_, refl, sym, ap, subst, _∙_}
 use mathlib.Core.List.{List, [], _∷_}
 use native.Mathlib.Numerals.{add-one}
@@ -11,12 +11,11 @@ use Rattle.word.proofs.All.{all-at}
 use Rattle.code.specs.Instruction.{asObject}
 use Rattle.code.specs.declared.Raw.{Raw}
 use Rattle.code.specs.declared.Instruction.the-variants.{Store, CreateTuple, Encode}
-use Rattle.patterns.specs.Pattern.{Pattern, tuple, Parts, end, part, count, size, sizes}
+use Rattle.patterns.specs.Pattern.{Pattern, tuple, Parts, part, count, size, sizes}
 use Rattle.patterns.specs.Row.{fieldsOf, childrenOf}
 use Rattle.patterns.specs.Tree.{partsBy}
 use Rattle.patterns.proofs.RowLaws.{slots-four, children-count, child-slot}
 use Rattle.theory.specs.Machine.{scratch}
-use Rattle.theory.specs.Emission as theory
 use Rattle.theory.specs.Emission.{Env, Emitted, emit, _then_}
 use Rattle.theory.specs.Compilers.{CREATE-TUPLE, ENCODE, compile↑parts}
 use Rattle.emission.specs.Steps.{raise}

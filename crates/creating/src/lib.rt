@@ -28,25 +28,13 @@ fn create_signature(
     requires { ⌜ fieldsOf word .tag ≡ 6 ⌝ }
     ensures { λ _. ⌜ Creates (now (rows .entry)) (now (kinds .entry)) row (now (emission .entry)) (now (code .entry)) (now (emission .exit)) (now (code .exit)) ⌝ }
 {
+    let s = patterns::variable(word);
+    let key = patterns::x(word);
+    let r = patterns::raw(word);
     keys::create_key(kinds, code, emission, row, word);
-    emit(
-        code,
-        emission,
-        row,
-        Instruction::Load(Raw(patterns::raw(word))),
-    );
-    emit(
-        code,
-        emission,
-        row,
-        Instruction::Sign(Object(patterns::x(word))),
-    );
-    emit(
-        code,
-        emission,
-        row,
-        Instruction::Decode(Object(patterns::variable(word))),
-    );
+    emit(code, emission, row, Instruction::Load(Raw(r)));
+    emit(code, emission, row, Instruction::Sign(Object(key)));
+    emit(code, emission, row, Instruction::Decode(Object(s)));
 }
 
 // The pattern of a row with no children.
@@ -108,21 +96,13 @@ fn create_encryption(
     requires { ⌜ fieldsOf word .tag ≡ 5 ⌝ }
     ensures { λ _. ⌜ Creates (now (rows .entry)) (now (kinds .entry)) row (now (emission .entry)) (now (code .entry)) (now (emission .exit)) (now (code .exit)) ⌝ }
 {
+    let e = patterns::variable(word);
+    let key = patterns::x(word);
     let children = patterns::slots(word);
     keys::create_key(kinds, code, emission, row, word);
     create_row(rows, kinds, code, emission, children[0]);
-    emit(
-        code,
-        emission,
-        row,
-        Instruction::Encrypt(Object(patterns::x(word))),
-    );
-    emit(
-        code,
-        emission,
-        row,
-        Instruction::Decode(Object(patterns::variable(word))),
-    );
+    emit(code, emission, row, Instruction::Encrypt(Object(key)));
+    emit(code, emission, row, Instruction::Decode(Object(e)));
 }
 
 // t : [p1 .. pn]
@@ -140,23 +120,15 @@ fn create_tuple(
 {
     let t = patterns::variable(word);
     let n = patterns::count(word);
+    let children = patterns::slots(word);
     let first = take(emission, n);
-    create_parts(
-        rows,
-        kinds,
-        code,
-        emission,
-        row,
-        patterns::slots(word),
-        n,
-        first,
-        0,
-    );
+    create_parts(rows, kinds, code, emission, row, children, n, first, 0);
+    let cell = scratch(first);
     emit(
         code,
         emission,
         row,
-        Instruction::CreateTuple(Object(t), scratch(first), n),
+        Instruction::CreateTuple(Object(t), cell, n),
     );
     emit(code, emission, row, Instruction::Encode(Object(t)));
 }
@@ -196,13 +168,9 @@ fn create_let(
     requires { ⌜ fieldsOf word .tag ≡ 9 ⌝ }
     ensures { λ _. ⌜ Creates (now (rows .entry)) (now (kinds .entry)) row (now (emission .entry)) (now (code .entry)) (now (emission .exit)) (now (code .exit)) ⌝ }
 {
+    let r = patterns::raw(word);
     let children = patterns::slots(word);
     create_row(rows, kinds, code, emission, children[0]);
-    emit(
-        code,
-        emission,
-        row,
-        Instruction::Store(Raw(patterns::raw(word))),
-    );
+    emit(code, emission, row, Instruction::Store(Raw(r)));
     create_row(rows, kinds, code, emission, children[1]);
 }

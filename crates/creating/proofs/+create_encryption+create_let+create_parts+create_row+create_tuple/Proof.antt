@@ -113,277 +113,277 @@ create-tuple-below t =
     (falls 4 create-tuple-kinds.ps _<_ μ-create-tuple t)
     create-tuple.Pre
 
-create-encryption-slots-requires : (t : ℕ) → create-encryption-lts.Need-slots-requires (
+create-encryption-variable-requires : (t : ℕ) → create-encryption-lts.Need-variable-requires (
+  variable-reads.Asked,
+  variable-reads.Learnt,
+  x-reads.Asked,
+  x-reads.Learnt,
   slots-reads.Asked,
   slots-reads.Learnt,
   create-key-reads.Asked,
   create-key-reads.Learnt,
   create-row-below t,
   create-row.Post,
-  x-reads.Asked,
-  x-reads.Learnt,
   emit-reads.Asked,
   emit-reads.Learnt,
+) (create-encryption-at t) create-encryption.Post
+create-encryption-variable-requires t c κs = search needs
+
+create-encryption-x-requires : (t : ℕ) → create-encryption-lts.Need-x-requires (
   variable-reads.Asked,
   variable-reads.Learnt,
+  x-reads.Asked,
+  x-reads.Learnt,
+  slots-reads.Asked,
+  slots-reads.Learnt,
+  create-key-reads.Asked,
+  create-key-reads.Learnt,
+  create-row-below t,
+  create-row.Post,
+  emit-reads.Asked,
+  emit-reads.Learnt,
+) (create-encryption-at t) create-encryption.Post
+create-encryption-x-requires t c κs = search needs
+
+create-encryption-slots-requires : (t : ℕ) → create-encryption-lts.Need-slots-requires (
+  variable-reads.Asked,
+  variable-reads.Learnt,
+  x-reads.Asked,
+  x-reads.Learnt,
+  slots-reads.Asked,
+  slots-reads.Learnt,
+  create-key-reads.Asked,
+  create-key-reads.Learnt,
+  create-row-below t,
+  create-row.Post,
+  emit-reads.Asked,
+  emit-reads.Learnt,
 ) (create-encryption-at t) create-encryption.Post
 create-encryption-slots-requires t c κs = search needs
 
 create-encryption-create-key-requires : (t : ℕ) → create-encryption-lts.Need-create-key-requires (
+  variable-reads.Asked,
+  variable-reads.Learnt,
+  x-reads.Asked,
+  x-reads.Learnt,
   slots-reads.Asked,
   slots-reads.Learnt,
   create-key-reads.Asked,
   create-key-reads.Learnt,
   create-row-below t,
   create-row.Post,
-  x-reads.Asked,
-  x-reads.Learnt,
   emit-reads.Asked,
   emit-reads.Learnt,
-  variable-reads.Asked,
-  variable-reads.Learnt,
 ) (create-encryption-at t) create-encryption.Post
 create-encryption-create-key-requires t c κs =
-    let asked = c .before .before .before .before .before .pre .1 in
+    let asked = c .before .before .before .before .before .before .before .pre .1 in
     (encryption-key _ _ _ (asked .0) (asked .1), key-room _ _ _ (asked .0))
 
 create-encryption-array-read-create-row :
     (t : ℕ) → create-encryption-lts.Need-array-read-create-row (
+      variable-reads.Asked,
+      variable-reads.Learnt,
+      x-reads.Asked,
+      x-reads.Learnt,
       slots-reads.Asked,
       slots-reads.Learnt,
       create-key-reads.Asked,
       create-key-reads.Learnt,
       create-row-below t,
       create-row.Post,
-      x-reads.Asked,
-      x-reads.Learnt,
       emit-reads.Asked,
       emit-reads.Learnt,
-      variable-reads.Asked,
-      variable-reads.Learnt,
     ) (create-encryption-at t) create-encryption.Post
 create-encryption-array-read-create-row t c = search needs
 
 create-encryption-create-row-requires : (t : ℕ) → create-encryption-lts.Need-create-row-requires (
+  variable-reads.Asked,
+  variable-reads.Learnt,
+  x-reads.Asked,
+  x-reads.Learnt,
   slots-reads.Asked,
   slots-reads.Learnt,
   create-key-reads.Asked,
   create-key-reads.Learnt,
   create-row-below t,
   create-row.Post,
-  x-reads.Asked,
-  x-reads.Learnt,
   emit-reads.Asked,
   emit-reads.Learnt,
-  variable-reads.Asked,
-  variable-reads.Learnt,
 ) (create-encryption-at t) create-encryption.Post
 create-encryption-create-row-requires t c κs =
-    let asked = c .before .before .before .before .before .before .before .before .pre .1 in
+    let asked = c .before .before .before .before .before .before .before .before .before .before .pre .1 in
     let first = slot _ _ 0 (c .before .before .before .before .before .slots .ensures) in
-    (omega (arith, c .before .before .before .before .before .before .before .before .pre .0, encryption-below _ _ _ (asked .0) (asked .1) _ first), encryption-inside _ _ _ (asked .0) (asked .1) _ first (c .before .before .create-key .ensures))
-
-create-encryption-x-requires : (t : ℕ) → create-encryption-lts.Need-x-requires (
-  slots-reads.Asked,
-  slots-reads.Learnt,
-  create-key-reads.Asked,
-  create-key-reads.Learnt,
-  create-row-below t,
-  create-row.Post,
-  x-reads.Asked,
-  x-reads.Learnt,
-  emit-reads.Asked,
-  emit-reads.Learnt,
-  variable-reads.Asked,
-  variable-reads.Learnt,
-) (create-encryption-at t) create-encryption.Post
-create-encryption-x-requires t c κs = search needs
+    (omega (arith, c .before .before .before .before .before .before .before .before .before .before .pre .0, encryption-below _ _ _ (asked .0) (asked .1) _ first), encryption-inside _ _ _ (asked .0) (asked .1) _ first (c .before .before .create-key .ensures))
 
 create-encryption-emit-requires : (t : ℕ) → create-encryption-lts.Need-emit-requires (
+  variable-reads.Asked,
+  variable-reads.Learnt,
+  x-reads.Asked,
+  x-reads.Learnt,
   slots-reads.Asked,
   slots-reads.Learnt,
   create-key-reads.Asked,
   create-key-reads.Learnt,
   create-row-below t,
   create-row.Post,
-  x-reads.Asked,
-  x-reads.Learnt,
   emit-reads.Asked,
   emit-reads.Learnt,
-  variable-reads.Asked,
-  variable-reads.Learnt,
 ) (create-encryption-at t) create-encryption.Post
 create-encryption-emit-requires t c κs =
-    let asked = c .before .before .before .before .before .before .before .before .before .before .before .before .pre .1 in
-    let first = slot _ _ 0 (c .before .before .before .before .before .before .before .before .before .slots .ensures) in
-    (encrypt-room _ _ _ (asked .0) (asked .1) _ first (c .before .before .before .before .before .before .create-key .ensures) (c .before .before .before .create-row .ensures), tt)
-
-create-encryption-variable-requires : (t : ℕ) → create-encryption-lts.Need-variable-requires (
-  slots-reads.Asked,
-  slots-reads.Learnt,
-  create-key-reads.Asked,
-  create-key-reads.Learnt,
-  create-row-below t,
-  create-row.Post,
-  x-reads.Asked,
-  x-reads.Learnt,
-  emit-reads.Asked,
-  emit-reads.Learnt,
-  variable-reads.Asked,
-  variable-reads.Learnt,
-) (create-encryption-at t) create-encryption.Post
-create-encryption-variable-requires t c κs = search needs
+    let asked = c .before .before .before .before .before .before .before .before .before .before .before .before .before .pre .1 in
+    let first = slot _ _ 0 (c .before .before .before .before .before .before .before .before .slots .ensures) in
+    (encrypt-room _ _ _ (asked .0) (asked .1) _ first (c .before .before .before .before .before .create-key .ensures) (c .before .before .create-row .ensures), tt)
 
 create-encryption-emit-requires-2 : (t : ℕ) → create-encryption-lts.Need-emit-requires-2 (
+  variable-reads.Asked,
+  variable-reads.Learnt,
+  x-reads.Asked,
+  x-reads.Learnt,
   slots-reads.Asked,
   slots-reads.Learnt,
   create-key-reads.Asked,
   create-key-reads.Learnt,
   create-row-below t,
   create-row.Post,
-  x-reads.Asked,
-  x-reads.Learnt,
   emit-reads.Asked,
   emit-reads.Learnt,
-  variable-reads.Asked,
-  variable-reads.Learnt,
 ) (create-encryption-at t) create-encryption.Post
 create-encryption-emit-requires-2 t c κs =
     let asked = c .before .before .before .before .before .before .before .before .before .before .before .before .before .before .before .before .pre .1 in
-    let first = slot _ _ 0 (c .before .before .before .before .before .before .before .before .before .before .before .before .before .slots .ensures) in
-    (seal-room _ _ _ (asked .0) (asked .1) _ first (c .before .before .before .before .before .before .before .before .before .before .create-key .ensures) (c .before .before .before .before .before .before .before .create-row .ensures) (c .before .before .before .emit .ensures), variable-low _ _ (c .variable .ensures))
+    let first = slot _ _ 0 (c .before .before .before .before .before .before .before .before .before .before .before .slots .ensures) in
+    (seal-room _ _ _ (asked .0) (asked .1) _ first (c .before .before .before .before .before .before .before .before .create-key .ensures) (c .before .before .before .before .before .create-row .ensures) (c .before .before .emit .ensures), variable-low _ _ (c .before .before .before .before .before .before .before .before .before .before .before .before .before .variable .ensures))
 
 create-encryption-returns : (t : ℕ) → create-encryption-lts.Need-returns (
+  variable-reads.Asked,
+  variable-reads.Learnt,
+  x-reads.Asked,
+  x-reads.Learnt,
   slots-reads.Asked,
   slots-reads.Learnt,
   create-key-reads.Asked,
   create-key-reads.Learnt,
   create-row-below t,
   create-row.Post,
-  x-reads.Asked,
-  x-reads.Learnt,
   emit-reads.Asked,
   emit-reads.Learnt,
-  variable-reads.Asked,
-  variable-reads.Learnt,
 ) (create-encryption-at t) create-encryption.Post
 create-encryption-returns t c =
     let asked = c .before .before .before .before .before .before .before .before .before .before .before .before .before .before .before .before .before .pre .1 in
-    let first = slot _ _ 0 (c .before .before .before .before .before .before .before .before .before .before .before .before .before .before .slots .ensures) in
-    encryption-done _ _ _ (asked .0) (asked .1) _ first _ _ _ (c .before .variable .ensures) (c .before .before .before .before .before .x .ensures) (c .before .before .before .before .before .before .before .before .before .before .before .create-key .ensures) (c .before .before .before .before .before .before .before .before .create-row .ensures)
-    (c .before .before .before .before .emit .ensures) (c .emit2 .ensures)
+    let first = slot _ _ 0 (c .before .before .before .before .before .before .before .before .before .before .before .before .slots .ensures) in
+    encryption-done _ _ _ (asked .0) (asked .1) _ first _ _ _ (c .before .before .before .before .before .before .before .before .before .before .before .before .before .before .variable .ensures) (c .before .before .before .before .before .before .before .before .before .before .before .before .before .x .ensures) (c .before .before .before .before .before .before .before .before .before .create-key .ensures) (c .before .before .before .before .before .before .create-row .ensures)
+    (c .before .before .before .emit .ensures) (c .emit2 .ensures)
 
-create-let-slots-requires : (t : ℕ) → create-let-lts.Need-slots-requires (
+create-let-raw-requires : (t : ℕ) → create-let-lts.Need-raw-requires (
+  raw-reads.Asked,
+  raw-reads.Learnt,
   slots-reads.Asked,
   slots-reads.Learnt,
   create-row-below t,
   create-row.Post,
+  emit-reads.Asked,
+  emit-reads.Learnt,
+) (create-let-at t) create-let.Post
+create-let-raw-requires t c κs = search needs
+
+create-let-slots-requires : (t : ℕ) → create-let-lts.Need-slots-requires (
   raw-reads.Asked,
   raw-reads.Learnt,
+  slots-reads.Asked,
+  slots-reads.Learnt,
+  create-row-below t,
+  create-row.Post,
   emit-reads.Asked,
   emit-reads.Learnt,
 ) (create-let-at t) create-let.Post
 create-let-slots-requires t c κs = search needs
 
 create-let-array-read-create-row : (t : ℕ) → create-let-lts.Need-array-read-create-row (
+  raw-reads.Asked,
+  raw-reads.Learnt,
   slots-reads.Asked,
   slots-reads.Learnt,
   create-row-below t,
   create-row.Post,
-  raw-reads.Asked,
-  raw-reads.Learnt,
   emit-reads.Asked,
   emit-reads.Learnt,
 ) (create-let-at t) create-let.Post
 create-let-array-read-create-row t c = search needs
 
 create-let-create-row-requires : (t : ℕ) → create-let-lts.Need-create-row-requires (
+  raw-reads.Asked,
+  raw-reads.Learnt,
   slots-reads.Asked,
   slots-reads.Learnt,
   create-row-below t,
   create-row.Post,
-  raw-reads.Asked,
-  raw-reads.Learnt,
   emit-reads.Asked,
   emit-reads.Learnt,
 ) (create-let-at t) create-let.Post
 create-let-create-row-requires t c κs =
-    let asked = c .before .before .before .before .before .pre .1 in
+    let asked = c .before .before .before .before .before .before .pre .1 in
     let first = slot _ _ 0 (c .before .before .slots .ensures) in
     let second = slot _ _ 1 (c .before .before .slots .ensures) in
-    (omega (arith, c .before .before .before .before .before .pre .0, let-below _ _ _ (asked .0) (asked .1) _ first _ second .0), let-first _ _ _ (asked .0) (asked .1) _ first _ second)
-
-create-let-raw-requires : (t : ℕ) → create-let-lts.Need-raw-requires (
-  slots-reads.Asked,
-  slots-reads.Learnt,
-  create-row-below t,
-  create-row.Post,
-  raw-reads.Asked,
-  raw-reads.Learnt,
-  emit-reads.Asked,
-  emit-reads.Learnt,
-) (create-let-at t) create-let.Post
-create-let-raw-requires t c κs = search needs
+    (omega (arith, c .before .before .before .before .before .before .pre .0, let-below _ _ _ (asked .0) (asked .1) _ first _ second .0), let-first _ _ _ (asked .0) (asked .1) _ first _ second)
 
 create-let-emit-requires : (t : ℕ) → create-let-lts.Need-emit-requires (
+  raw-reads.Asked,
+  raw-reads.Learnt,
   slots-reads.Asked,
   slots-reads.Learnt,
   create-row-below t,
   create-row.Post,
-  raw-reads.Asked,
-  raw-reads.Learnt,
   emit-reads.Asked,
   emit-reads.Learnt,
 ) (create-let-at t) create-let.Post
 create-let-emit-requires t c κs =
     let asked = c .before .before .before .before .before .before .before .before .before .pre .1 in
-    let first = slot _ _ 0 (c .before .before .before .before .before .before .slots .ensures) in
-    let second = slot _ _ 1 (c .before .before .before .before .before .before .slots .ensures) in
-    (let-store _ _ _ (asked .0) (asked .1) _ first _ second (c .before .before .before .create-row .ensures), tt)
+    let first = slot _ _ 0 (c .before .before .before .before .before .slots .ensures) in
+    let second = slot _ _ 1 (c .before .before .before .before .before .slots .ensures) in
+    (let-store _ _ _ (asked .0) (asked .1) _ first _ second (c .before .before .create-row .ensures), tt)
 
 create-let-array-read-create-row-2 : (t : ℕ) → create-let-lts.Need-array-read-create-row-2 (
+  raw-reads.Asked,
+  raw-reads.Learnt,
   slots-reads.Asked,
   slots-reads.Learnt,
   create-row-below t,
   create-row.Post,
-  raw-reads.Asked,
-  raw-reads.Learnt,
   emit-reads.Asked,
   emit-reads.Learnt,
 ) (create-let-at t) create-let.Post
 create-let-array-read-create-row-2 t c = search needs
 
 create-let-create-row-requires-2 : (t : ℕ) → create-let-lts.Need-create-row-requires-2 (
+  raw-reads.Asked,
+  raw-reads.Learnt,
   slots-reads.Asked,
   slots-reads.Learnt,
   create-row-below t,
   create-row.Post,
-  raw-reads.Asked,
-  raw-reads.Learnt,
   emit-reads.Asked,
   emit-reads.Learnt,
 ) (create-let-at t) create-let.Post
 create-let-create-row-requires-2 t c κs =
     let asked = c .before .before .before .before .before .before .before .before .before .before .before .before .pre .1 in
-    let first = slot _ _ 0 (c .before .before .before .before .before .before .before .before .before .slots .ensures) in
-    let second = slot _ _ 1 (c .before .before .before .before .before .before .before .before .before .slots .ensures) in
-    (omega (arith, c .before .before .before .before .before .before .before .before .before .before .before .before .pre .0, let-below _ _ _ (asked .0) (asked .1) _ first _ second .1), let-second _ _ _ (asked .0) (asked .1) _ first _ second (c .before .before .before .before .before .before .create-row .ensures) (c .before .before .emit .ensures))
+    let first = slot _ _ 0 (c .before .before .before .before .before .before .before .before .slots .ensures) in
+    let second = slot _ _ 1 (c .before .before .before .before .before .before .before .before .slots .ensures) in
+    (omega (arith, c .before .before .before .before .before .before .before .before .before .before .before .before .pre .0, let-below _ _ _ (asked .0) (asked .1) _ first _ second .1), let-second _ _ _ (asked .0) (asked .1) _ first _ second (c .before .before .before .before .before .create-row .ensures) (c .before .before .emit .ensures))
 
 create-let-returns : (t : ℕ) → create-let-lts.Need-returns (
+  raw-reads.Asked,
+  raw-reads.Learnt,
   slots-reads.Asked,
   slots-reads.Learnt,
   create-row-below t,
   create-row.Post,
-  raw-reads.Asked,
-  raw-reads.Learnt,
   emit-reads.Asked,
   emit-reads.Learnt,
 ) (create-let-at t) create-let.Post
 create-let-returns t c =
     let asked = c .before .before .before .before .before .before .before .before .before .before .before .before .before .pre .1 in
-    let first = slot _ _ 0 (c .before .before .before .before .before .before .before .before .before .before .slots .ensures) in
-    let second = slot _ _ 1 (c .before .before .before .before .before .before .before .before .before .before .slots .ensures) in
-    let-done _ _ _ (asked .0) (asked .1) _ first _ second _ _ (c .before .before .before .before .raw .ensures) (c .before .before .before .before .before .before .before .create-row .ensures) (c .before .before .before .emit .ensures) (c .create-row2 .ensures)
+    let first = slot _ _ 0 (c .before .before .before .before .before .before .before .before .before .slots .ensures) in
+    let second = slot _ _ 1 (c .before .before .before .before .before .before .before .before .before .slots .ensures) in
+    let-done _ _ _ (asked .0) (asked .1) _ first _ second _ _ (c .before .before .before .before .before .before .before .before .before .before .raw .ensures) (c .before .before .before .before .before .before .create-row .ensures) (c .before .before .before .emit .ensures) (c .create-row2 .ensures)
 
 -- there are four children
 parts-four : (t : ℕ) (s : create-parts-lts.Start (
@@ -456,7 +456,7 @@ create-parts-scratch-requires : (t : ℕ) → create-parts-lts.Need-scratch-requ
 create-parts-scratch-requires t c κs =
     let s = c .before .before .before .before .before .before .before .before in
     let less = c .before .before .before .before .before .if1 .taken in
-    part-cell _ _ _ _ _ _ (parts-four t s) (s .pre .1) less
+    omega (arith, part-cell _ _ _ _ _ _ (parts-four t s) (s .pre .1) less)
 
 create-parts-emit-requires : (t : ℕ) → create-parts-lts.Need-emit-requires (
   create-row-below t,
@@ -697,10 +697,10 @@ create-tuple-variable-requires : (t : ℕ) → create-tuple-lts.Need-variable-re
   variable-reads.Learnt,
   count-reads.Asked,
   count-reads.Learnt,
-  take-reads.Asked,
-  take-reads.Learnt,
   slots-reads.Asked,
   slots-reads.Learnt,
+  take-reads.Asked,
+  take-reads.Learnt,
   create-parts-below t,
   create-parts.Post,
   scratch-reads.Asked,
@@ -715,10 +715,10 @@ create-tuple-count-requires : (t : ℕ) → create-tuple-lts.Need-count-requires
   variable-reads.Learnt,
   count-reads.Asked,
   count-reads.Learnt,
-  take-reads.Asked,
-  take-reads.Learnt,
   slots-reads.Asked,
   slots-reads.Learnt,
+  take-reads.Asked,
+  take-reads.Learnt,
   create-parts-below t,
   create-parts.Post,
   scratch-reads.Asked,
@@ -728,35 +728,15 @@ create-tuple-count-requires : (t : ℕ) → create-tuple-lts.Need-count-requires
 ) (create-tuple-at t) create-tuple.Post
 create-tuple-count-requires t c κs = search needs
 
-create-tuple-take-requires : (t : ℕ) → create-tuple-lts.Need-take-requires (
-  variable-reads.Asked,
-  variable-reads.Learnt,
-  count-reads.Asked,
-  count-reads.Learnt,
-  take-reads.Asked,
-  take-reads.Learnt,
-  slots-reads.Asked,
-  slots-reads.Learnt,
-  create-parts-below t,
-  create-parts.Post,
-  scratch-reads.Asked,
-  scratch-reads.Learnt,
-  emit-reads.Asked,
-  emit-reads.Learnt,
-) (create-tuple-at t) create-tuple.Post
-create-tuple-take-requires t c κs =
-    let room = leaf-room _ _ _ _ (c .before .before .before .before .before .pre .1 .0) in
-    (room .long, omega (arith, room .free))
-
 create-tuple-slots-requires : (t : ℕ) → create-tuple-lts.Need-slots-requires (
   variable-reads.Asked,
   variable-reads.Learnt,
   count-reads.Asked,
   count-reads.Learnt,
-  take-reads.Asked,
-  take-reads.Learnt,
   slots-reads.Asked,
   slots-reads.Learnt,
+  take-reads.Asked,
+  take-reads.Learnt,
   create-parts-below t,
   create-parts.Post,
   scratch-reads.Asked,
@@ -766,15 +746,35 @@ create-tuple-slots-requires : (t : ℕ) → create-tuple-lts.Need-slots-requires
 ) (create-tuple-at t) create-tuple.Post
 create-tuple-slots-requires t c κs = search needs
 
+create-tuple-take-requires : (t : ℕ) → create-tuple-lts.Need-take-requires (
+  variable-reads.Asked,
+  variable-reads.Learnt,
+  count-reads.Asked,
+  count-reads.Learnt,
+  slots-reads.Asked,
+  slots-reads.Learnt,
+  take-reads.Asked,
+  take-reads.Learnt,
+  create-parts-below t,
+  create-parts.Post,
+  scratch-reads.Asked,
+  scratch-reads.Learnt,
+  emit-reads.Asked,
+  emit-reads.Learnt,
+) (create-tuple-at t) create-tuple.Post
+create-tuple-take-requires t c κs =
+    let room = leaf-room _ _ _ _ (c .before .before .before .before .before .before .pre .1 .0) in
+    (room .long, omega (arith, room .free))
+
 create-tuple-create-parts-requires : (t : ℕ) → create-tuple-lts.Need-create-parts-requires (
   variable-reads.Asked,
   variable-reads.Learnt,
   count-reads.Asked,
   count-reads.Learnt,
-  take-reads.Asked,
-  take-reads.Learnt,
   slots-reads.Asked,
   slots-reads.Learnt,
+  take-reads.Asked,
+  take-reads.Learnt,
   create-parts-below t,
   create-parts.Post,
   scratch-reads.Asked,
@@ -784,18 +784,18 @@ create-tuple-create-parts-requires : (t : ℕ) → create-tuple-lts.Need-create-
 ) (create-tuple-at t) create-tuple.Post
 create-tuple-create-parts-requires t c κs =
     let asked = c .before .before .before .before .before .before .before .before .before .pre .1 in
-    let taken = c .before .before .before .take .ensures in
-    (omega (arith, c .before .before .before .before .before .before .before .before .before .pre .0), tuple-parts _ _ _ (asked .0) (asked .1) _ (c .before .before .before .before .before .count .ensures) _ (c .slots .ensures) _ (taken .0) (taken .1))
+    let taken = c .before .before .take .ensures in
+    (omega (arith, c .before .before .before .before .before .before .before .before .before .pre .0), tuple-parts _ _ _ (asked .0) (asked .1) _ (c .before .before .before .before .before .count .ensures) _ (c .before .before .before .before .slots .ensures) _ (taken .0) (taken .1))
 
 create-tuple-scratch-requires : (t : ℕ) → create-tuple-lts.Need-scratch-requires (
   variable-reads.Asked,
   variable-reads.Learnt,
   count-reads.Asked,
   count-reads.Learnt,
-  take-reads.Asked,
-  take-reads.Learnt,
   slots-reads.Asked,
   slots-reads.Learnt,
+  take-reads.Asked,
+  take-reads.Learnt,
   create-parts-below t,
   create-parts.Post,
   scratch-reads.Asked,
@@ -803,17 +803,17 @@ create-tuple-scratch-requires : (t : ℕ) → create-tuple-lts.Need-scratch-requ
   emit-reads.Asked,
   emit-reads.Learnt,
 ) (create-tuple-at t) create-tuple.Post
-create-tuple-scratch-requires t c κs = omega (arith, c .before .before .before .before .before .before .take .ensures .0, leaf-room _ _ _ _ (c .before .before .before .before .before .before .before .before .before .before .before .before .pre .1 .0) .free)
+create-tuple-scratch-requires t c κs = omega (arith, c .before .before .before .take .ensures .0, leaf-room _ _ _ _ (c .before .before .before .before .before .before .before .before .before .before .pre .1 .0) .free)
 
 create-tuple-emit-requires : (t : ℕ) → create-tuple-lts.Need-emit-requires (
   variable-reads.Asked,
   variable-reads.Learnt,
   count-reads.Asked,
   count-reads.Learnt,
-  take-reads.Asked,
-  take-reads.Learnt,
   slots-reads.Asked,
   slots-reads.Learnt,
+  take-reads.Asked,
+  take-reads.Learnt,
   create-parts-below t,
   create-parts.Post,
   scratch-reads.Asked,
@@ -823,18 +823,18 @@ create-tuple-emit-requires : (t : ℕ) → create-tuple-lts.Need-emit-requires (
 ) (create-tuple-at t) create-tuple.Post
 create-tuple-emit-requires t c κs =
     let asked = c .before .before .before .before .before .before .before .before .before .before .before .before .before .pre .1 in
-    let taken = c .before .before .before .before .before .before .before .take .ensures in
-    (tuple-create _ _ _ (asked .0) (asked .1) _ (c .before .before .before .before .before .before .before .before .before .count .ensures) _ (c .before .before .before .before .slots .ensures) _ (taken .0) (taken .1) (c .before .before .before .create-parts .ensures), variable-low _ _ (c .before .before .before .before .before .before .before .before .before .before .variable .ensures))
+    let taken = c .before .before .before .before .before .before .take .ensures in
+    (tuple-create _ _ _ (asked .0) (asked .1) _ (c .before .before .before .before .before .before .before .before .before .count .ensures) _ (c .before .before .before .before .before .before .before .before .slots .ensures) _ (taken .0) (taken .1) (c .before .before .before .create-parts .ensures), variable-low _ _ (c .before .before .before .before .before .before .before .before .before .before .variable .ensures))
 
 create-tuple-emit-requires-2 : (t : ℕ) → create-tuple-lts.Need-emit-requires-2 (
   variable-reads.Asked,
   variable-reads.Learnt,
   count-reads.Asked,
   count-reads.Learnt,
-  take-reads.Asked,
-  take-reads.Learnt,
   slots-reads.Asked,
   slots-reads.Learnt,
+  take-reads.Asked,
+  take-reads.Learnt,
   create-parts-below t,
   create-parts.Post,
   scratch-reads.Asked,
@@ -844,18 +844,18 @@ create-tuple-emit-requires-2 : (t : ℕ) → create-tuple-lts.Need-emit-requires
 ) (create-tuple-at t) create-tuple.Post
 create-tuple-emit-requires-2 t c κs =
     let asked = c .before .before .before .before .before .before .before .before .before .before .before .before .before .before .before .before .pre .1 in
-    let taken = c .before .before .before .before .before .before .before .before .before .before .take .ensures in
-    (tuple-encode _ _ _ (asked .0) (asked .1) _ (c .before .before .before .before .before .before .before .before .before .before .before .before .count .ensures) _ (c .before .before .before .before .before .before .before .slots .ensures) _ (taken .0) (taken .1) (c .before .before .before .before .before .before .create-parts .ensures) (c .before .before .emit .ensures), tt)
+    let taken = c .before .before .before .before .before .before .before .before .before .take .ensures in
+    (tuple-encode _ _ _ (asked .0) (asked .1) _ (c .before .before .before .before .before .before .before .before .before .before .before .before .count .ensures) _ (c .before .before .before .before .before .before .before .before .before .before .before .slots .ensures) _ (taken .0) (taken .1) (c .before .before .before .before .before .before .create-parts .ensures) (c .before .before .emit .ensures), tt)
 
 create-tuple-returns : (t : ℕ) → create-tuple-lts.Need-returns (
   variable-reads.Asked,
   variable-reads.Learnt,
   count-reads.Asked,
   count-reads.Learnt,
-  take-reads.Asked,
-  take-reads.Learnt,
   slots-reads.Asked,
   slots-reads.Learnt,
+  take-reads.Asked,
+  take-reads.Learnt,
   create-parts-below t,
   create-parts.Post,
   scratch-reads.Asked,
@@ -865,8 +865,8 @@ create-tuple-returns : (t : ℕ) → create-tuple-lts.Need-returns (
 ) (create-tuple-at t) create-tuple.Post
 create-tuple-returns t c =
     let asked = c .before .before .before .before .before .before .before .before .before .before .before .before .before .before .before .before .before .pre .1 in
-    let taken = c .before .before .before .before .before .before .before .before .before .before .before .take .ensures in
-    tuple-done _ _ _ (asked .0) (asked .1) _ (c .before .before .before .before .before .before .before .before .before .before .before .before .before .count .ensures) _ (c .before .before .before .before .before .before .before .before .slots .ensures) _ (taken .0) (taken .1) _ _ _ (c .before .before .before .before .before .before .before .before .before .before .before .before .before .before .variable .ensures) (c .before .before .before .before .scratch .ensures) (c .before .before .before .before .before .before .before .create-parts .ensures) (c .before .before .before .emit .ensures) (c .emit2 .ensures)
+    let taken = c .before .before .before .before .before .before .before .before .before .before .take .ensures in
+    tuple-done _ _ _ (asked .0) (asked .1) _ (c .before .before .before .before .before .before .before .before .before .before .before .before .before .count .ensures) _ (c .before .before .before .before .before .before .before .before .before .before .before .before .slots .ensures) _ (taken .0) (taken .1) _ _ _ (c .before .before .before .before .before .before .before .before .before .before .before .before .before .before .variable .ensures) (c .before .before .before .before .before .before .scratch .ensures) (c .before .before .before .before .before .before .before .create-parts .ensures) (c .before .before .before .emit .ensures) (c .emit2 .ensures)
 
 pub +create-encryption+create-let+create-parts+create-row+create-tuple-spec :
     {M : Type 1} → statement M
@@ -878,46 +878,46 @@ pub +create-encryption+create-let+create-parts+create-row+create-tuple-spec :
     μ-create-row
     μ-create-tuple
     (λ t. create-encryption-lts.spec (
+      variable-reads.Asked,
+      variable-reads.Learnt,
+      x-reads.Asked,
+      x-reads.Learnt,
       slots-reads.Asked,
       slots-reads.Learnt,
       create-key-reads.Asked,
       create-key-reads.Learnt,
       create-row-below t,
       create-row.Post,
-      x-reads.Asked,
-      x-reads.Learnt,
       emit-reads.Asked,
       emit-reads.Learnt,
-      variable-reads.Asked,
-      variable-reads.Learnt,
     )
     (create-encryption-at t)
     create-encryption.Post
+    (create-encryption-variable-requires t)
+    (create-encryption-x-requires t)
     (create-encryption-slots-requires t)
     (create-encryption-create-key-requires t)
     (create-encryption-array-read-create-row t)
     (create-encryption-create-row-requires t)
-    (create-encryption-x-requires t)
     (create-encryption-emit-requires t)
-    (create-encryption-variable-requires t)
     (create-encryption-emit-requires-2 t)
     (create-encryption-returns t))
     (λ t. create-let-lts.spec (
+      raw-reads.Asked,
+      raw-reads.Learnt,
       slots-reads.Asked,
       slots-reads.Learnt,
       create-row-below t,
       create-row.Post,
-      raw-reads.Asked,
-      raw-reads.Learnt,
       emit-reads.Asked,
       emit-reads.Learnt,
     )
     (create-let-at t)
     create-let.Post
+    (create-let-raw-requires t)
     (create-let-slots-requires t)
     (create-let-array-read-create-row t)
     (create-let-create-row-requires t)
-    (create-let-raw-requires t)
     (create-let-emit-requires t)
     (create-let-array-read-create-row-2 t)
     (create-let-create-row-requires-2 t)
@@ -973,10 +973,10 @@ pub +create-encryption+create-let+create-parts+create-row+create-tuple-spec :
       variable-reads.Learnt,
       count-reads.Asked,
       count-reads.Learnt,
-      take-reads.Asked,
-      take-reads.Learnt,
       slots-reads.Asked,
       slots-reads.Learnt,
+      take-reads.Asked,
+      take-reads.Learnt,
       create-parts-below t,
       create-parts.Post,
       scratch-reads.Asked,
@@ -988,8 +988,8 @@ pub +create-encryption+create-let+create-parts+create-row+create-tuple-spec :
     create-tuple.Post
     (create-tuple-variable-requires t)
     (create-tuple-count-requires t)
-    (create-tuple-take-requires t)
     (create-tuple-slots-requires t)
+    (create-tuple-take-requires t)
     (create-tuple-create-parts-requires t)
     (create-tuple-scratch-requires t)
     (create-tuple-emit-requires t)

@@ -4,26 +4,26 @@ use borrow.Author.Needs.{needs}
 use Rattle.creating.proofs.create_signature.Statement.{statement}
 use Rattle.creating.proofs.create_signature.Tie as tie
 
-create-key-requires : tie.Need-create-key-requires
-create-key-requires c κs = let s = c .before .before .before .before in (signature-key _ _ _ (s .pre .0) (s .pre .1), key-room _ _ _ (s .pre .0))
-
-raw-requires : tie.Need-raw-requires
-raw-requires c κs = search needs
-
-emit-requires : tie.Need-emit-requires
-emit-requires c κs = (body-room _ _ _ (c .before .before .before .before .before .before .before .before .pre .0) (c .before .before .before .create-key .ensures), tt)
+variable-requires : tie.Need-variable-requires
+variable-requires c κs = search needs
 
 x-requires : tie.Need-x-requires
 x-requires c κs = search needs
 
-emit-requires-2 : tie.Need-emit-requires-2
-emit-requires-2 c κs = (sign-room _ _ _ (c .before .before .before .before .before .before .before .before .before .before .before .before .pre .0) (c .before .before .before .before .before .before .before .create-key .ensures) (c .before .before .before .emit .ensures), tt)
+raw-requires : tie.Need-raw-requires
+raw-requires c κs = search needs
 
-variable-requires : tie.Need-variable-requires
-variable-requires c κs = search needs
+create-key-requires : tie.Need-create-key-requires
+create-key-requires c κs = let s = c .before .before .before .before .before .before .before in (signature-key _ _ _ (s .pre .0) (s .pre .1), key-room _ _ _ (s .pre .0))
+
+emit-requires : tie.Need-emit-requires
+emit-requires c κs = (body-room _ _ _ (c .before .before .before .before .before .before .before .before .before .before .pre .0) (c .before .before .create-key .ensures), tt)
+
+emit-requires-2 : tie.Need-emit-requires-2
+emit-requires-2 c κs = (sign-room _ _ _ (c .before .before .before .before .before .before .before .before .before .before .before .before .before .pre .0) (c .before .before .before .before .before .create-key .ensures) (c .before .before .emit .ensures), tt)
 
 emit-requires-3 : tie.Need-emit-requires-3
-emit-requires-3 c κs = (decode-room _ _ _ (c .before .before .before .before .before .before .before .before .before .before .before .before .before .before .before .before .pre .0) (c .before .before .before .before .before .before .before .before .before .before .before .create-key .ensures) (c .before .before .before .before .before .before .before .emit .ensures) (c .before .before .before .emit2 .ensures), variable-low _ _ (c .variable .ensures))
+emit-requires-3 c κs = (decode-room _ _ _ (c .before .before .before .before .before .before .before .before .before .before .before .before .before .before .before .before .pre .0) (c .before .before .before .before .before .before .before .before .create-key .ensures) (c .before .before .before .before .before .emit .ensures) (c .before .before .emit2 .ensures), variable-low _ _ (c .before .before .before .before .before .before .before .before .before .before .before .before .before .variable .ensures))
 
 returns : tie.Need-returns
 returns c = search (signed)
@@ -32,11 +32,11 @@ pub create-signature-spec : {M : Type 1} → statement M
 create-signature-spec =
     tie.close
     (tie.spec
-    create-key-requires
-    raw-requires
-    emit-requires
-    x-requires
-    emit-requires-2
     variable-requires
+    x-requires
+    raw-requires
+    create-key-requires
+    emit-requires
+    emit-requires-2
     emit-requires-3
     returns)
