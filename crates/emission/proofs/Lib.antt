@@ -1,0 +1,7 @@
+-- What the proofs of several functions use.
+pub mod KnownLaws
+pub mod MeetsLaws
+pub mod StepLaws
+pub mod SettleLaws
+pub mod BudgetLaws
+pub mod PatternLaws

@@ -1,0 +1,85 @@
+-- The pattern of a good row, by the row's tag. Assumes nothing.
+use Prim.Native.Nat.{ℕ, zero, suc, _+_, _-_, _*_, _/_, _%_, _^_, _≤_, _<_}
+use mathlib.Core.Path.{_≡_, refl, sym, ap, subst, _∙_}
+use mathlib.Core.Option.{none}
+use mathlib.Core.List.{List, [], _∷_}
+use native.Mathlib.Omega.{arith}
+use lib.ListN.{length, getD, take}
+use Rattle.word.proofs.All.{All, all-at}
+use Rattle.patterns.specs.Pattern.{Key, plainKey, opKey, certifiedKey, Pattern, object, raw, constant, opposite, keyOf, encryption, signature, hash, tuple, letIn, Parts, end, part}
+use Rattle.patterns.specs.Row.{fieldsOf, children, childrenOf}
+use Rattle.patterns.specs.Rules.{badPattern}
+use Rattle.patterns.specs.Tree.{keyBy, partsBy, formBy, patternAt, patternsOf}
+use Rattle.patterns.proofs.RowLaws.{children-count, child-slot}
+use Rattle.patterns.proofs.GoodRow.{GoodKey, GoodRow}
+use Rattle.patterns.proofs.RuleLaws.{fieldsAt, all-good}
+use Rattle.patterns.proofs.TreeLaws.{Formed, formed}
+use Rattle.emission.specs.Budget.{patternIn}
+
+parts-same : (f g : ℕ → Pattern) (row : ℕ) (cs : List ℕ) → ((c : ℕ) → c < row → f c ≡ g c) → All (λ c. c < row) cs → partsBy f cs ≡ partsBy g cs
+parts-same f g row [] h below = refl
+parts-same f g row (c ∷ cs) h below =
+    let e = h c (below .0) in
+    let t = parts-same f g row cs h (below .1) in
+    cc
+
+module _ (rows : List ℕ) (row word : ℕ) (good : badPattern rows ≡ none) (inside : row < length rows) (here : word ≡ getD rows row 0) where
+  pub good-row : GoodRow row (fieldsOf word)
+  good-row = rw here (all-good rows good row inside)
+
+  by-form : Formed (patternsOf rows) row word
+  by-form = rw here (formed rows row inside)
+
+  -- the children of a row are below it
+  children-below : All (λ child. child < row) (children (fieldsOf word))
+  children-below = good-row .below
+
+  slot-low : (n i : ℕ) → fieldsOf word .n ≡ n → i < n → n ≤ 4 → getD (fieldsOf word .slots) i 0 < row
+  slot-low n i e h four =
+      let few = children-count word in
+      let inside : i < length (childrenOf word) = omega arith in
+      rw (child-slot word i inside) at (all-at (λ child. child < row) (childrenOf word) 0 children-below i inside)
+
+  pub object-row : fieldsOf word .tag ≡ 0 → patternIn rows row ≡ object row (fieldsOf word .v)
+  object-row h = by-form .form ∙ rw h
+
+  pub raw-row : fieldsOf word .tag ≡ 1 → patternIn rows row ≡ raw row (fieldsOf word .r)
+  raw-row h = by-form .form ∙ rw h
+
+  pub constant-row : fieldsOf word .tag ≡ 2 → patternIn rows row ≡ constant row (fieldsOf word .v) (fieldsOf word .x)
+  constant-row h = by-form .form ∙ rw h
+
+  pub opposite-row : fieldsOf word .tag ≡ 3 → patternIn rows row ≡ opposite row (fieldsOf word .v) (fieldsOf word .y)
+  opposite-row h = by-form .form ∙ rw h
+
+  pub key-of-row : fieldsOf word .tag ≡ 4 → patternIn rows row ≡ keyOf row (fieldsOf word .v) (fieldsOf word .y)
+  key-of-row h = by-form .form ∙ rw h
+
+  pub signature-row : fieldsOf word .tag ≡ 6 → patternIn rows row ≡ signature row (fieldsOf word .v) (keyBy (fieldsOf word)) (fieldsOf word .r)
+  signature-row h = by-form .form ∙ rw h
+
+  pub hash-row : fieldsOf word .tag ≡ 7 → patternIn rows row ≡ hash row (fieldsOf word .v) (fieldsOf word .r)
+  hash-row h = by-form .form ∙ rw h
+
+  module _ (child : ℕ) (first : child ≡ getD (fieldsOf word .slots) 0 0) where
+    pub encryption-child : fieldsOf word .tag ≡ 5 → child < row
+    encryption-child h = rw first (slot-low 1 0 (good-row .encryption h .1) (omega arith) (omega arith))
+
+    pub encryption-row : fieldsOf word .tag ≡ 5 → patternIn rows row ≡ encryption row (fieldsOf word .v) (keyBy (fieldsOf word)) (patternIn rows child)
+    encryption-row h = by-form .form ∙ rw (h, ← first) (ap (encryption row (fieldsOf word .v) (keyBy (fieldsOf word))) (by-form .before child (encryption-child h)))
+
+    module _ (other : ℕ) (second : other ≡ getD (fieldsOf word .slots) 1 0) where
+      pub let-children : fieldsOf word .tag ≡ 9 → (child < row) × (other < row)
+      let-children h =
+          let n = good-row .letIn h .0 in
+          (rw first (slot-low 2 0 n (omega arith) (omega arith)), rw second (slot-low 2 1 n (omega arith) (omega arith)))
+
+      pub let-row : fieldsOf word .tag ≡ 9 → patternIn rows row ≡ letIn row (fieldsOf word .r) (patternIn rows child) (patternIn rows other)
+      let-row h =
+          let one = by-form .before child (let-children h .0) in
+          let two = by-form .before other (let-children h .1) in
+          by-form .form ∙ rw (h, ← first, ← second) (cc)
+
+  pub tuple-row : fieldsOf word .tag ≡ 8 → patternIn rows row ≡ tuple row (fieldsOf word .v) (partsBy (patternIn rows) (childrenOf word))
+  tuple-row h =
+      by-form .form ∙ rw h (ap (tuple row (fieldsOf word .v)) (parts-same (by-form .below) (patternIn rows) row (childrenOf word) (by-form .before) children-below))

@@ -1,0 +1,44 @@
+-- The rows of a pattern, and the room that a pattern asks.
+use Prim.Native.Nat.{ℕ, _+_, _-_, _*_, _≤_, _<_}
+use mathlib.Core.Path.{_≡_}
+use mathlib.Core.Option.{none}
+use mathlib.Core.List.{List}
+use lib.ListN.{length, getD}
+use Rattle.patterns.specs.Pattern.{Pattern, Parts, count, size, sizes}
+use Rattle.patterns.specs.Rules.{badPattern}
+use Rattle.patterns.specs.Tree.{patternAt, patternsOf}
+use Rattle.emission.specs.Meets.{nextIn, writtenIn, Room}
+
+-- what a pattern of so many rows emits and takes at most
+abbrev pub words : Pattern → ℕ
+words p = 8 * size p - 1
+
+abbrev pub scratches : Pattern → ℕ
+scratches p = 2 * size p - 1
+
+-- a part has one word and one scratch number more
+abbrev pub wordsOf : Parts → ℕ
+wordsOf ps = 8 * sizes ps
+
+abbrev pub scratchesOf : Parts → ℕ
+scratchesOf ps = 2 * sizes ps - count ps
+
+abbrev pub patternIn : List ℕ → ℕ → Pattern
+patternIn rows row = patternAt (patternsOf rows) row
+
+-- the pattern of a good row, and room for it
+pub record Row (rows : List ℕ) (row : ℕ) (e : List ℕ) : Type 0 where
+  pub good : badPattern rows ≡ none
+  pub inside : row < length rows
+  pub room : Room (words (patternIn rows row)) (scratches (patternIn rows row)) e
+
+-- the same, with the row's word
+pub record RowAt (rows : List ℕ) (row word : ℕ) (e : List ℕ) : Type 0 where
+  pub here : word ≡ getD rows row 0
+  pub whole : Row rows row e
+
+-- room for the parts of a tuple, whose own scratch numbers are taken already
+pub record RoomParts (ps : Parts) (e : List ℕ) : Type 0 where
+  pub long : length e ≡ 5
+  pub place : writtenIn e + wordsOf ps ≤ 768
+  pub free : nextIn e + 2 * sizes ps ≤ 191 + count ps

@@ -1,0 +1,195 @@
+// What the compiler knows while it emits, and one instruction after another.
+use code::{Instruction, Object, Raw};
+
+ghost use mathlib.Core.Path.{_≡_};
+ghost use mathlib.Core.Bool.{true, false};
+ghost use mathlib.Core.List.{List, [], _∷_};
+ghost use Prim.Native.Nat.{ℕ, _+_, _*_, _<_};
+ghost use lib.ListN.{length};
+ghost use Rattle.answers.specs.declared.Compiled.the-variants.{WrongKind};
+ghost use Rattle.code.specs.Instruction.{wordOf};
+ghost use Rattle.theory.specs.Store.{put};
+ghost use Rattle.theory.specs.Machine.{Line, scratch};
+ghost use Rattle.theory.specs.Emission.{ok, refuse, emit};
+ghost use Rattle.emission.specs.Known.{known};
+ghost use Rattle.emission.specs.Steps.{readObject, writeObject, readRaw, writeRaw, freeRaw, raise, settled, WritesLow};
+ghost use Rattle.emission.specs.Meets.{nextIn, refusing, Does, Quiet, Room};
+
+// The numbers at OBJECTS, RAWS, NEXT, WRITTEN and REFUSAL.
+pub type Emission = [u64; 5];
+
+// Which object and raw variables are set, variable 0 at the most significant bit.
+pub const OBJECTS: usize = 0;
+pub const RAWS: usize = 1;
+// The next scratch number not taken, and how many words are written.
+pub const NEXT: usize = 2;
+pub const WRITTEN: usize = 3;
+// The number and the row of the first refusal, or 0.
+pub const REFUSAL: usize = 4;
+
+// Room for the longest code.
+pub type Code = [u32; 768];
+
+// Whether a set of 64 bits has a variable.
+pub fn is_known(mask: u64, v: u8) -> bool
+    ensures { λ r. ⌜ r ≡ known mask v ⌝ }
+{
+    if v < 64 {
+        (mask >> (63 - v)) % 2 == 1
+    } else {
+        false
+    }
+}
+
+// The set with a variable that it does not have yet.
+pub fn with_known(mask: u64, v: u8) -> u64
+    requires { ⌜ (v < 64) × (known mask v ≡ false) ⌝ }
+    ensures { λ r. ⌜ known r ≡ put (known mask) v true ⌝ }
+{
+    mask + (1u64 << (63 - v))
+}
+
+// The first refusal is the answer.
+pub fn refuse(emission: &mut Emission, number: u8, row: u8)
+    ensures { λ _. ⌜ now (emission .exit) ≡ refusing (number * 256 + row) (now (emission .entry)) ⌝ }
+{
+    if emission[REFUSAL] == 0 {
+        emission[REFUSAL] = (number as u64) * 256 + (row as u64);
+    }
+}
+
+// Read while unset is 7, written while set 6.
+fn read_object(emission: &mut Emission, row: u8, v: Object)
+    requires { ⌜ length (now emission) ≡ 5 ⌝ }
+    ensures { λ _. ⌜ Quiet (readObject row (v .0)) 0 (now (emission .entry)) (now (emission .exit)) ⌝ }
+{
+    if is_known(emission[OBJECTS], v.0) {
+    } else {
+        refuse(emission, 7, row);
+    }
+}
+
+fn write_object(emission: &mut Emission, row: u8, v: Object)
+    requires { ⌜ (length (now emission) ≡ 5) × (v .0 < 64) ⌝ }
+    ensures { λ _. ⌜ Quiet (writeObject row (v .0)) 0 (now (emission .entry)) (now (emission .exit)) ⌝ }
+{
+    let objects = emission[OBJECTS];
+    if is_known(objects, v.0) {
+        refuse(emission, 6, row);
+    } else {
+        emission[OBJECTS] = with_known(objects, v.0);
+    }
+}
+
+// A scratch cell is never looked at.
+fn read_raw(emission: &mut Emission, row: u8, r: Raw)
+    requires { ⌜ length (now emission) ≡ 5 ⌝ }
+    ensures { λ _. ⌜ Quiet (readRaw row (r .0)) 0 (now (emission .entry)) (now (emission .exit)) ⌝ }
+{
+    if r.0 < 64 {
+        if is_known(emission[RAWS], r.0) {
+        } else {
+            refuse(emission, 7, row);
+        }
+    }
+}
+
+fn write_raw(emission: &mut Emission, row: u8, r: Raw)
+    requires { ⌜ length (now emission) ≡ 5 ⌝ }
+    ensures { λ _. ⌜ Quiet (writeRaw row (r .0)) 0 (now (emission .entry)) (now (emission .exit)) ⌝ }
+{
+    if r.0 < 64 {
+        let raws = emission[RAWS];
+        if is_known(raws, r.0) {
+            refuse(emission, 6, row);
+        } else {
+            emission[RAWS] = with_known(raws, r.0);
+        }
+    }
+}
+
+// A raw variable must be unset, and stays so.
+pub fn free_raw(emission: &mut Emission, row: u8, r: u8)
+    requires { ⌜ length (now emission) ≡ 5 ⌝ }
+    ensures { λ _. ⌜ Quiet (freeRaw row r) 0 (now (emission .entry)) (now (emission .exit)) ⌝ }
+{
+    if is_known(emission[RAWS], r) {
+        refuse(emission, 6, row);
+    }
+}
+
+// A matched E has a plain key only.
+pub fn wrong_kind(emission: &mut Emission, row: u8)
+    requires { ⌜ length (now emission) ≡ 5 ⌝ }
+    ensures { λ _. ⌜ Quiet (λ env. refuse (WrongKind row)) 0 (now (emission .entry)) (now (emission .exit)) ⌝ }
+{
+    refuse(emission, 5, row);
+}
+
+// The first of n scratch numbers that are taken together.
+pub fn take(emission: &mut Emission, n: u8) -> u8
+    requires { ⌜ (length (now emission) ≡ 5) × (nextIn (now emission) < 192) ⌝ }
+    ensures { λ r. ⌜ (r ≡ nextIn (now (emission .entry))) × Quiet (raise n) n (now (emission .entry)) (now (emission .exit)) ⌝ }
+{
+    let next = emission[NEXT];
+    emission[NEXT] = next + n as u64;
+    next as u8
+}
+
+// The message cell of a scratch number.
+pub fn scratch(number: u8) -> Raw
+    requires { ⌜ number < 192 ⌝ }
+    ensures { λ r. ⌜ r ≡ scratch number ⌝ }
+{
+    Raw(64 + number)
+}
+
+// What an instruction reads, and then what it writes.
+fn settle(emission: &mut Emission, row: u8, instruction: Instruction)
+    requires { ⌜ (length (now emission) ≡ 5) × WritesLow instruction ⌝ }
+    ensures { λ _. ⌜ Quiet (λ env. settled (emit row instruction env)) 0 (now (emission .entry)) (now (emission .exit)) ⌝ }
+{
+    match instruction {
+        Instruction::Load(r) => read_raw(emission, row, r),
+        Instruction::Store(r) => write_raw(emission, row, r),
+        Instruction::StoreConst(c, _) => write_object(emission, row, c),
+        Instruction::Decode(v) => write_object(emission, row, v),
+        Instruction::Encode(v) => read_object(emission, row, v),
+        Instruction::Create(v) => write_object(emission, row, v),
+        Instruction::AnalyzeTuple(t, _, _) => read_object(emission, row, t),
+        Instruction::CreateTuple(t, _, _) => write_object(emission, row, t),
+        Instruction::Opposite(private, public) => {
+            read_object(emission, row, private);
+            write_object(emission, row, public)
+        }
+        Instruction::KeyOf => {}
+        Instruction::Match(r) => read_raw(emission, row, r),
+        Instruction::Encrypt(v) => read_object(emission, row, v),
+        Instruction::Decrypt(v) => read_object(emission, row, v),
+        Instruction::Sign(v) => read_object(emission, row, v),
+        Instruction::Verify(v, r) => {
+            read_object(emission, row, v);
+            read_raw(emission, row, r)
+        }
+        Instruction::Hash(_) => {}
+    }
+}
+
+fn append(code: &mut Code, emission: &mut Emission, word: u32)
+    requires { ⌜ Room 1 0 (now emission) ⌝ }
+    ensures { λ _. ⌜ ((l : Line) → word ≡ wordOf (l .instruction) → Does (ok (l ∷ [])) 1 0 (now (emission .entry)) (now (code .entry)) (now (emission .exit)) (now (code .exit))) ⌝ }
+{
+    let at = emission[WRITTEN];
+    code[at as usize] = word;
+    emission[WRITTEN] = at + 1;
+}
+
+// One instruction for a pattern row.
+pub fn emit(code: &mut Code, emission: &mut Emission, row: u8, instruction: Instruction)
+    requires { ⌜ Room 1 0 (now emission) ⌝ }
+    requires { ⌜ WritesLow instruction ⌝ }
+    ensures { λ _. ⌜ Does (emit row instruction) 1 0 (now (emission .entry)) (now (code .entry)) (now (emission .exit)) (now (code .exit)) ⌝ }
+{
+    settle(emission, row, instruction);
+    append(code, emission, code::word_of(instruction));
+}
