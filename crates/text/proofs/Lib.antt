@@ -1,0 +1,3 @@
+-- Laws of text that is written.
+pub mod DigitLaws
+pub mod WrittenLaws
