@@ -9,7 +9,8 @@ use lib.Dec.{T, T-not, eqb, ltb}
 use lib.ListN.{length, getD, take, set}
 use lib.Seq.{getD-take, length-take-le}
 use Rattle.word.specs.Lowest.{lowest}
-use Rattle.word.proofs.LowestLaws.{fails, equals, is-below, not-below, lowest-none, lowest-some}
+use Rattle.word.proofs.TestLaws.{equals, is-below, not-below}
+use Rattle.word.proofs.LowestLaws.{lowest-none, lowest-some}
 use Rattle.terms.specs.Finder.{Located, located, asTermRow, equalRow, locateBy, locate}
 use Rattle.terms.specs.declared.Found.the-variants.{At, Full}
 

@@ -10,7 +10,7 @@ use lib.ListN.{length, take, drop, replicate}
 use borrow.Author.Tests.{ne-eqb}
 use Rattle.word.specs.Fields.{split, join, at}
 use Rattle.word.proofs.FieldLaws.{Fit, fit-equal, padded, padded-front, split-join-padded, join-below}
-use Rattle.word.proofs.LowestLaws.{All}
+use Rattle.word.proofs.All.{All}
 use Rattle.terms.specs.Shape.{Shape, atom, encrypted, signed, hashed, tupled, kindOf}
 use Rattle.terms.specs.Row.{rowWidths, atomWidths, wordOf, tagOf, shapeBy, shapeOf}
 use Rattle.terms.specs.Rules.{unusedZero}

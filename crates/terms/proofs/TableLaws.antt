@@ -10,11 +10,13 @@ use native.Mathlib.Decide.{decLt, ℕ-discrete}
 use lib.Dec.{T, eqb, ltb}
 use lib.ListN.{length, getD, set, length-set, List·getD-eq-default}
 use lib.Seq.{getD-take, getD-set-same, getD-set-other, length-take-le}
-use Rattle.word.proofs.LowestLaws.{both, chosen, fails, equals, is-below, not-below, is-most, All, all-map, each-all, one-of, one-of-two, lowest-none}
+use Rattle.word.proofs.All.{All}
+use Rattle.word.proofs.TestLaws.{both, chosen, fails, equals, is-below, not-below, at-most}
+use Rattle.word.proofs.LowestLaws.{each-all, one-of, one-of-two, lowest-none}
 use Rattle.terms.specs.Shape.{Shape, atom, encrypted, signed, hashed, tupled, partsOf}
 use Rattle.terms.specs.Row.{wordOf, tagOf, shapeOf}
-use Rattle.terms.proofs.RowLaws.{Packs, kind-known, tag-word, shape-word, tag-nonzero}
 use Rattle.terms.specs.Rules.{usedRows, knownTag, unusedZero, numberFits, partsBelow, keyFits, earlierEqual, fits, badRow, badTerm}
+use Rattle.terms.proofs.RowLaws.{Packs, kind-known, tag-word, shape-word, tag-nonzero}
 
 -- a byte is at most 255; nonces and keys are below the name counter; agents are any
 abbrev pub NumberFits : ℕ → Shape ℕ → Type 0
@@ -58,7 +60,7 @@ pub record ValidTable (rows : List ℕ) (counter : ℕ) : Type 0 where
 -- each rule, as a test and as a proposition
 known-tag : (word : ℕ) → T (knownTag word) ↔ ((1 ≤ tagOf word) × (tagOf word ≤ 10))
 unfolding knownTag
-known-tag word = simp (both, is-most) Iff·rfl
+known-tag word = simp (both, at-most) Iff·rfl
 
 unused-zero : (word : ℕ) → T (unusedZero word) ↔ (wordOf (shapeOf word) ≡ word)
 unfolding unusedZero
@@ -75,9 +77,7 @@ number-fits counter (tupled parts) = Iff·rfl
 
 parts-below : (row : ℕ) (shape : Shape ℕ) → T (partsBelow row shape) ↔ PartsBelow row shape
 unfolding partsBelow
-parts-below row shape =
-    let test = each-all (λ part. ltb part row) (partsOf shape) in
-    (λ h. all-map (partsOf shape) (λ part. is-below part row .0) (test .0 h), λ h. test .1 (all-map (partsOf shape) (λ part. is-below part row .1) h))
+parts-below row shape = each-all (λ part. ltb part row) (λ part. part < row) (λ part. is-below part row) (partsOf shape)
 
 key-fits : (rows : List ℕ) (shape : Shape ℕ) → T (keyFits rows shape) ↔ KeyFits rows shape
 unfolding keyFits
@@ -107,10 +107,10 @@ pub record Used (rows : List ℕ) (count : ℕ) : Type 0 where
   pub nonzero : (row : ℕ) → row < count → getD rows row 0 ≢ 0
   pub ends : getD rows count 0 ≡ 0
 
-pub used : (rows : List ℕ) → Used rows (usedRows rows)
+pub used-rows : (rows : List ℕ) → Used rows (usedRows rows)
 unfolding usedRows
-used [] = record { inside = omega arith; nonzero = λ row l. absurd (omega arith); ends = refl }
-used (word ∷ rows) = go (eqb word 0) (equals word 0) (used rows)
+used-rows [] = record { inside = omega arith; nonzero = λ row l. absurd (omega arith); ends = refl }
+used-rows (word ∷ rows) = go (eqb word 0) (equals word 0) (used-rows rows)
   where
     go : (b : Bool) → T b ↔ (word ≡ 0) → Used rows (usedRows rows) → Used (word ∷ rows) (elim b [ true ↦ zero | false ↦ suc (usedRows rows) ])
     go true e u = record { inside = omega arith; nonzero = λ row l. absurd (omega arith); ends = e .0 tt }
@@ -120,58 +120,59 @@ used (word ∷ rows) = go (eqb word 0) (equals word 0) (used rows)
         nonzero zero l = e .1
         nonzero (suc row) l = u .nonzero row (omega arith)
 
-pub used-once : (rows : List ℕ) (count : ℕ) → Used rows count → usedRows rows ≡ count
-used-once rows count u =
-    let more : ¬ (count < usedRows rows) = λ l. used rows .nonzero count l (u .ends) in
-    let fewer : ¬ (usedRows rows < count) = λ l. u .nonzero (usedRows rows) l (used rows .ends) in
+pub used-once : {rows : List ℕ} {count : ℕ} → Used rows count → usedRows rows ≡ count
+used-once {rows} {count} u =
+    let more : ¬ (count < usedRows rows) = λ l. used-rows rows .nonzero count l (u .ends) in
+    let fewer : ¬ (usedRows rows < count) = λ l. u .nonzero (usedRows rows) l (used-rows rows .ends) in
     omega arith
 
--- 2 is not given exactly where the table is valid
+-- what is asked of a row, used or not
+abbrev Sound : List ℕ → ℕ → ℕ → ℕ → Type 0
+Sound rows counter row word = (row < usedRows rows → GoodRow rows counter row word) × (usedRows rows ≤ row → word ≡ 0)
+
 not-chosen : (a b c : Bool) → not (cond a (not b) (not c)) ≡ cond a b c
 not-chosen true true c = refl
 not-chosen true false c = refl
 not-chosen false b true = refl
 not-chosen false b false = refl
 
-sound-row : (rows : List ℕ) (counter row word : ℕ) → row ≤ length rows
-    → T (not (badRow rows counter row word)) ↔ ((row < usedRows rows → GoodRow rows counter row word) × (usedRows rows ≤ row → word ≡ 0))
+sound-row : (rows : List ℕ) (counter row word : ℕ) → row ≤ length rows → T (not (badRow rows counter row word)) ↔ Sound rows counter row word
 unfolding badRow
 sound-row rows counter row word inside = simp (not-chosen, chosen, is-below, not-below, equals, good-row) Iff·rfl
 
+-- 2 is given exactly where the table is not valid
 pub valid-table : (rows : List ℕ) (counter : ℕ) → (badTerm rows counter ≡ none) ↔ ValidTable rows counter
 unfolding badTerm
-valid-table rows counter = simp (lowest-none (badRow rows counter) 0 rows) (made, λ valid row inside. sound row (omega arith) .1 (valid .good row, valid .zeros row))
+valid-table rows counter =
+    simp (lowest-none (badRow rows counter) 0 rows) (
+      λ h. record { good = λ row. sound h row (decLt row (length rows)) .0; zeros = λ row. sound h row (decLt row (length rows)) .1 },
+      λ valid row inside. sound-row rows counter row (getD rows row 0) (omega arith) .1 (valid .good row, valid .zeros row),
+    )
   where
-    sound : (row : ℕ) → row ≤ length rows
-        → T (not (badRow rows counter row (getD rows row 0))) ↔ ((row < usedRows rows → GoodRow rows counter row (getD rows row 0)) × (usedRows rows ≤ row → getD rows row 0 ≡ 0))
-    sound row = sound-row rows counter row (getD rows row 0)
-
-    past : ((row : ℕ) → row < length rows → T (not (badRow rows counter row (getD rows row 0)))) → (row : ℕ) → Dec (row < length rows) → usedRows rows ≤ row → getD rows row 0 ≡ 0
-    past h row (yes inside) l = sound row (omega arith) .0 (h row inside) .1 l
-    past h row (no outside) l = List·getD-eq-default rows 0 (omega arith)
-
-    made : ((row : ℕ) → row < length rows → T (not (badRow rows counter row (getD rows row 0)))) → ValidTable rows counter
-    made h =
-        record { good = λ row l. let inside = used rows .inside in sound row (omega arith) .0 (h row (omega arith)) .0 l; zeros = λ row. past h row (decLt row (length rows)) }
+    sound : ((row : ℕ) → row < length rows → T (not (badRow rows counter row (getD rows row 0)))) → (row : ℕ) → Dec (row < length rows)
+        → Sound rows counter row (getD rows row 0)
+    sound h row (yes inside) = sound-row rows counter row (getD rows row 0) (omega arith) .0 (h row inside)
+    sound h row (no outside) = (λ l. absurd (omega (arith, used-rows rows .inside)), λ l. List·getD-eq-default rows 0 (omega arith))
 
 -- a rule of a row looks at earlier rows only
-key-same : (rows other : List ℕ) (row : ℕ) → ((i : ℕ) → i < row → getD other i 0 ≡ getD rows i 0) → (shape : Shape ℕ) → PartsBelow row shape → KeyFits rows shape → KeyFits other shape
-key-same rows other row same (atom tag number) below key = tt
-key-same rows other row same (encrypted k body) below key = rw (same k (below .0)) key
-key-same rows other row same (signed k body) below key = rw (same k (below .0)) key
-key-same rows other row same (hashed body) below key = tt
-key-same rows other row same (tupled parts) below key = tt
+module _ (rows other : List ℕ) (row : ℕ) (same : (i : ℕ) → i < row → getD other i 0 ≡ getD rows i 0) where
+  key-same : (shape : Shape ℕ) → PartsBelow row shape → KeyFits rows shape → KeyFits other shape
+  key-same (atom tag number) below key = tt
+  key-same (encrypted k body) below key = rw (same k (below .0)) key
+  key-same (signed k body) below key = rw (same k (below .0)) key
+  key-same (hashed body) below key = tt
+  key-same (tupled parts) below key = tt
 
-good-same : (rows other : List ℕ) (counter row word : ℕ) → ((i : ℕ) → i < row → getD other i 0 ≡ getD rows i 0) → GoodRow rows counter row word → GoodRow other counter row word
-good-same rows other counter row word same g =
-    record {
-      known = g .known;
-      packed = g .packed;
-      number = g .number;
-      below = g .below;
-      key = key-same rows other row same (shapeOf word) (g .below) (g .key);
-      new = λ earlier l e. g .new earlier l (sym (same earlier l) ∙ e);
-    }
+  good-same : {counter word : ℕ} → GoodRow rows counter row word → GoodRow other counter row word
+  good-same {word = word} g =
+      record {
+        known = g .known;
+        packed = g .packed;
+        number = g .number;
+        below = g .below;
+        key = key-same (shapeOf word) (g .below) (g .key);
+        new = λ earlier l e. g .new earlier l (sym (same earlier l) ∙ e);
+      }
 
 -- what holds below a number and at it holds below the next
 below-next : (P : ℕ → Type 0) (n : ℕ) → ((i : ℕ) → i < n → P i) → P n → (i : ℕ) → i < suc n → P i
@@ -182,7 +183,7 @@ below-next P n old new i l = go (ℕ-discrete i n)
     go (no other) = old i (omega arith)
 
 -- a good row in the place of the first unused one
-module _ (rows : List ℕ) (counter word : ℕ) (valid : ValidTable rows counter) (free : usedRows rows < length rows)
+module _ {rows : List ℕ} {counter word : ℕ} (valid : ValidTable rows counter) (free : usedRows rows < length rows)
     (good : GoodRow rows counter (usedRows rows) word) where
   abbrev count : ℕ
   count = usedRows rows
@@ -190,49 +191,50 @@ module _ (rows : List ℕ) (counter word : ℕ) (valid : ValidTable rows counter
   abbrev longer : List ℕ
   longer = set rows count word
 
-  -- the other rows are what they were
-  pub old-row : (row : ℕ) → row ≢ usedRows rows → getD (set rows (usedRows rows) word) row 0 ≡ getD rows row 0
+  old-row : (row : ℕ) → row ≢ count → getD longer row 0 ≡ getD rows row 0
   old-row row other = getD-set-other rows count row word 0 other
 
-  pub new-row : getD (set rows (usedRows rows) word) (usedRows rows) 0 ≡ word
+  new-row : getD longer count 0 ≡ word
   new-row = getD-set-same rows count word 0 free
 
   zero-past : (row : ℕ) → suc count ≤ row → getD longer row 0 ≡ 0
   zero-past row l = old-row row (λ e. omega arith) ∙ valid .zeros row (omega arith)
 
   pub used-added : usedRows (set rows (usedRows rows) word) ≡ suc (usedRows rows)
-  used-added = used-once longer (suc count) (record { inside = rw length-set free; nonzero = nonzero; ends = zero-past (suc count) (omega arith) })
+  used-added = used-once (record { inside = rw length-set free; nonzero = nonzero; ends = zero-past (suc count) (omega arith) })
     where
       nonzero : (row : ℕ) → row < suc count → getD longer row 0 ≢ 0
       nonzero =
-          below-next (λ row. getD longer row 0 ≢ 0) count (λ row l. rw (old-row row λ e. omega arith) (used rows .nonzero row l))
+          below-next (λ row. getD longer row 0 ≢ 0) count (λ row l. rw (old-row row λ e. omega arith) (used-rows rows .nonzero row l))
           (rw new-row (tag-nonzero word (good .known .0)))
 
   pub valid-added : ValidTable (set rows (usedRows rows) word) counter
   valid-added = record { good = λ row l. goods row (rw used-added at l); zeros = λ row l. zero-past row (rw used-added at l) }
     where
-      keeps : (row other : ℕ) → row ≤ count → GoodRow rows counter row other → GoodRow longer counter row other
-      keeps row other l = good-same rows longer counter row other λ i h. old-row i λ e. omega arith
+      kept : (row : ℕ) → row ≤ count → (i : ℕ) → i < row → getD longer i 0 ≡ getD rows i 0
+      kept row l i h = old-row i λ e. omega arith
 
       goods : (row : ℕ) → row < suc count → GoodRow longer counter row (getD longer row 0)
       goods =
           below-next (λ row. GoodRow longer counter row (getD longer row 0)) count
-          (λ row l. rw (old-row row λ e. omega arith) (keeps row (getD rows row 0) (omega arith) (valid .good row l)))
-          (rw new-row (keeps count word (omega arith) good))
+          (λ row l. rw (old-row row λ e. omega arith) (good-same rows longer row (kept row (omega arith)) (valid .good row l)))
+          (rw new-row (good-same rows longer count (kept count (omega arith)) good))
 
 -- numbers stay below a higher counter
-number-raised : (counter higher : ℕ) → counter ≤ higher → (shape : Shape ℕ) → NumberFits counter shape → NumberFits higher shape
-number-raised counter higher up (atom tag number) fits = (fits .0, λ n m. let l = fits .1 n m in omega arith)
-number-raised counter higher up (encrypted key body) fits = tt
-number-raised counter higher up (signed key body) fits = tt
-number-raised counter higher up (hashed body) fits = tt
-number-raised counter higher up (tupled parts) fits = tt
+module _ {counter higher : ℕ} (up : counter ≤ higher) where
+  number-raised : (shape : Shape ℕ) → NumberFits counter shape → NumberFits higher shape
+  number-raised (atom tag number) fits = (fits .0, λ n m. omega (arith, fits .1 n m))
+  number-raised (encrypted key body) fits = tt
+  number-raised (signed key body) fits = tt
+  number-raised (hashed body) fits = tt
+  number-raised (tupled parts) fits = tt
 
-pub valid-raised : (rows : List ℕ) (counter higher : ℕ) → counter ≤ higher → ValidTable rows counter → ValidTable rows higher
-valid-raised rows counter higher up valid = record { good = λ row l. raised row (valid .good row l); zeros = valid .zeros }
-  where
-    raised : (row : ℕ) → GoodRow rows counter row (getD rows row 0) → GoodRow rows higher row (getD rows row 0)
-    raised row g = record { known = g .known; packed = g .packed; number = number-raised counter higher up (shapeOf (getD rows row 0)) (g .number); below = g .below; key = g .key; new = g .new }
+  good-raised : {rows : List ℕ} {row word : ℕ} → GoodRow rows counter row word → GoodRow rows higher row word
+  good-raised {word = word} g =
+      record { known = g .known; packed = g .packed; number = number-raised (shapeOf word) (g .number); below = g .below; key = g .key; new = g .new }
+
+  pub valid-raised : {rows : List ℕ} → ValidTable rows counter → ValidTable rows higher
+  valid-raised valid = record { good = λ row l. good-raised (valid .good row l); zeros = valid .zeros }
 
 -- a shape that a row of the table may have
 pub record GoodShape (rows : List ℕ) (counter row : ℕ) (shape : Shape ℕ) : Type 0 where
@@ -241,9 +243,9 @@ pub record GoodShape (rows : List ℕ) (counter row : ℕ) (shape : Shape ℕ) :
   pub below : PartsBelow row shape
   pub key : KeyFits rows shape
 
-pub good-word : (rows : List ℕ) (counter row : ℕ) (shape : Shape ℕ) → GoodShape rows counter row shape
+pub good-word : {rows : List ℕ} {counter row : ℕ} {shape : Shape ℕ} → GoodShape rows counter row shape
     → ((earlier : ℕ) → earlier < row → getD rows earlier 0 ≢ wordOf shape) → GoodRow rows counter row (wordOf shape)
-good-word rows counter row shape g new =
+good-word {shape = shape} g new =
     let back = shape-word shape (g .packs) in
     record {
       known = rw (tag-word shape (g .packs)) (kind-known shape (g .packs));

@@ -8,7 +8,9 @@ use native.Mathlib.Omega.{arith}
 use lib.ListN.{length, length-append}
 use lib.Dec.{T, eqb, ltb, leb, eqb→eq, lt→ltb, nltb→le, le→leb}
 use Rattle.word.specs.Lowest.{oneOf}
-use Rattle.word.proofs.LowestLaws.{both, equals, is-most, one-of-two}
+use Rattle.word.proofs.All.{All}
+use Rattle.word.proofs.TestLaws.{both, at-most}
+use Rattle.word.proofs.LowestLaws.{one-of-two}
 use Rattle.answers.specs.declared.Compiled.{Compiled}
 use Rattle.code.specs.Instruction.{asObject}
 use Rattle.code.specs.Words.{hasKind, operandsFit}
@@ -42,19 +44,18 @@ CellsFit (Verify v r) = r .0 ≤ 254
 CellsFit (Hash h) = Unit {0}
 
 -- an instruction that passes run's check, with its cells at most 254
-pub record Fits (kind : ℕ → ℕ) (i : Instruction) : Type 0 where
+pub record InRange (kind : ℕ → ℕ) (i : Instruction) : Type 0 where
   pub operands : T (operandsFit kind i)
   pub cells : CellsFit i
 
 -- of every line
-abbrev pub EachFits : (ℕ → ℕ) → List Line → Type 0
-EachFits kind [] = Unit {0}
-EachFits kind (l ∷ ls) = Fits kind (l .instruction) × EachFits kind ls
+abbrev pub AllInRange : (ℕ → ℕ) → List Line → Type 0
+AllInRange kind c = All (λ l. InRange kind (l .instruction)) c
 
 -- at most so many words, scratch numbers below one, and fitting lines
 module _ (kind : ℕ → ℕ) where
   unfoldable TakesT : ℕ → ℕ → Emitted → Type 0
-  TakesT w n (ok c e) = (length c ≤ w) × (e .next ≤ n) × EachFits kind c
+  TakesT w n (ok c e) = (length c ≤ w) × (e .next ≤ n) × AllInRange kind c
   TakesT w n (refuse answer) = Unit {0}
 
   record Takes (w n : ℕ) (E : Emitted) : Type 0 where
@@ -72,9 +73,9 @@ module _ (kind : ℕ → ℕ) where
   choice true w n C D c d = c tt
   choice false w n C D c d = d
 
-  fits-append : (c d : List Line) → EachFits kind c → EachFits kind d → EachFits kind (c ++ d)
-  fits-append [] d f g = g
-  fits-append (l ∷ c) d f g = (f .0, fits-append c d (f .1) g)
+  range-append : (c d : List Line) → AllInRange kind c → AllInRange kind d → AllInRange kind (c ++ d)
+  range-append [] d f g = g
+  range-append (l ∷ c) d f g = (f .0, range-append c d (f .1) g)
 
   -- a part of w₁ words, and then
   follows : (w₁ n₁ w n : ℕ) (C : Emitted) (K : Env → Emitted) → w₁ ≤ w → Takes w₁ n₁ C → ((e : Env) → e .next ≤ n₁ → Takes (w - w₁) n (K e)) → Takes w n (andThen C K)
@@ -84,10 +85,10 @@ module _ (kind : ℕ → ℕ) where
     where
       go : (D : Emitted) → Takes (w - w₁) n D → Takes w n (after c D)
       go (refuse answer) u = record { taken = tt }
-      go (ok d e′) u = record { taken = (simp length-append (omega (arith, t .taken .0, u .taken .0)), u .taken .1, fits-append c d (t .taken .2) (u .taken .2)) }
+      go (ok d e′) u = record { taken = (simp length-append (omega (arith, t .taken .0, u .taken .0)), u .taken .1, range-append c d (t .taken .2) (u .taken .2)) }
 
   -- an instruction is one word, if any, and takes no scratch
-  one-word : (row : ℕ) (i : Instruction) (e e′ : Env) (n : ℕ) → e′ .next ≡ e .next → e .next ≤ n → Fits kind i → Takes 1 n (ok (line row i ∷ []) e′)
+  one-word : (row : ℕ) (i : Instruction) (e e′ : Env) (n : ℕ) → e′ .next ≡ e .next → e .next ≤ n → InRange kind i → Takes 1 n (ok (line row i ∷ []) e′)
   unfolding TakesT
   one-word row i e e′ n p h f = record { taken = (omega arith, omega arith, (f, tt)) }
 
@@ -101,13 +102,13 @@ added e cell = go (ltb cell 64)
     go false = refl
 
 module _ (kind : ℕ → ℕ) (row n : ℕ) (e : Env) (h : e .next ≤ n) where
-  reads-word : (b : Bool) (i : Instruction) → Fits kind i → Takes kind 1 n (reads row b (one row i e))
+  reads-word : (b : Bool) (i : Instruction) → InRange kind i → Takes kind 1 n (reads row b (one row i e))
   reads-word b i f = choice kind b 1 n _ _ (λ _. one-word kind row i e e n refl h f) (refused kind 1 n _)
 
-  writes-word : (b : Bool) (i : Instruction) (e′ : Env) → e′ .next ≡ e .next → Fits kind i → Takes kind 1 n (writes row b (one row i e′))
+  writes-word : (b : Bool) (i : Instruction) (e′ : Env) → e′ .next ≡ e .next → InRange kind i → Takes kind 1 n (writes row b (one row i e′))
   writes-word b i e′ p f = choice kind b 1 n _ _ (λ _. refused kind 1 n _) (one-word kind row i e e′ n p h f)
 
-  emit-word : (i : Instruction) → Fits kind i → Takes kind 1 n (emit row i e)
+  emit-word : (i : Instruction) → InRange kind i → Takes kind 1 n (emit row i e)
   unfolding emit
   emit-word (Load r) = reads-word (readable e (r .0)) (Load r)
   emit-word (Store r) = writes-word (occupied e (r .0)) (Store r) (addRaw e (r .0)) (added e (r .0))
@@ -129,7 +130,7 @@ module _ (kind : ℕ → ℕ) (row n : ℕ) (e : Env) (h : e .next ≤ n) where
 
 -- an instruction, and then; and the last one
 module _ (kind : ℕ → ℕ) (row : ℕ) where
-  first : (i : Instruction) → Fits kind i → (m w n : ℕ) (K : Env → Emitted) (e : Env) → 1 ≤ w → e .next ≤ m → ((e′ : Env) → e′ .next ≤ m → Takes kind (w - 1) n (K e′)) → Takes kind w n (andThen (emit row i e) K)
+  first : (i : Instruction) → InRange kind i → (m w n : ℕ) (K : Env → Emitted) (e : Env) → 1 ≤ w → e .next ≤ m → ((e′ : Env) → e′ .next ≤ m → Takes kind (w - 1) n (K e′)) → Takes kind w n (andThen (emit row i e) K)
   first i f m w n K e l h k = follows kind 1 m w n (emit row i e) K l (emit-word kind row m e h i f) k
 
   wider : (v w n : ℕ) (C : Emitted) → v ≤ w → Takes kind v n C → Takes kind w n C
@@ -137,7 +138,7 @@ module _ (kind : ℕ → ℕ) (row : ℕ) where
   wider v w n (ok c e) l t = record { taken = (omega (arith, t .taken .0), t .taken .1, t .taken .2) }
   wider v w n (refuse answer) l t = record { taken = tt }
 
-  final : (i : Instruction) → Fits kind i → (w n : ℕ) (e : Env) → 1 ≤ w → e .next ≤ n → Takes kind w n (emit row i e)
+  final : (i : Instruction) → InRange kind i → (w n : ℕ) (e : Env) → 1 ≤ w → e .next ≤ n → Takes kind w n (emit row i e)
   final i f w n e l h = wider 1 w n (emit row i e) l (emit-word kind row n e h i f)
 
 -- a pattern has a row at least, and a tuple no fewer than its parts
@@ -197,43 +198,43 @@ module _ (kind : ℕ → ℕ) (declared : (v : ℕ) → 64 ≤ v → kind v ≡ 
   has-any : (v : ℕ) → 1 ≤ kind v → kind v ≤ 9 → T (hasKind kind (asObject v) any)
   has-any v h l = both (ltb v 64) (oneOf any (kind v)) .1 (inside v (λ z. omega arith), any-kind (kind v) h l)
 
-  decode-fits : (v k : ℕ) → kind v ≡ suc k → T (oneOf any (suc k)) → Fits kind (DECODE v)
+  decode-fits : (v k : ℕ) → kind v ≡ suc k → T (oneOf any (suc k)) → InRange kind (DECODE v)
   decode-fits v k e t = record { operands = has v k any e t; cells = tt }
 
-  encode-fits : (v k : ℕ) → kind v ≡ suc k → T (oneOf any (suc k)) → Fits kind (ENCODE v)
+  encode-fits : (v k : ℕ) → kind v ≡ suc k → T (oneOf any (suc k)) → InRange kind (ENCODE v)
   encode-fits v k e t = record { operands = has v k any e t; cells = tt }
 
-  opposite-fits : (k K : ℕ) → kind k ≡ 4 → kind K ≡ 5 → Fits kind (OPPOSITE K k)
+  opposite-fits : (k K : ℕ) → kind k ≡ 4 → kind K ≡ 5 → InRange kind (OPPOSITE K k)
   unfolding oneOf
   opposite-fits k K e f = record { operands = both (hasKind kind (asObject K) (5 ∷ [])) (hasKind kind (asObject k) (4 ∷ [])) .1 (has K 4 (5 ∷ []) f tt, has k 3 (4 ∷ []) e tt); cells = tt }
 
-  load-fits : (i : ℕ) → i ≤ 190 → Fits kind (LOAD (scratch i))
+  load-fits : (i : ℕ) → i ≤ 190 → InRange kind (LOAD (scratch i))
   load-fits i h = record { operands = tt; cells = omega arith }
 
-  store-fits : (i : ℕ) → i ≤ 190 → Fits kind (STORE (scratch i))
+  store-fits : (i : ℕ) → i ≤ 190 → InRange kind (STORE (scratch i))
   store-fits i h = record { operands = tt; cells = omega arith }
 
-  match-fits : (i : ℕ) → i ≤ 190 → Fits kind (MATCH (scratch i))
+  match-fits : (i : ℕ) → i ≤ 190 → InRange kind (MATCH (scratch i))
   match-fits i h = record { operands = tt; cells = omega arith }
 
-  load-named-fits : (r : ℕ) → r < 64 → Fits kind (LOAD (named r))
+  load-named-fits : (r : ℕ) → r < 64 → InRange kind (LOAD (named r))
   load-named-fits r h = record { operands = tt; cells = omega arith }
 
-  verify-fits : (v r : ℕ) → T (oneOf (4 ∷ 6 ∷ []) (kind v)) → r < 64 → Fits kind (VERIFY v (named r))
+  verify-fits : (v r : ℕ) → T (oneOf (4 ∷ 6 ∷ []) (kind v)) → r < 64 → InRange kind (VERIFY v (named r))
   unfolding oneOf
   verify-fits v r t h = record { operands = has-either v 3 5 (4 ∷ 6 ∷ []) t tt tt; cells = omega arith }
 
   cells-fit : (i n : ℕ) → n ≤ 4 → i ≤ 190 → i + n ≤ 191 → T (leb n 4 && leb (scratch i .0 + n) 256)
   cells-fit i n f h g = both (leb n 4) (leb (scratch i .0 + n) 256) .1 (le→leb n 4 f, le→leb (64 + i + n) 256 (omega arith))
 
-  tuple-fits : (t i n : ℕ) → kind t ≡ 10 → n ≤ 4 → i + n ≤ 190 → Fits kind (ANALYZE-TUPLE t (scratch i) n)
+  tuple-fits : (t i n : ℕ) → kind t ≡ 10 → n ≤ 4 → i + n ≤ 190 → InRange kind (ANALYZE-TUPLE t (scratch i) n)
   unfolding oneOf
   tuple-fits t i n e f h = record {
     operands = both (hasKind kind (asObject t) (10 ∷ [])) (leb n 4 && leb (scratch i .0 + n) 256) .1 (has t 9 (10 ∷ []) e tt, cells-fit i n f (omega arith) (omega arith));
     cells = (omega arith, omega arith);
   }
 
-  key-of-fits : Fits kind KEY-OF
+  key-of-fits : InRange kind KEY-OF
   key-of-fits = record { operands = tt; cells = tt }
 
   -- Figure 5: fewer than 8 words and 2 scratch numbers a row. The key of a matched S
@@ -264,7 +265,7 @@ module _ (kind : ℕ → ℕ) (declared : (v : ℕ) → 64 ≤ v → kind v ≡ 
     takes↓ : (p : Pattern) (w n : ℕ) (e : Env) → RightKinds false kind p → RawsBelow 64 p → Packed p → n ≤ 191 → 8 * size p ≤ w + 1 → e .next + 2 * size p ≤ n + 1 → Takes kind w n (compile↓ p e)
     takes↓ (object row v) w n e k r b m l h =
         let (p, q) = both (leb 1 (kind v)) (leb (kind v) 9) .0 k in
-        let f : T (hasKind kind (asObject v) any) = has-any v (is-most _ _ .0 p) (is-most _ _ .0 q) in
+        let f : T (hasKind kind (asObject v) any) = has-any v (at-most _ _ .0 p) (at-most _ _ .0 q) in
         choice kind (e .objects v) w n _ _
         (λ _. first kind row _ (store-fits (e .next) (omega arith)) n w n _ _ (omega arith) (omega arith) λ e₁ h₁.
         first kind row _ (record { operands = f; cells = tt }) n (w - 1) n _ e₁ (omega arith) h₁ λ e₂ h₂.
@@ -377,7 +378,7 @@ module _ (kind : ℕ → ℕ) (declared : (v : ℕ) → 64 ≤ v → kind v ≡ 
     takes↑ (object row v) w n e k r b m l h =
         let (p, q) = both (leb 1 (kind v)) (leb (kind v) 9) .0 k in
         follows kind 1 n w n _ _ (omega arith) (creating-takes row v 1 n e (omega arith) (omega arith)) λ e₁ h₁.
-        final kind row _ (record { operands = has-any v (is-most _ _ .0 p) (is-most _ _ .0 q); cells = tt }) (w - 1) n e₁ (omega arith) h₁
+        final kind row _ (record { operands = has-any v (at-most _ _ .0 p) (at-most _ _ .0 q); cells = tt }) (w - 1) n e₁ (omega arith) h₁
     takes↑ (raw row r) w n e k d b m l h = final kind row _ (load-named-fits r d) w n e (omega arith) (omega arith)
     takes↑ (constant row c x) w n e k r b m l h =
         first kind row _ (record { operands = has c 0 (1 ∷ []) (eqb→eq _ _ k) tt; cells = b }) n w n _ e (omega arith) (omega arith) λ e₁ h₁.
@@ -433,7 +434,7 @@ module _ (kind : ℕ → ℕ) (declared : (v : ℕ) → 64 ≤ v → kind v ≡ 
   pub record InLimits (c : List Line) (e : Env) : Type 0 where
     pub words : length c ≤ 767
     pub scratch-numbers : e .next ≤ 191
-    pub lines : EachFits kind c
+    pub lines : AllInRange kind c
 
   within : (E : Emitted) (c : List Line) (e : Env) → Takes kind 767 191 E → E ≡ ok c e → InLimits c e
   unfolding TakesT

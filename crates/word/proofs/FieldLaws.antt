@@ -1,14 +1,14 @@
 -- Fields put together come apart again, and a number is put together from its fields: for any widths.
 use mathlib.Core.Path.{_≡_, refl, sym, _∙_, ap}
 use mathlib.Core.List.{List, [], _∷_}
-use Prim.Native.Nat.{ℕ, zero, suc, _+_, _*_, _%_, _^_, _<_, _≤_}
-use native.Mathlib.Nat.{mul-assoc, mul-add-div-right, mul-add-mod-self-right, mod-eq-of-lt, mod-one, zero-div, zero-mod}
+use Prim.Native.Nat.{ℕ, zero, suc, _+_, _*_, _/_, _%_, _^_, _<_, _≤_}
+use native.Mathlib.Nat.{mul-assoc, mul-add-div-right, mul-add-mod-self-right, mod-lt, mod-eq-of-lt, mod-one, zero-div, zero-mod}
 use native.Mathlib.Omega.{arith}
 use lib.ListN.{length, take, replicate}
 use lib.Arith.{digits-lt}
 use lib.Pow.{pow-add, pow-pos, mod-pow-add, high}
 use Rattle.word.specs.Fields.{total, split, join}
-use Rattle.word.proofs.LowestLaws.{All}
+use Rattle.word.proofs.All.{All}
 
 -- values that fit their fields, at most as many as there are fields
 abbrev pub Fit : List ℕ → List ℕ → Type 0
@@ -34,7 +34,8 @@ padded-front [] (value ∷ values) fewer = absurd (omega arith)
 padded-front (width ∷ widths) (value ∷ values) fewer = ap (value ∷_) (padded-front widths values (omega arith))
 
 -- values for fields of one width
-pub fit-equal : (width count : ℕ) (values : List ℕ) → length values ≤ count → All (λ value. value < 2 ^ width) values → Fit (replicate count width) values
+pub fit-equal : (width count : ℕ) (values : List ℕ) → length values ≤ count → All (λ value. value < 2 ^ width) values
+    → Fit (replicate count width) values
 fit-equal width count [] fewer below = tt
 fit-equal width zero (value ∷ values) fewer below = absurd (omega arith)
 fit-equal width (suc count) (value ∷ values) fewer below = (below .0, fit-equal width count values (omega arith) (below .1))
@@ -56,6 +57,10 @@ split-above (width ∷ widths) above number =
 split-zero : (widths : List ℕ) → split widths 0 ≡ padded widths []
 split-zero [] = refl
 split-zero (width ∷ widths) = rw (zero-div, zero-mod, split-zero widths)
+
+pub split-fits : (widths : List ℕ) (number : ℕ) → Fit widths (split widths number)
+split-fits [] number = tt
+split-fits (width ∷ widths) number = (mod-lt (number / 2 ^ total widths) (pow-pos width), split-fits widths number)
 
 pub split-join-padded : (widths values : List ℕ) → Fit widths values → split widths (join widths values) ≡ padded widths values
 split-join-padded [] values fit = refl

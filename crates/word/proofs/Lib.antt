@@ -1,3 +1,5 @@
--- Laws of packed fields and of tests over lists.
+-- Laws of packed fields and of tests.
+pub mod All
 pub mod FieldLaws
+pub mod TestLaws
 pub mod LowestLaws

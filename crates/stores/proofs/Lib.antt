@@ -1,0 +1,2 @@
+-- Laws of what a terminal holds.
+pub mod CertificateLaws
