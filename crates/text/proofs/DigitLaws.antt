@@ -1,5 +1,5 @@
--- A number's digits, one way out of the code after another; and how long numbers and lines are.
-use Prim.Native.Nat.{ℕ, zero, suc, _+_, _-_, _/_, _%_, _<_, _≤_}
+-- A number's digits, one way out of the code after another.
+use Prim.Native.Nat.{ℕ, zero, suc, _+_, _-_, _/_, _%_, _^_, _<_, _≤_}
 use mathlib.Core.Path.{_≡_, refl, sym, _∙_, ap}
 use mathlib.Core.Bool.{Bool, true, false}
 use mathlib.Core.List.{List, [], _∷_, _++_}
@@ -21,15 +21,25 @@ unfolding digits
 more-digits zero n h l = absurd (h refl)
 more-digits (suc most) n h l = let e : suc most - 1 ≡ most = omega arith in rw (e, le-ltb n 10 l, digits)
 
+digit-more : (most n bound : ℕ) → length (digits most (n / 10)) ≤ bound → length (digits (suc most) n) ≤ suc bound
+unfolding digits
+digit-more most n bound few = go (ltb n 10)
+  where
+    go : (b : Bool) → length {A = ℕ} (elim b as (λ _. List ℕ) [ true ↦ digit n ∷ [] | false ↦ digits most (n / 10) ++ (digit (n % 10) ∷ []) ]) ≤ suc bound
+    go true = omega arith
+    go false = simp length-append (omega arith)
+
 pub few-digits : (most n : ℕ) → length (digits most n) ≤ most
 unfolding digits
 few-digits zero n = omega arith
-few-digits (suc most) n = go (ltb n 10) (few-digits most (n / 10))
-  where
-    go : (b : Bool) → length (digits most (n / 10)) ≤ most
-        → length {A = ℕ} (elim b as (λ _. List ℕ) [ true ↦ digit n ∷ [] | false ↦ digits most (n / 10) ++ (digit (n % 10) ∷ []) ]) ≤ suc most
-    go true few = omega arith
-    go false few = simp length-append (omega arith)
+few-digits (suc most) n = digit-more most n most (few-digits most (n / 10))
+
+-- a number below a power of ten
+pub digits-below : (most k n : ℕ) → n < 10 ^ suc k → length (digits most n) ≤ suc k
+unfolding digits
+digits-below zero k n l = omega arith
+digits-below (suc most) zero n l = rw (last-digit (suc most) n (λ e. omega arith) l) (omega arith)
+digits-below (suc most) (suc k) n l = digit-more most n (suc k) (digits-below most k (n / 10) (omega arith))
 
 module _ (most n : ℕ) {before : List ℕ} {at : ℕ} where
   pub no-room : most ≡ 0 → Wrote (digits most n) before at before at

@@ -3,9 +3,10 @@ use Prim.Native.Nat.{ℕ, zero, suc, _+_, _<_, _≤_}
 use mathlib.Core.Path.{_≡_, refl, sym, _∙_, ap}
 use mathlib.Core.List.{List, [], _∷_, _++_}
 use native.Mathlib.Nat.{add-zero, add-suc, suc-add}
+use native.Mathlib.Numerals.{add-one}
 use native.Mathlib.Omega.{arith}
-use lib.ListN.{length, set, length-append}
-use lib.Seq.{sets, set-out, length-sets}
+use lib.ListN.{length, getD, take, set, length-append}
+use lib.Seq.{sets, set-out, length-sets, take-suc}
 use Rattle.text.specs.Written.{Wrote}
 
 sets-append : (before text more : List ℕ) (at : ℕ) → sets (sets before at text) (at + length text) more ≡ sets before at (text ++ more)
@@ -30,3 +31,8 @@ wrote-past before at byte h = record { bytes = sym (set-out before at byte h); p
 
 pub wrote-length : {text before after : List ℕ} {at next : ℕ} → Wrote text before at after next → length after ≡ length before
 wrote-length {text} {before} {after} {at} w = ap length (w .bytes) ∙ length-sets before at text
+
+-- one byte more of a text
+pub wrote-more : (text : List ℕ) {before middle after : List ℕ} {at next last : ℕ} (i : ℕ) → i < length text → Wrote (take i text) before at middle next
+    → Wrote (getD text i 0 ∷ []) middle next after last → Wrote (take (i + 1) text) before at after last
+wrote-more text i l f g = rw (add-one, take-suc text i 0) (wrote-then f g)
