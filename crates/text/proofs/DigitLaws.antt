@@ -34,6 +34,9 @@ unfolding digits
 few-digits zero n = omega arith
 few-digits (suc most) n = digit-more most n most (few-digits most (n / 10))
 
+pub digits-end : (most n : ℕ) {before after : List ℕ} {at next : ℕ} → Wrote (digits most n) before at after next → next ≤ at + most
+digits-end most n wrote = omega (arith, wrote .place, few-digits most n)
+
 -- a number below a power of ten
 pub digits-below : (most k n : ℕ) → n < 10 ^ suc k → length (digits most n) ≤ suc k
 unfolding digits

@@ -1,9 +1,9 @@
-use Prim.Native.Nat.{ℕ, _-_, _/_, _<_}
+use Prim.Native.Nat.{ℕ, _<_}
 use native.Mathlib.Omega.{arith}
 use borrow.Author.Needs.{needs}
 use borrow.Fn.Kinds.{In}
 use borrow.Fn.PlainCycle.{Measures, is, falls, and}
-use Rattle.text.proofs.DigitLaws.{few-digits, ways}
+use Rattle.text.proofs.DigitLaws.{digits-end, ways}
 use Rattle.text.proofs.put_digits.Reads as put-digits
 use Rattle.text.proofs.put_digits.Kinds as put-digits-kinds
 use Rattle.text.proofs.+put_digits.Lts-put_digits as lts
@@ -59,8 +59,7 @@ module _ (t : ℕ) where
 
   put-byte-requires-2 : lts.Need-put-byte-requires-2 callees Here put-digits.Post
   put-byte-requires-2 c κs =
-      let here = c .before .before .before .before .before .before .before .before in
-      omega (arith, here .pre, few-digits (here .args .most - 1) (here .args .n / 10))
+      omega (arith, digits-end _ _ (c .before .before .before .put-digits .ensures), c .before .before .before .before .before .before .before .before .pre)
 
   same-length-2 : lts.Need-same-length-2 callees Here put-digits.Post
   same-length-2 c = search needs
