@@ -1,5 +1,6 @@
--- Laws of packed fields and of tests.
+-- Laws of packed fields, of tests and of words in memory.
 pub mod All
+pub mod ByteLaws
 pub mod FieldLaws
 pub mod TestLaws
 pub mod LowestLaws
