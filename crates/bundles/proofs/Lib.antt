@@ -1,0 +1,2 @@
+-- Laws of bundles.
+pub mod OpeningLaws

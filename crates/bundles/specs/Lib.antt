@@ -1,0 +1,2 @@
+-- Bundles taken apart.
+pub mod Opening

@@ -1,0 +1,91 @@
+// A bundle's bytes taken apart.
+ghost use mathlib.Core.Path.{_≡_};
+ghost use Prim.Native.Nat.{_+_};
+ghost use Rattle.theory.specs.Bundle.{headerOf, headerFits};
+ghost use Rattle.bundles.specs.Opening.{held, opened};
+
+pub struct Header {
+    pub create: bool,
+    pub pattern_rows: u16,
+    pub certificates: u16,
+    pub accumulator: u16,
+    pub term_rows: u16,
+    pub counter: u32,
+}
+
+// A bundle with a wrong size, a set spare bit or a count outside its limit is refused.
+pub enum Opened {
+    Refused,
+    Is(Header),
+}
+
+// The header's fields, the most significant first.
+fn header_of(word: u64) -> Header
+    ensures { λ r. ⌜ r ≡ held (headerOf word) ⌝ }
+{
+    let create = word / 0x8000_0000_0000_0000 % 0x2 == 1;
+    let pattern_rows = (word / 0x100_0000_0000_0000 % 0x80) as u16;
+    let certificates = (word / 0x4_0000_0000_0000 % 0x40) as u16;
+    let accumulator = (word / 0x4_0000_0000 % 0x1_0000) as u16;
+    let term_rows = (word / 0x20_0000 % 0x2000) as u16;
+    let counter = (word / 0x10 % 0x2_0000) as u32;
+    Header {
+        create,
+        pattern_rows,
+        certificates,
+        accumulator,
+        term_rows,
+        counter,
+    }
+}
+
+// Spare bits are zero, and counts and the name counter are within their limits.
+fn header_fits(word: u64) -> bool
+    ensures { λ r. ⌜ r ≡ headerFits (headerOf word) ⌝ }
+{
+    let header = header_of(word);
+    if word % 0x10 != 0 {
+        return false;
+    }
+    if header.pattern_rows < 1 {
+        return false;
+    }
+    if header.pattern_rows > 96 {
+        return false;
+    }
+    if header.certificates > 32 {
+        return false;
+    }
+    if header.term_rows > 4096 {
+        return false;
+    }
+    if header.counter > 65536 {
+        return false;
+    }
+    true
+}
+
+// The word at which the kinds begin: after the header, the pattern's rows and the terms'.
+fn kinds_at(header: Header) -> usize
+    ensures { λ r. ⌜ r ≡ 1 + header .«pattern_rows» + header .«term_rows» ⌝ }
+{
+    1 + header.pattern_rows as usize + header.term_rows as usize
+}
+
+pub fn open(bytes: &[u8]) -> Opened
+    ensures { λ r. ⌜ r ≡ opened (now (bytes .entry)) ⌝ }
+{
+    if bytes.len() < 8 {
+        return Opened::Refused;
+    }
+    let word = word::word_at(bytes, 0);
+    if !header_fits(word) {
+        return Opened::Refused;
+    }
+    let header = header_of(word);
+    let words = kinds_at(header) + 36 + header.certificates as usize;
+    if bytes.len() != 8 * words {
+        return Opened::Refused;
+    }
+    Opened::Is(header)
+}
