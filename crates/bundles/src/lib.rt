@@ -1,8 +1,11 @@
 // A bundle's bytes taken apart.
 ghost use mathlib.Core.Path.{_≡_};
-ghost use Prim.Native.Nat.{_+_};
-ghost use Rattle.theory.specs.Bundle.{headerOf, headerFits};
-ghost use Rattle.bundles.specs.Opening.{held, opened};
+ghost use mathlib.Core.List.{_++_};
+ghost use Prim.Native.Nat.{_+_, _*_, _≤_};
+ghost use lib.ListN.{length, take, drop};
+ghost use Rattle.word.specs.Bytes.{elements};
+ghost use Rattle.theory.specs.Bundle.{headerOf, headerFits, cellsOf, kindsOf};
+ghost use Rattle.bundles.specs.Opening.{bundleIn, held, opened};
 
 pub struct Header {
     pub create: bool,
@@ -88,4 +91,37 @@ pub fn open(bytes: &[u8]) -> Opened
         return Opened::Refused;
     }
     Opened::Is(header)
+}
+
+// So many words from a place on, to the front of a slice.
+fn read_words(bytes: &[u8], from: usize, count: usize, rows: &mut [u64])
+    requires { ⌜ (from ≤ 8192) × (8 * (from + count) ≤ length (now bytes)) × (count ≤ length (now rows)) ⌝ }
+    ensures { λ _. ⌜ now (rows .exit) ≡ take count (drop from (elements 8 (now (bytes .entry)))) ++ drop count (now (rows .entry)) ⌝ }
+{
+    let start = 8 * from;
+    let end = start + 8 * count;
+    word::unpack_words(&bytes[start..end], rows);
+}
+
+// The 64 cells of 16 words, to the front of a slice.
+fn read_cells(bytes: &[u8], from: usize, cells: &mut [u16])
+    requires { ⌜ (from ≤ 8192) × (8 * (from + 16) ≤ length (now bytes)) × (64 ≤ length (now cells)) ⌝ }
+    ensures { λ _. ⌜ now (cells .exit) ≡ cellsOf (take 16 (drop from (elements 8 (now (bytes .entry))))) ++ drop 64 (now (cells .entry)) ⌝ }
+{
+    let start = 8 * from;
+    let end = start + 128;
+    word::unpack_pairs(&bytes[start..end], cells);
+}
+
+// The 64 kinds of 4 words: two in a byte.
+fn read_kinds(bytes: &[u8], from: usize, kinds: &mut [u8])
+    requires { ⌜ (from ≤ 8192) × (8 * (from + 4) ≤ length (now bytes)) × (64 ≤ length (now kinds)) ⌝ }
+    ensures { λ _. ⌜ now (kinds .exit) ≡ kindsOf (take 4 (drop from (elements 8 (now (bytes .entry))))) ++ drop 64 (now (kinds .entry)) ⌝ }
+{
+    let start = 8 * from;
+    for place in 0..32 {
+        let byte = bytes[start + place];
+        kinds[2 * place] = byte / 16;
+        kinds[2 * place + 1] = byte % 16;
+    }
 }
