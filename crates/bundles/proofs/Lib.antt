@@ -3,3 +3,6 @@ pub mod OpeningLaws
 pub mod WordLaws
 pub mod CellLaws
 pub mod KindLaws
+pub mod BundleLaws
+pub mod FillLaws
+pub mod ClearLaws

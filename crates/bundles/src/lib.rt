@@ -1,11 +1,13 @@
 // A bundle's bytes taken apart.
 ghost use mathlib.Core.Path.{_≡_};
 ghost use mathlib.Core.List.{_++_};
-ghost use Prim.Native.Nat.{_+_, _*_, _≤_};
-ghost use lib.ListN.{length, take, drop};
+ghost use Prim.Native.Nat.{_+_, _-_, _*_, _≤_};
+ghost use lib.ListN.{length, take, drop, replicate};
 ghost use Rattle.word.specs.Bytes.{elements};
+ghost use Rattle.stores.specs.Cells.{unset};
 ghost use Rattle.theory.specs.Bundle.{headerOf, headerFits, cellsOf, kindsOf};
 ghost use Rattle.bundles.specs.Opening.{bundleIn, held, opened};
+ghost use Rattle.bundles.specs.Clear.{clearOf};
 
 pub struct Header {
     pub create: bool,
@@ -124,4 +126,87 @@ fn read_kinds(bytes: &[u8], from: usize, kinds: &mut [u8])
         kinds[2 * place] = byte / 16;
         kinds[2 * place + 1] = byte % 16;
     }
+}
+
+fn clear(rows: &mut [u64])
+    ensures { λ _. ⌜ now (rows .exit) ≡ replicate (length (now (rows .entry))) 0 ⌝ }
+{
+    for place in 0..rows.len() {
+        rows[place] = 0;
+    }
+}
+
+fn unset_all(cells: &mut [u16])
+    ensures { λ _. ⌜ now (cells .exit) ≡ replicate (length (now (cells .entry))) unset ⌝ }
+{
+    for place in 0..cells.len() {
+        cells[place] = 65535;
+    }
+}
+
+// The parts of a bundle that opened, each to the front of a slice.
+pub fn pattern_rows(bytes: &[u8], header: Header, rows: &mut [u64])
+    requires { ⌜ (opened (now bytes) ≡ Opened.Is header) × (header .«pattern_rows» ≤ length (now rows)) ⌝ }
+    ensures { λ _. ⌜ now (rows .exit) ≡ bundleIn (now (bytes .entry)) .pattern ++ drop (header .«pattern_rows») (now (rows .entry)) ⌝ }
+{
+    let count = header.pattern_rows as usize;
+    read_words(bytes, 1, count, rows);
+}
+
+// Zero rows after the bundle's.
+pub fn term_rows(bytes: &[u8], header: Header, rows: &mut [u64])
+    requires { ⌜ (opened (now bytes) ≡ Opened.Is header) × (header .«term_rows» ≤ length (now rows)) ⌝ }
+    ensures { λ _. ⌜ now (rows .exit) ≡ bundleIn (now (bytes .entry)) .terms ++ replicate (length (now (rows .entry)) - header .«term_rows») 0 ⌝ }
+{
+    let from = 1 + header.pattern_rows as usize;
+    let count = header.term_rows as usize;
+    read_words(bytes, from, count, rows);
+    clear(&mut rows[count..]);
+}
+
+pub fn kinds(bytes: &[u8], header: Header, kinds: &mut [u8])
+    requires { ⌜ (opened (now bytes) ≡ Opened.Is header) × (64 ≤ length (now kinds)) ⌝ }
+    ensures { λ _. ⌜ now (kinds .exit) ≡ bundleIn (now (bytes .entry)) .kinds ++ drop 64 (now (kinds .entry)) ⌝ }
+{
+    let from = kinds_at(header);
+    read_kinds(bytes, from, kinds);
+}
+
+pub fn object_cells(bytes: &[u8], header: Header, cells: &mut [u16])
+    requires { ⌜ (opened (now bytes) ≡ Opened.Is header) × (64 ≤ length (now cells)) ⌝ }
+    ensures { λ _. ⌜ now (cells .exit) ≡ bundleIn (now (bytes .entry)) .objects ++ drop 64 (now (cells .entry)) ⌝ }
+{
+    let from = kinds_at(header) + 4;
+    read_cells(bytes, from, cells);
+}
+
+// The named cells, and after them unset ones.
+pub fn message_cells(bytes: &[u8], header: Header, cells: &mut [u16])
+    requires { ⌜ (opened (now bytes) ≡ Opened.Is header) × (64 ≤ length (now cells)) ⌝ }
+    ensures { λ _. ⌜ now (cells .exit) ≡ bundleIn (now (bytes .entry)) .named ++ replicate (length (now (cells .entry)) - 64) unset ⌝ }
+{
+    let from = kinds_at(header) + 20;
+    read_cells(bytes, from, cells);
+    unset_all(&mut cells[64..]);
+}
+
+pub fn certificates(bytes: &[u8], header: Header, certificates: &mut [u64])
+    requires { ⌜ (opened (now bytes) ≡ Opened.Is header) × (header .certificates ≤ length (now certificates)) ⌝ }
+    ensures { λ _. ⌜ now (certificates .exit) ≡ bundleIn (now (bytes .entry)) .certificates ++ drop (header .certificates) (now (certificates .entry)) ⌝ }
+{
+    let from = kinds_at(header) + 36;
+    let count = header.certificates as usize;
+    read_words(bytes, from, count, certificates);
+}
+
+// No spare bit of a certificate is set.
+pub fn certificates_clear(certificates: &[u64]) -> bool
+    ensures { λ r. ⌜ r ≡ clearOf (now (certificates .entry)) ⌝ }
+{
+    for place in 0..certificates.len() {
+        if certificates[place] % 0x100_0000_0000 != 0 {
+            return false;
+        }
+    }
+    true
 }
