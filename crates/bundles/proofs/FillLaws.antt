@@ -1,7 +1,7 @@
 -- A slice filled with one value, place after place.
 use Prim.Native.Nat.{ℕ, _+_, _-_, _<_, _≤_}
 use mathlib.Core.Path.{_≡_, refl, _∙_, ap}
-use mathlib.Core.List.{List, [], _++_, append-nil}
+use mathlib.Core.List.{List, _++_, append-nil}
 use native.Mathlib.Omega.{arith}
 use borrow.Author.Fill.{fill-more}
 use borrow.Rule.Slice.PartMut.{midOf, putMid}

@@ -2,28 +2,31 @@
 use Prim.Native.Nat.{ℕ, suc, _+_, _-_, _*_, _/_, _%_, _<_, _≤_}
 use mathlib.Core.Path.{_≡_, refl, sym, _∙_, ap}
 use mathlib.Core.Logic.{_↔_}
-use mathlib.Core.Bool.{Bool, true, false, not, _&&_, and-false}
-use mathlib.Core.Option.{none, some}
+use mathlib.Core.Bool.{Bool, true, false, not, _&&_}
+use mathlib.Core.Option.{some}
 use mathlib.Core.List.{List}
 use native.Mathlib.Omega.{arith}
-use borrow.Author.Tests.{not-true, not-false, ne-eqb, eq-eqb}
-use lib.Dec.{T, eqb}
+use borrow.Author.Tests.{not-true, not-false}
+use lib.Dec.{T}
 use lib.ListN.{length, getD, take, drop}
 use Rattle.word.specs.Bytes.{number, words, elements}
 use Rattle.word.proofs.TestLaws.{both, equals, at-most}
+use Rattle.theory.specs.Compile.{mostPatternRows}
+use Rattle.theory.specs.RowModel.{mostNames}
+use Rattle.theory.specs.Run.{mostCertificates, mostTermRows}
 use Rattle.theory.specs.Bundle.{headerOf, headerFits, sizeFits, wordsIn, bundleBy, readBundle}
 use Rattle.theory.specs.Bundle as theory
-use Rattle.bundles.specs.Opening.{headerIn, bundleIn, held, openedBy, opened}
+use Rattle.bundles.specs.Opening.{headerIn, bundleIn, held, kindsAt, openedBy, opened}
 use Rattle.bundles.specs.declared.Header.{Header}
 use Rattle.bundles.specs.declared.Opened.the-variants.{Refused, Is}
 
 -- the spare bits are zero, and counts and the name counter are within their limits
 pub record Limits (h : theory.Header) : Type 0 where
   pub spare : h .spare ≡ 0
-  pub pattern : (1 ≤ h .patternRows) × (h .patternRows ≤ 96)
-  pub certificates : h .certificates ≤ 32
-  pub terms : h .termRows ≤ 4096
-  pub counter : h .counter ≤ 65536
+  pub pattern : (1 ≤ h .patternRows) × (h .patternRows ≤ mostPatternRows)
+  pub certificates : h .certificates ≤ mostCertificates
+  pub terms : h .termRows ≤ mostTermRows
+  pub counter : h .counter ≤ mostNames
 
 pub limits : (h : theory.Header) → T (headerFits h) ↔ Limits h
 limits h =
@@ -81,7 +84,7 @@ module _ (word : ℕ) {header : Header} (is : header ≡ held (headerOf word)) w
       in
       is-true _ (limits _ .1 at)
 
-pub ruleset within-ways = (spare-set, no-rows, many-rows, many-certificates, many-terms, high-counter, within)
+pub ruleset within-ways = (spare-set, no-rows, many-rows, many-certificates, many-terms, high-counter, within, arith)
 
 -- a bundle that opens: its header is within limits and its size exact
 pub record Whole (bytes : List ℕ) : Type 0 where
@@ -135,7 +138,7 @@ module _ (bytes : List ℕ) {word : ℕ} (long : 8 ≤ length bytes) (is : word 
   bad-header {good} e bad =
       refuses bytes λ w. let f : headerFits (headerIn bytes) ≡ false = ap headerFits the-header ∙ sym e ∙ not-true good bad in rw f at (limits _ .1 (w .limits))
 
-  module _ {header : Header} {kinds : ℕ} (of : header ≡ held (headerOf word)) (at : kinds ≡ 1 + header .«pattern_rows» + header .«term_rows») where
+  module _ {header : Header} {kinds : ℕ} (of : header ≡ held (headerOf word)) (at : kinds ≡ kindsAt header) where
     same-size : kinds + 36 + header .certificates ≡ wordsIn (headerIn bytes)
     same-size = rw (ap wordsIn the-header, at, of) (omega arith)
 
@@ -149,4 +152,4 @@ module _ (bytes : List ℕ) {word : ℕ} (long : 8 ≤ length bytes) (is : word 
         ap Is (of ∙ ap held (sym the-header))
         ∙ opens bytes (record { limits = limits _ .0 (rw t tt); size = size ∙ ap (8 *_) same-size })
 
-pub ruleset opening-ways = (too-short, bad-header, wrong-size, right-size)
+pub ruleset opening-ways = (too-short, bad-header, wrong-size, right-size, arith)

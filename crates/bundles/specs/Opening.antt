@@ -1,5 +1,5 @@
 -- A bundle's bytes, opened: the header as the code holds it.
-use Prim.Native.Nat.{ℕ}
+use Prim.Native.Nat.{ℕ, _+_}
 use mathlib.Core.Option.{Option, none, some}
 use mathlib.Core.List.{List}
 use lib.ListN.{drop, getD}
@@ -19,6 +19,7 @@ headerIn bytes = headerOf (getD (elements wordBytes bytes) 0 0)
 abbrev pub bundleIn : List ℕ → Bundle
 bundleIn bytes = bundleOf (headerIn bytes) (drop 1 (elements wordBytes bytes))
 
+-- a header as the code holds it
 abbrev pub held : theory.Header → Header
 held h = record {
   create = eqb (h .create) 1;
@@ -29,9 +30,14 @@ held h = record {
   counter = h .counter;
 }
 
+-- the word at which the kinds begin
+abbrev pub kindsAt : Header → ℕ
+kindsAt header = 1 + header .«pattern_rows» + header .«term_rows»
+
 abbrev pub openedBy : Option Bundle → theory.Header → Opened
 openedBy none h = Refused
 openedBy (some b) h = Is (held h)
 
+-- refused exactly where no bundle is read
 unfoldable pub opened : List ℕ → Opened
 opened bytes = openedBy (readBundle bytes) (headerIn bytes)

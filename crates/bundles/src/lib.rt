@@ -6,7 +6,7 @@ ghost use lib.ListN.{length, take, drop, replicate};
 ghost use Rattle.word.specs.Bytes.{elements};
 ghost use Rattle.stores.specs.Cells.{unset};
 ghost use Rattle.theory.specs.Bundle.{headerOf, headerFits, cellsOf, kindsOf};
-ghost use Rattle.bundles.specs.Opening.{bundleIn, held, opened};
+ghost use Rattle.bundles.specs.Opening.{bundleIn, held, kindsAt, opened};
 ghost use Rattle.bundles.specs.Clear.{clearOf};
 
 pub struct Header {
@@ -70,9 +70,9 @@ fn header_fits(word: u64) -> bool
     true
 }
 
-// The word at which the kinds begin: after the header, the pattern's rows and the terms'.
+// The header, the pattern's rows and the terms' come before the kinds.
 fn kinds_at(header: Header) -> usize
-    ensures { λ r. ⌜ r ≡ 1 + header .«pattern_rows» + header .«term_rows» ⌝ }
+    ensures { λ r. ⌜ r ≡ kindsAt header ⌝ }
 {
     1 + header.pattern_rows as usize + header.term_rows as usize
 }

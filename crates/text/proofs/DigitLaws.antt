@@ -1,6 +1,6 @@
 -- A number's digits, one way out of the code after another.
 use Prim.Native.Nat.{ℕ, zero, suc, _+_, _-_, _/_, _%_, _^_, _<_, _≤_}
-use mathlib.Core.Path.{_≡_, refl, sym, _∙_, ap}
+use mathlib.Core.Path.{_≡_, refl}
 use mathlib.Core.Bool.{Bool, true, false}
 use mathlib.Core.List.{List, [], _∷_, _++_}
 use native.Mathlib.Omega.{arith}
@@ -57,4 +57,4 @@ module _ (most n : ℕ) {before : List ℕ} {at : ℕ} where
       → Wrote (digit (n % 10) ∷ []) middle next after last → Wrote (digits most n) before at after last
   put-more some large high low = rw (more-digits most n some large) (wrote-then high low)
 
-pub ruleset ways = (no-room, put-last, put-more)
+pub ruleset ways = (no-room, put-last, put-more, arith)
