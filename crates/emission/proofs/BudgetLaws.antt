@@ -10,6 +10,7 @@ use Rattle.emission.specs.Budget.{patternIn, Row, RowAt}
 
 mutual
   unfolding size count
+
   pub size-pos : (p : Pattern) → 1 ≤ size p
   size-pos (object row v) = omega arith
   size-pos (raw row r) = omega arith
