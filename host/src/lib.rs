@@ -1,9 +1,12 @@
 //! The archive's two C entries as safe functions over byte slices, and what tests and measures them.
 //! Lengths are in bytes, fields stand high byte first; `include/cram.h` describes every parameter.
 pub mod case;
+pub mod compare;
+pub mod generator;
 pub mod input;
 pub mod limits;
 pub mod plain;
+pub mod worked;
 
 /// What compile answers.
 #[repr(C)]

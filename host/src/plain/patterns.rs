@@ -28,7 +28,7 @@ pub struct Form {
     pub r: u8,
     pub n: usize,
     pub children: [u8; 4],
-    spare: u8,
+    pub spare: u8,
 }
 
 impl Form {
@@ -48,7 +48,8 @@ impl Form {
     }
 
     pub fn pack(&self) -> u64 {
-        let head = [(self.tag, 60), (self.v, 54), (self.f, 52), (self.x, 44), (self.y, 38), (self.r, 32), (self.n as u8, 29)];
+        let head =
+            [(self.tag, 60), (self.v, 54), (self.f, 52), (self.x, 44), (self.y, 38), (self.r, 32), (self.n as u8, 29)];
         let children = [(self.children[0], 22), (self.children[1], 15), (self.children[2], 8), (self.children[3], 1)];
         head.iter().chain(&children).fold(self.spare as u64, |row, &(field, low)| row | (field as u64) << low)
     }
