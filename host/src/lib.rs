@@ -2,10 +2,13 @@
 //! Lengths are in bytes, fields stand high byte first; `include/cram.h` describes every parameter.
 pub mod case;
 pub mod compare;
+pub mod examples;
 pub mod generator;
 pub mod input;
 pub mod limits;
+pub mod measured;
 pub mod plain;
+pub mod stack;
 pub mod worked;
 
 /// What compile answers.

@@ -1,11 +1,10 @@
 //! The worked cases of document 01, for any engine: P1 to P10, the listing, and those tried by program.
 use crate::case::figure1::{bound, constant, encrypted, key_of, object, raw, tuple, Key};
 use crate::case::Case;
-use crate::limits::{CODE_WORDS, NAMES, PATTERN_ROWS, TERM_ROWS, UNSET};
+use crate::limits::{CODE_WORDS, NAMED, NAMES, PATTERN_ROWS, TERM_ROWS, UNSET};
 use crate::plain::code::{
     Word, ANALYZE_TUPLE, CREATE, DECODE, ENCODE, ENCRYPT, HASHING, LOAD, OPPOSITE, STORE, STORE_CONST,
 };
-use crate::plain::patterns::Form;
 use crate::plain::terms::{atom, compound, AGENT, BYTE, ENCRYPTION, HASH, NONCE, PRIVATE, PUBLIC, TUPLE};
 use crate::{plain, Compiled, Engine, Ran};
 
@@ -23,8 +22,15 @@ o 1 2
 m 0 1
 ";
 
-/// Each case by its name.
-pub const CASES: [(&str, fn(&Engine)); 15] = [
+/// Tries each case.
+pub fn hold(engine: &Engine) {
+    for (name, case) in CASES {
+        println!("{}", name);
+        case(engine);
+    }
+}
+
+const CASES: [(&str, fn(&Engine)); 15] = [
     ("P1 the listing's code", p1),
     ("P2 a created encryption", p2),
     ("P3 scratch of an inner and an outer tuple", p3),
@@ -207,27 +213,28 @@ fn listing(engine: &Engine) {
     assert_eq!(String::from_utf8(text).unwrap(), GREETING);
 }
 
-/// Creating nested pairs of new nonces, as wide as a pattern of `rows` rows can be.
-fn nested_pairs(rows: usize) -> Case {
-    let mut case = Case::new(true);
-    case.pattern.push(tuple(0, &[]));
+/// Pairs in pairs, each of a pair and the nonce n63: a pattern of any number of rows up to 125.
+pub fn nested_pairs(create: bool, rows: u8) -> Case {
+    let mut case = Case::new(create);
+    case.pattern = vec![tuple(0, &[])];
     for row in 1..rows {
-        let last = row as u8 - 1;
-        let form: Form = if row % 2 == 1 { object(63) } else { tuple(row as u8 / 2, &[last - 1, last]) };
-        case.pattern.push(form);
+        case.pattern.push(match (row % 2, row + 1 == rows) {
+            (0, _) => tuple(row / 2, &[row - 2, row - 1]),
+            (_, false) => object(63),
+            (_, true) => tuple(row / 2 + 1, &[row - 1]),
+        });
     }
-    if rows % 2 == 0 {
-        case.pattern[rows - 1] = tuple(rows as u8 / 2, &[rows as u8 - 2]);
-    }
-    case.kinds = [TUPLE; 64];
+    case.kinds = [TUPLE; NAMED];
     case.kinds[63] = NONCE;
     case
 }
 
 fn rows_at_the_limit(engine: &Engine) {
-    let compiled = nested_pairs(PATTERN_ROWS).lend_compile(CODE_WORDS).call(engine);
-    assert_eq!(compiled.number, 0);
-    refuses(engine, &nested_pairs(PATTERN_ROWS + 1), 1, 0);
+    let most = PATTERN_ROWS as u8;
+    for create in [false, true] {
+        assert_eq!(nested_pairs(create, most).lend_compile(CODE_WORDS).call(engine).number, 0);
+        refuses(engine, &nested_pairs(create, most + 1), 1, 0);
+    }
 }
 
 fn slice_one_short(engine: &Engine) {

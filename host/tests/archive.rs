@@ -3,14 +3,16 @@
 use cram_host::compare::Tally;
 use cram_host::generator::{self, Random};
 use cram_host::plain::patterns::{ENCRYPTED, LET, OBJECT, SIGNED};
-use cram_host::{worked, ARCHIVE};
+use cram_host::{examples, worked, ARCHIVE};
 
 #[test]
 fn worked_cases() {
-    for (name, case) in worked::CASES {
-        println!("{}", name);
-        case(&ARCHIVE);
-    }
+    worked::hold(&ARCHIVE);
+}
+
+#[test]
+fn kept_examples() {
+    examples::are_kept(&ARCHIVE);
 }
 
 /// Makes `inputs` inputs from a seed and compares each.
