@@ -23,7 +23,7 @@ fn on_painted_stack(mut call: &mut dyn FnMut()) -> usize {
             "call {enter}",
             "mov rsp, r12",
             top = in(reg) top,
-            enter = in(reg) enter as usize,
+            enter = in(reg) enter as *const () as usize,
             in("rdi") argument,
             out("r12") _,
             clobber_abi("C"),

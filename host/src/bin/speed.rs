@@ -1,21 +1,27 @@
 //! Times the archive against the second implementation, in one run, and measures the archive's stack.
 use cram_host::{measured, plain, stack, Engine, ARCHIVE};
-use std::time::Instant;
 
 /// Each figure is the median of so many samples.
 const SAMPLES: usize = 101;
 /// A sample lasts about so long, so that the clock's own cost does not show.
-const SAMPLE_NANOSECONDS: u128 = 50_000;
+const SAMPLE_NANOSECONDS: f64 = 100_000.0;
 const MOST_COPIES: usize = 256;
 
+extern "C" {
+    fn clock_gettime(clock: i32, time: *mut [i64; 2]) -> i32;
+}
+
+/// Nanoseconds of processor time of this thread, so that other work on the machine does not count.
+fn processor_time() -> i64 {
+    const THREAD: i32 = 3;
+    let mut time = [0; 2];
+    assert_eq!(unsafe { clock_gettime(THREAD, &mut time) }, 0);
+    1_000_000_000 * time[0] + time[1]
+}
+
 fn main() {
-    println!(
-        "Nanoseconds a call, medians of {} samples, the two taking turns. Before each call, outside of the",
-        SAMPLES
-    );
-    println!(
-        "clock, the lent buffers are written anew from the same input; nothing else is cleared. Built with -O3.\n"
-    );
+    println!("Nanoseconds of processor time a call, medians of {} samples, the two taking turns, at -O3.", SAMPLES);
+    println!("Every call gets buffers of its own, written before the clock starts; nothing is cleared in between.\n");
     println!("{:<45}{:>12}{:>12}{:>8}", "", "archive", "plain Rust", "ratio");
     for (name, lent) in measured::compiles() {
         print(name, medians(&lent, |lent, engine| lent.call(engine).place));
@@ -62,7 +68,7 @@ fn medians<T: Clone>(lent: &T, call: fn(&mut T, &Engine) -> u32) -> [f64; 2] {
 }
 
 fn copies_for_a_sample<T: Clone>(lent: &T, engine: &Engine, call: fn(&mut T, &Engine) -> u32) -> usize {
-    let once = sample(lent, engine, call, 4).max(1.0) as u128;
+    let once = sample(lent, engine, call, 4);
     ((SAMPLE_NANOSECONDS / once) as usize).clamp(1, MOST_COPIES)
 }
 
@@ -70,11 +76,11 @@ fn copies_for_a_sample<T: Clone>(lent: &T, engine: &Engine, call: fn(&mut T, &En
 fn sample<T: Clone>(lent: &T, engine: &Engine, call: fn(&mut T, &Engine) -> u32, copies: usize) -> f64 {
     let mut fresh = vec![lent.clone(); copies];
     let mut places = 0u32;
-    let start = Instant::now();
+    let start = processor_time();
     for lent in &mut fresh {
         places = places.wrapping_add(call(lent, engine));
     }
-    let taken = start.elapsed().as_nanos() as f64 / copies as f64;
+    let taken = (processor_time() - start) as f64 / copies as f64;
     // A use of the answers that no optimiser takes away.
     unsafe { std::ptr::read_volatile(&places) };
     taken

@@ -18,7 +18,17 @@ pub const PLAIN_KEY: u8 = 0;
 pub const OPPOSITE_KEY: u8 = 1;
 pub const KEY_OF_KEY: u8 = 2;
 
-#[derive(Clone, Copy, Debug, Default, PartialEq)]
+const TAG: u64 = 15 << 60;
+const V: u64 = 63 << 54;
+const F: u64 = 3 << 52;
+const X: u64 = 255 << 44;
+const Y: u64 = 63 << 38;
+const R: u64 = 63 << 32;
+const N: u64 = 7 << 29;
+/// By how many children there are.
+const CHILDREN: [u64; 5] = [0, 127 << 22, 16383 << 15, 2097151 << 8, 268435455 << 1];
+
+#[derive(Clone, Copy, Debug, Default)]
 pub struct Form {
     pub tag: u8,
     pub v: u8,
@@ -28,7 +38,6 @@ pub struct Form {
     pub r: u8,
     pub n: usize,
     pub children: [u8; 4],
-    pub spare: u8,
 }
 
 impl Form {
@@ -43,48 +52,44 @@ impl Form {
             r: part(26, 6),
             n: part(32, 3) as usize,
             children: [part(35, 7), part(42, 7), part(49, 7), part(56, 7)],
-            spare: part(63, 1),
         }
     }
 
     pub fn pack(&self) -> u64 {
-        let head =
+        let fields =
             [(self.tag, 60), (self.v, 54), (self.f, 52), (self.x, 44), (self.y, 38), (self.r, 32), (self.n as u8, 29)];
         let children = [(self.children[0], 22), (self.children[1], 15), (self.children[2], 8), (self.children[3], 1)];
-        head.iter().chain(&children).fold(self.spare as u64, |row, &(field, low)| row | (field as u64) << low)
+        fields.iter().chain(&children).fold(0, |row, &(field, low)| row | (field as u64) << low)
     }
 
-    fn good_in_itself(&self, at: usize) -> bool {
-        let key_used = self.tag == ENCRYPTED || self.tag == SIGNED;
-        let counted = match self.tag {
+    /// The bits that the form's fields take.
+    fn used_bits(&self) -> u64 {
+        let key = F | X | if self.f == PLAIN_KEY { 0 } else { Y };
+        let fields = match self.tag {
+            OBJECT | PARTS => V,
+            RAW | LET => R,
+            CONSTANT => V | X,
+            OPPOSITE | KEY_OF => V | Y,
+            ENCRYPTED => V | key,
+            SIGNED => V | key | R,
+            _ => V | R,
+        };
+        TAG | fields | N | CHILDREN[self.n]
+    }
+
+    fn counted(&self) -> bool {
+        match self.tag {
             OBJECT..=KEY_OF | SIGNED | HASHED => self.n == 0,
             ENCRYPTED => self.n == 1,
             PARTS => self.n <= 4,
             LET => self.n == 2,
             _ => false,
-        };
-        counted
-            && *self == self.with_used_fields(key_used)
-            && !(key_used && (self.f > KEY_OF_KEY || self.x > 63))
-            && self.children[..self.n].iter().all(|&child| (child as usize) < at)
+        }
     }
 
-    /// The form with zero in each field that its tag leaves unused.
-    fn with_used_fields(&self, key_used: bool) -> Form {
-        let keep = |used: bool, field: u8| if used { field } else { 0 };
-        let tag = self.tag;
-        let mut children = [0; 4];
-        children[..self.n].copy_from_slice(&self.children[..self.n]);
-        Form {
-            v: keep(tag != RAW && tag != LET, self.v),
-            f: keep(key_used, self.f),
-            x: keep(key_used || tag == CONSTANT, self.x),
-            y: keep(tag == OPPOSITE || tag == KEY_OF || (key_used && self.f != PLAIN_KEY), self.y),
-            r: keep(matches!(tag, RAW | SIGNED | HASHED | LET), self.r),
-            children,
-            spare: 0,
-            ..*self
-        }
+    fn key_given(&self) -> bool {
+        let has_key = self.tag == ENCRYPTED || self.tag == SIGNED;
+        !has_key || (self.f <= KEY_OF_KEY && self.x <= 63)
     }
 
     fn kinds_fit(&self, create: bool, kinds: &[u8]) -> bool {
@@ -118,8 +123,10 @@ pub fn first_bad(pattern: &[u8]) -> Option<usize> {
     let rows = pattern.len() / 8;
     let mut taken = 0u128;
     for at in 0..rows {
-        let form = Form::unpack(row(pattern, at));
-        if !form.good_in_itself(at) {
+        let packed = row(pattern, at);
+        let form = Form::unpack(packed);
+        let whole = form.counted() && packed & !form.used_bits() == 0 && form.key_given();
+        if !whole || !form.children[..form.n].iter().all(|&child| (child as usize) < at) {
             return Some(at);
         }
         for &child in &form.children[..form.n] {
@@ -129,12 +136,8 @@ pub fn first_bad(pattern: &[u8]) -> Option<usize> {
             taken |= 1 << child;
         }
     }
-    let named = taken.trailing_ones() as usize;
-    if named < rows - 1 {
-        Some(named)
-    } else {
-        None
-    }
+    let unnamed = taken.trailing_ones() as usize;
+    Some(unnamed).filter(|&row| row < rows - 1)
 }
 
 /// The lowest row with a variable of the wrong kind.

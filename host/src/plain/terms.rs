@@ -43,14 +43,14 @@ pub fn compound(tag: u8, n: usize, parts: &[u16]) -> u64 {
 
 /// The rows before the first zero row.
 pub fn used(terms: &[u8]) -> usize {
-    terms.chunks_exact(8).position(|row| row == [0; 8]).unwrap_or(terms.len() / 8)
+    first(terms, |row| row == 0).unwrap_or(terms.len() / 8)
 }
 
 /// The lowest row that breaks a rule.
 pub fn first_bad(terms: &[u8], counter: u32) -> Option<usize> {
     let used = used(terms);
     let broken = (0..used).find(|&at| !shaped(terms, at, counter) || find(&terms[..8 * at], row(terms, at)).is_some());
-    broken.or_else(|| terms[8 * used..].chunks_exact(8).position(|row| row != [0; 8]).map(|i| used + i))
+    broken.or_else(|| first(&terms[8 * used..], |row| row != 0).map(|i| used + i))
 }
 
 /// Whether a row is what its used fields pack to, and those are within their bounds.
@@ -82,19 +82,19 @@ fn key_is(terms: &[u8], term: u64, own: u8) -> bool {
     key == own || key == SHARED
 }
 
-/// Where an equal row stands. A block is compared without leaving it, so that the comparisons go several at a time.
 fn find(terms: &[u8], term: u64) -> Option<usize> {
-    const BLOCK: usize = 8 * 16;
-    let wanted = term.to_be_bytes();
-    let blocks = terms.chunks_exact(BLOCK);
-    let rest = blocks.remainder();
-    let place = |block: &[u8]| block.chunks_exact(8).position(|row| row == wanted);
-    for (b, block) in blocks.enumerate() {
-        if block.chunks_exact(8).fold(false, |hit, row| hit | (row == wanted)) {
-            return place(block).map(|i| b * BLOCK / 8 + i);
-        }
-    }
-    place(rest).map(|i| (terms.len() - rest.len()) / 8 + i)
+    let wanted = term.to_be();
+    first(terms, |row| row == wanted)
+}
+
+/// The first row that passes a test, which sees it in the machine's own byte order.
+/// A block is tested without leaving it, so that the tests go several at a time.
+fn first(terms: &[u8], test: impl Fn(u64) -> bool) -> Option<usize> {
+    const BLOCK: usize = 8 * 32;
+    let passes = |row: &[u8]| test(u64::from_ne_bytes(row.try_into().unwrap()));
+    let some = |block: &[u8]| block.chunks_exact(8).fold(false, |some, row| some | passes(row));
+    let from = BLOCK * terms.chunks_exact(BLOCK).position(some).unwrap_or(terms.len() / BLOCK);
+    terms[from..].chunks_exact(8).position(passes).map(|i| from / 8 + i)
 }
 
 /// A table that passed its check, during a run.
