@@ -14,23 +14,25 @@ use crate::plain;
 use crate::plain::terms::{atom, AGENT};
 
 /// Valid stores and a pattern for them.
-pub fn case(random: &mut Random) -> Case {
+fn case(random: &mut Random) -> Case {
     let mut case = stores::stores(random);
     patterns::write(random, &mut case);
     case
 }
 
-/// Stores and a pattern of about as many rows as there can be.
-pub fn large_case(random: &mut Random) -> Case {
-    let rows = PATTERN_ROWS + 1 - random.below(12);
-    let create = random.one_in(2);
-    patterns::write_large(random, create, rows)
+/// Mostly a case as above, and sometimes one with about as many rows as there can be, or one more.
+fn any_case(random: &mut Random) -> Case {
+    if random.one_in(32) {
+        let rows = PATTERN_ROWS + 1 - random.below(12);
+        let create = random.one_in(2);
+        return patterns::write_large(random, create, rows);
+    }
+    case(random)
 }
 
 /// A compile: in half of the calls damaged, with a slice about as long as its code or longer.
 pub fn compile(random: &mut Random) -> CompileInput {
-    let case = if random.one_in(32) { large_case(random) } else { case(random) };
-    let mut lent = case.lend_compile(CODE_WORDS);
+    let mut lent = any_case(random).lend_compile(CODE_WORDS);
     if random.one_in(2) {
         damage::compile(random, &mut lent);
     }
@@ -47,10 +49,19 @@ pub fn compile(random: &mut Random) -> CompileInput {
     lent
 }
 
+/// A case that compiles, and its code.
+fn compiled(random: &mut Random) -> (Case, Vec<u8>) {
+    loop {
+        let case = any_case(random);
+        if let Ok(code) = case.lend_compile(CODE_WORDS).words(&plain::ENGINE) {
+            return (case, code);
+        }
+    }
+}
+
 /// A run of compiled code, on the stores it was compiled for or on others.
 pub fn compiled_run(random: &mut Random) -> RunInput {
-    let case = if random.one_in(32) { large_case(random) } else { case(random) };
-    let code = case.lend_compile(CODE_WORDS).words(&plain::ENGINE).unwrap_or_default();
+    let (case, code) = compiled(random);
     let rows = table_length(random, case.terms.len());
     let case = match random.below(12) {
         0 => stores::other_terms(random, &case),
@@ -81,7 +92,7 @@ pub fn direct_run(random: &mut Random) -> RunInput {
     lent
 }
 
-/// A run over 4,096 used rows, some of them wrong: the costly inputs, so that a test takes few.
+/// A run over 4,096 used rows, some of them wrong, with up to 33 certificates: costly, so that a test takes few.
 pub fn full_run(random: &mut Random) -> RunInput {
     let mut case = stores::stores(random);
     let rows = table_length(random, case.terms.len());
@@ -89,6 +100,7 @@ pub fn full_run(random: &mut Random) -> RunInput {
     let first = 1000 + random.below(1000) as u64;
     let agents = (first..).map(|i| atom(AGENT, i)).take(TERM_ROWS - case.terms.len());
     case.terms.extend(agents);
+    stores::add_certificates(random, &mut case);
     let mut lent = case.lend_run(TERM_ROWS, &code);
     match random.below(4) {
         0 => damage::late_row(random, &mut lent),

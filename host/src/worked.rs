@@ -30,7 +30,9 @@ pub fn hold(engine: &Engine) {
     }
 }
 
-const CASES: [(&str, fn(&Engine)); 15] = [
+type Named = (&'static str, fn(&Engine));
+
+const CASES: [Named; 15] = [
     ("P1 the listing's code", p1),
     ("P2 a created encryption", p2),
     ("P3 scratch of an inner and an outer tuple", p3),

@@ -27,6 +27,22 @@ pub fn write(random: &mut Random, case: &mut Case) {
     case.pattern = in_any_order(random, &rows, root);
 }
 
+fn add(rows: &mut Vec<Form>, form: Form) -> u8 {
+    rows.push(form);
+    (rows.len() - 1) as u8
+}
+
+/// Shares `rows` rows out over `n` parts, each at least one.
+fn shares(random: &mut Random, rows: usize, n: usize) -> Vec<usize> {
+    let mut shares = vec![1; n];
+    if n > 0 {
+        for _ in n..rows {
+            shares[random.below(n)] += 1;
+        }
+    }
+    shares
+}
+
 /// A case whose pattern has `rows` rows: tuples of every width, names and one nonce that is in every cell.
 pub fn write_large(random: &mut Random, create: bool, rows: usize) -> Case {
     let mut case = Case::new(create);
@@ -54,8 +70,7 @@ struct Tree<'a> {
 
 impl Tree<'_> {
     fn add(&mut self, form: Form) -> u8 {
-        self.rows.push(form);
-        (self.rows.len() - 1) as u8
+        add(&mut self.rows, form)
     }
 
     /// Exactly `size` rows: the owner's number and the term's row.
@@ -77,10 +92,7 @@ impl Tree<'_> {
 
     fn tuple(&mut self, size: usize) -> (u8, u16) {
         let n = if self.random.one_in(12) { 1 } else { 2 + self.random.below(3) }.min(size - 1);
-        let mut shares = vec![1; n];
-        for _ in n + 1..size {
-            shares[self.random.below(n)] += 1;
-        }
+        let shares = shares(self.random, size - 1, n);
         let t = self.tuples;
         self.tuples = (t + 1).min(NAMED as u8 - 1);
         let (parts, terms): (Vec<u8>, Vec<u16>) = shares.into_iter().map(|share| self.grow(share)).unzip();
@@ -113,8 +125,7 @@ struct Author<'a> {
 
 impl Author<'_> {
     fn add(&mut self, form: Form) -> u8 {
-        self.rows.push(form);
-        (self.rows.len() - 1) as u8
+        add(&mut self.rows, form)
     }
 
     fn term(&self, row: u16) -> u64 {
@@ -145,18 +156,6 @@ impl Author<'_> {
     fn set(&mut self, v: u8, term: u16) -> u8 {
         self.objects[v as usize] = term;
         v
-    }
-
-    /// Shares `rows` out over `n` parts, each at least one.
-    fn shares(&mut self, rows: usize, n: usize) -> Vec<usize> {
-        let mut shares = vec![1; n];
-        for _ in n..rows {
-            let part = self.random.below(2 * n);
-            if part < n {
-                shares[part] += 1;
-            }
-        }
-        shares
     }
 }
 
@@ -193,7 +192,7 @@ impl Author<'_> {
 
     fn matching_let(&mut self, term: u16, size: usize, wanted: Option<u8>) -> Option<u8> {
         let r = self.raw(Cell::Unset)?;
-        let shares = self.shares(size - 1, 2);
+        let shares = shares(self.random, size - 1, 2);
         let second = self.matching(term, shares[1], Some(r));
         // A name that the second part set as well would be wanted twice.
         let first = self.matching(self.named[r as usize], shares[0], wanted.filter(|&w| w != r));
@@ -208,7 +207,7 @@ impl Author<'_> {
         }
         let t = self.object(&[TUPLE], Cell::Unset)?;
         self.set(t, term);
-        let shares = self.shares(size - 1, n);
+        let shares = shares(self.random, size - 1, n);
         let holder = self.random.below(n);
         let parts: Vec<u8> =
             (0..n).map(|i| self.matching(part(row, i), shares[i], wanted.filter(|_| i == holder))).collect();
@@ -233,13 +232,13 @@ impl Author<'_> {
 
     fn matching_leaf(&mut self, term: u16) -> Form {
         let own = match tag(self.term(term)) {
+            _ if self.random.one_in(4) => None,
             BYTE => self.matching_constant(term),
             PUBLIC => self.matching_key(term),
             SIGNATURE => self.matching_signature(term),
             HASH => self.matching_hash(term),
             _ => None,
         };
-        let own = own.filter(|_| !self.random.one_in(4));
         own.or_else(|| self.matching_variable(term)).unwrap_or_else(|| raw(self.random.below(NAMED) as u8))
     }
 
@@ -406,7 +405,7 @@ impl Author<'_> {
     fn creating_tuple(&mut self, size: usize) -> Option<Form> {
         self.object(&[TUPLE], Cell::Unset)?;
         let n = self.random.below(5).min(size - 1);
-        let shares = self.shares(size - 1, n);
+        let shares = shares(self.random, size - 1, n);
         let parts: Vec<u8> = shares.iter().map(|&share| self.creating(share)).collect();
         let t = self.object(&[TUPLE], Cell::Unset).unwrap_or(0);
         Some(tuple(self.set(t, MADE), &parts))
@@ -416,7 +415,7 @@ impl Author<'_> {
         if size < 3 {
             return None;
         }
-        let shares = self.shares(size - 1, 2);
+        let shares = shares(self.random, size - 1, 2);
         let first = self.creating(shares[0]);
         let r = self.raw(Cell::Unset).unwrap_or(0);
         self.named[r as usize] = MADE;

@@ -68,7 +68,7 @@ pub fn other_value(random: &mut Random, case: &Case) -> Case {
         Some(&term) => row_tagged(random, case, &[tag(term)]).unwrap_or(row),
         None => row,
     };
-    match random.below(4) {
+    match random.below(5) {
         0 => other.accumulator = same_tag(random, case.accumulator),
         1 => other.objects = case.objects.map(|row| if random.one_in(3) { same_tag(random, row) } else { row }),
         2 => other.messages = case.messages.map(|row| if random.one_in(3) { same_tag(random, row) } else { row }),
@@ -112,17 +112,15 @@ fn any_body(random: &mut Random, case: &Case) -> u16 {
     }
 }
 
-/// Certificates for some of the agents.
-fn add_certificates(random: &mut Random, case: &mut Case) {
+/// Certificates for some of the agents, one too many where there are agents enough.
+pub fn add_certificates(random: &mut Random, case: &mut Case) {
     case.certificates.clear();
     let agents = (0..case.terms.len()).filter(|&at| tag(case.terms[at]) == AGENT);
-    for agent in agents.take(CERTIFICATES) {
-        if let Some(key) = row_tagged(random, case, &[PUBLIC]) {
-            if !random.one_in(4) {
-                case.certificates.push((agent as u16, key));
-            }
-        }
+    for agent in agents.take(2 * CERTIFICATES) {
+        let key = row_tagged(random, case, &[PUBLIC]);
+        case.certificates.extend(key.filter(|_| !random.one_in(4)).map(|key| (agent as u16, key)));
     }
+    case.certificates.truncate(CERTIFICATES + random.below(2));
 }
 
 /// Any used row, or unset where there is none.
