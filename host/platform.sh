@@ -15,7 +15,7 @@ install_packages() {
         exit 2
     fi
     case $* in *:amd64*) dpkg --add-architecture amd64 ;; esac
-    { apt-get update -qq && DEBIAN_FRONTEND=noninteractive apt-get install -y -qq "$@"; } >&2 || exit 2
+    { apt-get update -qq && DEBIAN_FRONTEND=noninteractive apt-get install -y -qq --no-install-recommends "$@"; } >&2 || exit 2
 }
 
 set_up_emulator() {
@@ -33,7 +33,7 @@ set_up_compilers() {
     fi
     cc=x86_64-linux-gnu-gcc cargo=/usr/bin/cargo
     if ! has $cc || [ ! -x $cargo ] || [ ! -d /usr/lib/rustlib/x86_64-unknown-linux-gnu ]; then
-        install_packages cargo rustc libstd-rust-dev:amd64 libc6-dev:amd64 gcc-x86-64-linux-gnu
+        install_packages cargo rustc libstd-rust-dev:amd64 libc6-dev:amd64 libc6-dev-amd64-cross gcc-x86-64-linux-gnu
     fi
     export RUSTC=/usr/bin/rustc
     export CARGO_BUILD_TARGET=x86_64-unknown-linux-gnu

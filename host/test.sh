@@ -49,15 +49,11 @@ program_tests() {
     count $wrong 'listing of bundles made from a seed'
 }
 
-set_up_compilers
 made_by "$archive" rt staticlib cram
+if [ -d "$top/crates/listing" ]; then made_by "$top/target/bin/listing" rt check listing; fi
+set_up_compilers
 rust_tests
 c_test
-if [ -d "$top/crates/listing" ]; then
-    made_by "$top/target/bin/listing" rt check listing
-    program_tests
-else
-    echo 'host: there is no program listing yet'
-fi
+if [ -d "$top/crates/listing" ]; then program_tests; else echo 'host: there is no program listing yet'; fi
 echo "host: $passed passed, $failed failed"
 [ "$failed" -eq 0 ]
