@@ -5,6 +5,7 @@ mod patterns;
 mod random;
 mod stores;
 
+pub use damage::flip_bit;
 pub use random::Random;
 
 use crate::case::Case;

@@ -16,6 +16,11 @@ impl CompileInput {
         (engine.compile)(self.create, &self.pattern, &self.kinds, &self.objects, &self.named, &mut self.code)
     }
 
+    /// What is lent to be read.
+    pub fn slices(&mut self) -> [&mut Vec<u8>; 4] {
+        [&mut self.pattern, &mut self.kinds, &mut self.objects, &mut self.named]
+    }
+
     /// The words that compile writes, or its refusal.
     pub fn words(&self, engine: &Engine) -> Result<Vec<u8>, Compiled> {
         let mut lent = self.clone();
@@ -41,6 +46,11 @@ pub struct RunInput {
 }
 
 impl RunInput {
+    pub fn slices(&mut self) -> [&mut Vec<u8>; 6] {
+        let RunInput { kinds, objects, messages, certificates, terms, code, .. } = self;
+        [kinds, objects, messages, certificates, terms, code]
+    }
+
     pub fn call(&mut self, engine: &Engine) -> Ran {
         (engine.run)(
             &self.kinds,

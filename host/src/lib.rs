@@ -2,6 +2,7 @@
 //! Lengths are in bytes, fields stand high byte first; `include/cram.h` describes every parameter.
 pub mod case;
 pub mod compare;
+pub mod every;
 pub mod examples;
 pub mod generator;
 pub mod input;

@@ -1,9 +1,11 @@
 //! The archive against the worked cases, and against the second implementation on inputs made from seeds.
 //! Each test also asserts that its inputs met what they are meant to meet.
 use cram_host::compare::Tally;
-use cram_host::generator::{self, Random};
+use cram_host::every::every_form;
+use cram_host::generator::{self, flip_bit, Random};
+use cram_host::limits::CODE_WORDS;
 use cram_host::plain::patterns::{ENCRYPTED, LET, OBJECT, SIGNED};
-use cram_host::{examples, worked, ARCHIVE};
+use cram_host::{examples, plain, worked, ARCHIVE};
 
 #[test]
 fn worked_cases() {
@@ -67,6 +69,35 @@ fn runs_of_compiled_code() {
 #[test]
 fn runs_of_any_code() {
     assert_runs_met(&tally(3, 40_000, generator::direct_run, Tally::run));
+}
+
+/// Compares an input and then all that differ from it in one bit.
+fn with_each_bit<T: Clone>(lent: &T, flip: fn(&mut T, usize) -> bool, mut compare: impl FnMut(&T)) {
+    compare(lent);
+    for bit in 0.. {
+        let mut flipped = lent.clone();
+        if !flip(&mut flipped, bit) {
+            break;
+        }
+        compare(&flipped);
+    }
+}
+
+/// Around inputs that have every form and every operation and are done.
+#[test]
+fn every_bit() {
+    let mut tally = Tally::default();
+    for create in [false, true] {
+        let case = every_form(create);
+        let compile = case.lend_compile(CODE_WORDS);
+        let run = case.lend_run(case.terms.len() + 32, &compile.words(&plain::ENGINE).unwrap());
+        assert_eq!(run.clone().call(&plain::ENGINE).number, 0);
+        with_each_bit(&compile, |lent, bit| flip_bit(lent.slices(), bit), |lent| tally.compile(lent));
+        with_each_bit(&run, |lent, bit| flip_bit(lent.slices(), bit), |lent| tally.run(lent));
+    }
+    println!("{:?}", tally);
+    assert_met("words of an operation", &tally.operations[2..], 100);
+    assert_met("rows of a form", &by_direction(&tally).flatten().collect::<Vec<usize>>(), 100);
 }
 
 #[test]

@@ -18,10 +18,7 @@ pub fn compile(random: &mut Random, lent: &mut CompileInput) {
             let rows = random.one_of(&[0, 1, PATTERN_ROWS, PATTERN_ROWS + 1]);
             lent.pattern.resize(8 * rows, 0);
         }
-        _ => {
-            let lengths = [&mut lent.pattern, &mut lent.kinds, &mut lent.objects, &mut lent.named];
-            change_length(random, lengths);
-        }
+        _ => change_length(random, lent.slices()),
     }
 }
 
@@ -48,17 +45,7 @@ pub fn run(random: &mut Random, lent: &mut RunInput) {
             lent.code.resize(4 * words, 0);
         }
         18 => lent.terms.truncate(8 * random.below(lent.terms.len() / 8 + 1)),
-        _ => {
-            let lengths = [
-                &mut lent.kinds,
-                &mut lent.objects,
-                &mut lent.messages,
-                &mut lent.certificates,
-                &mut lent.terms,
-                &mut lent.code,
-            ];
-            change_length(random, lengths);
-        }
+        _ => change_length(random, lent.slices()),
     }
 }
 
@@ -86,6 +73,18 @@ pub fn bundle(random: &mut Random, bundle: &mut Vec<u8>) {
         }
         _ => flip(random, bundle, 8),
     }
+}
+
+/// Changes one bit, counted from the first slice on; false where there are not so many.
+pub fn flip_bit<const N: usize>(slices: [&mut Vec<u8>; N], mut bit: usize) -> bool {
+    for slice in slices {
+        if bit < 8 * slice.len() {
+            slice[bit / 8] ^= 128 >> (bit % 8);
+            return true;
+        }
+        bit -= 8 * slice.len();
+    }
+    false
 }
 
 /// Changes a bit of one of the elements of `width` bytes.

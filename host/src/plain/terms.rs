@@ -31,7 +31,7 @@ pub fn number(row: u64) -> u64 {
 }
 
 /// A byte, an agent or a name.
-pub fn atom(tag: u8, number: u64) -> u64 {
+pub const fn atom(tag: u8, number: u64) -> u64 {
     (tag as u64) << 60 | number
 }
 
