@@ -90,7 +90,7 @@ static void greeting(void)
     expect(memcmp(t.code + 24, given.code + 24, 8) == 0, "later words stay");
 
     given = t;
-    expect(ended(run(&t, CRAM_UNSET, 4, 6), CRAM_STUCK, 0, CRAM_READS_UNSET, 3, 4, CRAM_UNSET), "no message");
+    expect(ended(run(&t, CRAM_UNSET, 4, 6), CRAM_STUCK, 0, CRAM_OPERAND_UNSET, 3, 4, CRAM_UNSET), "no message");
     expect(ended(run(&t, 0, 4, 6), CRAM_STUCK, 0, CRAM_OTHER_KIND, 3, 4, 0), "a nonce is no tuple");
     expect(ended(run(&t, 2, 3, 6), CRAM_BAD_TERM, 0, 0, 3, 3, 2), "a nonce at the counter");
     expect(ended(run(&t, 65536 + 2, 4, 6), CRAM_BAD_STORE, 0, 0, 3, 4, 65536 + 2), "an accumulator that is no row");
@@ -111,7 +111,7 @@ static void refusal(void)
     t.kinds[0] = 1;
     t.kinds[1] = 10;
     struct cram_compiled c = compile(&t, 0, pattern, 3, 8);
-    expect(c.number == CRAM_WRITTEN && c.place == 1, "a constant written twice");
+    expect(c.number == CRAM_WRITTEN_SET && c.place == 1, "a constant written twice");
     c = cram_compile(0, pattern, 23, t.kinds, sizeof t.kinds, t.objects, sizeof t.objects, t.messages,
                      2 * CRAM_VARIABLES, t.code, sizeof t.code);
     expect(c.number == CRAM_LIMIT && c.place == 0, "a slice that is not whole rows");

@@ -49,6 +49,18 @@
  *     10 OPPOSITE K k     11 KEY OF           12 MATCH r          13 ENCRYPT v
  *     14 DECRYPT v        15 SIGN v           16 VERIFY v r       17 HASH h
  *   For 8 and 9, B is the first of n consecutive message cells, n is at most 4 and B + n at most 256.
+ *
+ * Matching a message in short, where the slices are as cram_compile and cram_run below have them:
+ *
+ *   struct cram_compiled c = cram_compile(0, pattern, 8 * rows, kinds, 64, objects, 128, messages, 128, code, 3072);
+ *   if (c.number == CRAM_DONE) {
+ *       struct cram_ran r = cram_run(kinds, 64, objects, 128, messages, 512, certificates, 8 * certified, message,
+ *                                    terms, 32768, counter, code, 4 * c.place);
+ *       if (r.number == CRAM_DONE) { ... the variables are in objects and messages, and counter = r.counter ... }
+ *   }
+ *
+ * The named cells are the first 128 bytes of the message cells. For creating, pass 1 and CRAM_UNSET as the message; the
+ * created message is then r.accumulator.
  */
 #ifndef CRAM_H
 #define CRAM_H
@@ -78,8 +90,8 @@ enum {
     CRAM_BAD_STORE = 3,      /* a kind above 10, or a bad cell, certificate or accumulator; place 0 */
     CRAM_BAD_PATTERN = 4,    /* compile: a bad pattern row; place: see cram_compile */
     CRAM_WRONG_KIND = 5,     /* compile: a variable of the wrong kind; place: the lowest such pattern row */
-    CRAM_WRITTEN = 6,        /* compile: a variable would be written while set; place: the pattern row */
-    CRAM_UNREAD = 7,         /* compile: a variable would be read while unset; place: the pattern row */
+    CRAM_WRITTEN_SET = 6,    /* compile: a variable would be written while set; place: the pattern row */
+    CRAM_READ_UNSET = 7,     /* compile: a variable would be read while unset; place: the pattern row */
     CRAM_SHORT = 8,          /* compile: the code slice is too short; place: words needed */
     CRAM_BAD_WORD = 9,       /* run: a bad code word; place: the lowest such word */
     CRAM_STUCK = 10,         /* run: the word at this place cannot be run; the reason says why */
@@ -88,7 +100,7 @@ enum {
 
 /* Why a run is stuck. The reason is 0 with every other number. */
 enum {
-    CRAM_READS_UNSET = 1,    /* an operand or an accumulator that the word reads is unset */
+    CRAM_OPERAND_UNSET = 1,  /* an operand or an accumulator that the word reads is unset */
     CRAM_OTHER_KIND = 2,     /* DECODE of a message of another kind */
     CRAM_DIFFERS = 3,        /* MATCH of two different messages */
     CRAM_PART_COUNT = 4,     /* ANALYZE TUPLE of a tuple with another number of parts */

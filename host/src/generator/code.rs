@@ -90,7 +90,8 @@ fn object(random: &mut Random, kinds: &[u8], wanted: &[u8]) -> Option<u8> {
     random.pick(&fitting)
 }
 
-/// Few cells, so that what one word writes another reads.
+/// Mostly one of few cells, so that what one word writes another reads.
 fn message(random: &mut Random) -> u8 {
-    random.one_of(&[0, 1, 2, 3, 63, 64, 65, 66, 128, 252, 254, 255])
+    let any = random.byte();
+    random.one_of(&[0, 1, 2, 3, 63, 64, 65, 66, 252, 254, 255, any])
 }

@@ -112,7 +112,7 @@ fn any_body(random: &mut Random, case: &Case) -> u16 {
     }
 }
 
-/// Certificates for some of the agents, one too many where there are agents enough.
+/// Certificates for some of the agents, and seldom one too many.
 pub fn add_certificates(random: &mut Random, case: &mut Case) {
     case.certificates.clear();
     let agents = (0..case.terms.len()).filter(|&at| tag(case.terms[at]) == AGENT);
@@ -120,7 +120,7 @@ pub fn add_certificates(random: &mut Random, case: &mut Case) {
         let key = row_tagged(random, case, &[PUBLIC]);
         case.certificates.extend(key.filter(|_| !random.one_in(4)).map(|key| (agent as u16, key)));
     }
-    case.certificates.truncate(CERTIFICATES + random.below(2));
+    case.certificates.truncate(CERTIFICATES + random.one_in(8) as usize);
 }
 
 /// Any used row, or unset where there is none.
