@@ -15,7 +15,8 @@ install_packages() {
         exit 2
     fi
     case $* in *:amd64*) dpkg --add-architecture amd64 ;; esac
-    { apt-get update -qq && DEBIAN_FRONTEND=noninteractive apt-get install -y -qq --no-install-recommends "$@"; } >&2 || exit 2
+    export DEBIAN_FRONTEND=noninteractive
+    { apt-get update -qq && apt-get install -y -qq --no-install-recommends "$@"; } >&2 || exit 2
 }
 
 set_up_emulator() {
@@ -45,7 +46,10 @@ set_up_compilers() {
 made_by() { # FILE COMMAND..
     made=$1
     shift
-    if [ -e "$made" ] && [ -z "$(find "$top/crates.txt" "$top/crates" -newer "$made" -type f | head -n 1)" ]; then return 0; fi
+    if [ -e "$made" ]; then
+        newer=$(find "$top/crates.txt" "$top/crates" -newer "$made" -type f | head -n 1)
+        [ -n "$newer" ] || return 0
+    fi
     if ! has rt; then
         echo "the Rattle kit's command rt is not on the PATH" >&2
         exit 2

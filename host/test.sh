@@ -17,7 +17,9 @@ count() { # STATUS NAME
 run_cargo() { (cd "$here" && CARGO_TARGET_DIR=$out "$cargo" "$@"); }
 
 # Tests of one kind, from cargo's lines 'test result: ..'.
-total() { awk -v word="$1" '/^test result: / { for (i = 2; i <= NF; i++) if ($i == word ";") n += $(i - 1) } END { print n + 0 }' "$out/log"; }
+total() { # WORD
+    sed -n "s/^test result: .* \([0-9]*\) $1;.*/\1/p" "$out/log" | awk '{ n += $1 } END { print n + 0 }'
+}
 
 rust_tests() {
     run_cargo test --offline --release >"$out/log" 2>&1
@@ -49,11 +51,20 @@ program_tests() {
     count $wrong 'listing of bundles made from a seed'
 }
 
-made_by "$archive" rt staticlib cram
-if [ -d "$top/crates/listing" ]; then made_by "$top/target/bin/listing" rt check listing; fi
-set_up_compilers
-rust_tests
-c_test
-if [ -d "$top/crates/listing" ]; then program_tests; else echo 'host: there is no program listing yet'; fi
+has_program() { [ -d "$top/crates/listing" ]; }
+
+made() {
+    made_by "$archive" rt staticlib cram || return 1
+    if has_program; then made_by "$top/target/bin/listing" rt check listing; fi
+}
+
+if made; then
+    set_up_compilers
+    rust_tests
+    c_test
+    if has_program; then program_tests; else echo 'host: there is no program listing yet'; fi
+else
+    count 1 'the making of the archive and the program'
+fi
 echo "host: $passed passed, $failed failed"
 [ "$failed" -eq 0 ]

@@ -43,7 +43,8 @@ static unsigned cell(const uint8_t *cells, size_t at)
     return 256u * cells[2 * at] + cells[2 * at + 1];
 }
 
-static struct cram_compiled compile(struct terminal *t, uint8_t create, const uint8_t *pattern, size_t rows, size_t words)
+static struct cram_compiled compile(struct terminal *t, uint8_t create, const uint8_t *pattern, size_t rows,
+                                    size_t words)
 {
     return cram_compile(create, pattern, 8 * rows, t->kinds, sizeof t->kinds, t->objects, sizeof t->objects,
                         t->messages, 2 * CRAM_VARIABLES, t->code, 4 * words);
@@ -126,7 +127,8 @@ static void out_of_names(void)
     t.kinds[0] = 2;
     struct cram_compiled c = compile(&t, 1, pattern, 1, 8);
     expect(c.number == CRAM_DONE && c.place == 2, "a nonce is created and encoded");
-    expect(ended(run(&t, CRAM_UNSET, CRAM_COUNTER, 2), CRAM_NO_ROOM, 0, 0, 0, CRAM_COUNTER, CRAM_UNSET), "no name left");
+    expect(ended(run(&t, CRAM_UNSET, CRAM_COUNTER, 2), CRAM_NO_ROOM, 0, 0, 0, CRAM_COUNTER, CRAM_UNSET),
+           "no name left");
     expect(ended(run(&t, CRAM_UNSET, CRAM_COUNTER + 1, 2), CRAM_LIMIT, 0, 0, 0, CRAM_COUNTER + 1, CRAM_UNSET),
            "a counter above its limit");
     expect(ended(run(&t, CRAM_UNSET, CRAM_COUNTER - 1, 2), CRAM_DONE, 2, 0, 1, CRAM_COUNTER, 0), "the last name");

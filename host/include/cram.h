@@ -95,7 +95,7 @@ enum {
     CRAM_SHORT = 8,          /* compile: the code slice is too short; place: words needed */
     CRAM_BAD_WORD = 9,       /* run: a bad code word; place: the lowest such word */
     CRAM_STUCK = 10,         /* run: the word at this place cannot be run; the reason says why */
-    CRAM_NO_ROOM = 11        /* run: a new row is needed and none is unused, or CREATE at counter 65536; place: the word */
+    CRAM_NO_ROOM = 11        /* run: a new row is needed and none is unused, or CREATE at counter 65536; place: word */
 };
 
 /* Why a run is stuck. The reason is 0 with every other number. */
