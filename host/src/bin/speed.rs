@@ -1,0 +1,87 @@
+//! Times the archive against the second implementation, in one run, and measures the archive's stack.
+use cram_host::{measured, plain, stack, Engine, ARCHIVE};
+
+/// Each figure is the median of so many samples.
+const SAMPLES: usize = 101;
+/// A sample lasts about so long, so that the clock's own cost does not show.
+const SAMPLE_NANOSECONDS: f64 = 100_000.0;
+const MOST_COPIES: usize = 256;
+
+extern "C" {
+    fn clock_gettime(clock: i32, time: *mut [i64; 2]) -> i32;
+}
+
+/// Nanoseconds of processor time of this thread, so that other work on the machine does not count.
+fn processor_time() -> i64 {
+    const THREAD: i32 = 3;
+    let mut time = [0; 2];
+    assert_eq!(unsafe { clock_gettime(THREAD, &mut time) }, 0);
+    1_000_000_000 * time[0] + time[1]
+}
+
+fn main() {
+    println!("Nanoseconds of processor time a call, medians of {} samples, the two taking turns, at -O3.", SAMPLES);
+    println!("Every call gets buffers of its own, written before the clock starts; nothing is cleared in between.\n");
+    println!("{:<45}{:>12}{:>12}{:>8}", "", "archive", "plain Rust", "ratio");
+    for (name, lent) in measured::compiles() {
+        print(name, medians(&lent, |lent, engine| lent.call(engine).place));
+    }
+    let mut base = [0.0; 2];
+    for (name, lent) in measured::runs() {
+        let times = medians(&lent, |lent, engine| lent.call(engine).place);
+        print(name, times);
+        if name == measured::FULL_TABLE {
+            base = times;
+        }
+        if name == measured::SEARCHES {
+            let words = (lent.code.len() / 4) as f64;
+            print("  of which one search over 4,096 rows", [0, 1].map(|i| (times[i] - base[i]) / words));
+        }
+    }
+    println!("\nBytes of stack, by painting it before the call:");
+    for (name, mut lent) in measured::compiles() {
+        println!("{:<45}{:>12}", name, stack::taken_by(|| lent.call(&ARCHIVE)));
+    }
+    for (name, mut lent) in measured::runs() {
+        println!("{:<45}{:>12}", name, stack::taken_by(|| lent.call(&ARCHIVE)));
+    }
+}
+
+fn print(name: &str, [ours, theirs]: [f64; 2]) {
+    println!("{:<45}{:>12.0}{:>12.0}{:>8.2}", name, ours, theirs, ours / theirs);
+}
+
+/// The time of a call by the archive and by plain Rust.
+fn medians<T: Clone>(lent: &T, call: fn(&mut T, &Engine) -> u32) -> [f64; 2] {
+    let engines = [ARCHIVE, plain::ENGINE];
+    let copies = copies_for_a_sample(lent, &engines[1], call);
+    let mut samples = [Vec::new(), Vec::new()];
+    for _ in 0..SAMPLES {
+        for (engine, samples) in engines.iter().zip(&mut samples) {
+            samples.push(sample(lent, engine, call, copies));
+        }
+    }
+    samples.map(|mut samples| {
+        samples.sort_by(f64::total_cmp);
+        samples[SAMPLES / 2]
+    })
+}
+
+fn copies_for_a_sample<T: Clone>(lent: &T, engine: &Engine, call: fn(&mut T, &Engine) -> u32) -> usize {
+    let once = sample(lent, engine, call, 4);
+    ((SAMPLE_NANOSECONDS / once) as usize).clamp(1, MOST_COPIES)
+}
+
+/// The time of a call, from calls on fresh copies one after another.
+fn sample<T: Clone>(lent: &T, engine: &Engine, call: fn(&mut T, &Engine) -> u32, copies: usize) -> f64 {
+    let mut fresh = vec![lent.clone(); copies];
+    let mut places = 0u32;
+    let start = processor_time();
+    for lent in &mut fresh {
+        places = places.wrapping_add(call(lent, engine));
+    }
+    let taken = (processor_time() - start) as f64 / copies as f64;
+    // A use of the answers that no optimiser takes away.
+    unsafe { std::ptr::read_volatile(&places) };
+    taken
+}

@@ -1,0 +1,70 @@
+#!/bin/sh
+# Builds and runs all host tests: Rust and C over the archive, and the program `listing` on the kept examples and on
+# bundles made from a seed. The last line is 'host: N passed, M failed'.
+set -u
+here=$(cd "$(dirname "$0")" && pwd -P)
+top=$(dirname "$here")
+# shellcheck source-path=SCRIPTDIR source=platform.sh
+. "$here/platform.sh"
+out=$top/target/host
+mkdir -p "$out/bundles"
+passed=0 failed=0
+
+count() { # STATUS NAME
+    if [ "$1" -eq 0 ]; then passed=$((passed + 1)); else failed=$((failed + 1)) && echo "host: $2 FAILED"; fi
+}
+
+run_cargo() { (cd "$here" && CARGO_TARGET_DIR=$out "$cargo" "$@"); }
+
+# Tests of one kind, from cargo's lines 'test result: ..'.
+total() { # WORD
+    sed -n "s/^test result: .* \([0-9]*\) $1;.*/\1/p" "$out/log" | awk '{ n += $1 } END { print n + 0 }'
+}
+
+rust_tests() {
+    run_cargo test --offline --release >"$out/log" 2>&1
+    status=$?
+    cat "$out/log"
+    passed=$((passed + $(total passed))) failed=$((failed + $(total failed)))
+    if [ "$status" -ne 0 ] && [ "$(total failed)" -eq 0 ]; then count 1 'the build of the Rust tests'; fi
+}
+
+c_test() {
+    $cc -std=c99 -O2 -Wall -Wextra -Werror -I"$here/include" "$here/c/calls.c" "$archive" -o "$out/calls" &&
+        $emulator "$out/calls"
+    count $? 'the C program'
+}
+
+lists() { # BUNDLE
+    $emulator "$top/target/bin/listing" <"$1" | cmp - "${1%.bundle}.listing"
+}
+
+program_tests() {
+    for bundle in "$top"/examples/*.bundle; do
+        lists "$bundle"
+        count $? "listing of $(basename "$bundle")"
+    done
+    run_cargo run --offline --release --quiet --bin bundles -- generated "$out/bundles" 300
+    count $? 'the writing of bundles'
+    wrong=0
+    for bundle in "$out"/bundles/*.bundle; do lists "$bundle" || wrong=1; done
+    count $wrong 'listing of bundles made from a seed'
+}
+
+has_program() { [ -d "$top/crates/listing" ]; }
+
+made() {
+    made_by "$archive" rt staticlib cram || return 1
+    if has_program; then made_by "$top/target/bin/listing" rt check listing; fi
+}
+
+if made; then
+    set_up_compilers
+    rust_tests
+    c_test
+    if has_program; then program_tests; else echo 'host: there is no program listing yet'; fi
+else
+    count 1 'the making of the archive and the program'
+fi
+echo "host: $passed passed, $failed failed"
+[ "$failed" -eq 0 ]
