@@ -40,7 +40,7 @@ module _ (W : World) (kind : ℕ → ℕ) (place : ℕ) where
   moved-messages other s b zero = refl
   moved-messages other s b (suc n) = simp (moves, moved-messages other s (suc b) n)
 
-  moved-step : (other : ℕ) (i : Instruction) (s : State W) → movedTo place (step W kind other i s) ≡ step W kind place i s
+  pub moved-step : (other : ℕ) (i : Instruction) (s : State W) → movedTo place (step W kind other i s) ≡ step W kind place i s
   moved-step other (Load r) s = simp moves
   moved-step other (Store r) s = simp moves
   moved-step other (StoreConst c b) s = simp moves

@@ -1,0 +1,8 @@
+-- Laws of a run.
+pub mod ClearLaws
+pub mod CopyLaws
+pub mod CellLaws
+pub mod WordLaws
+pub mod GoingLaws
+pub mod LookLaws
+pub mod Coincide

@@ -1,0 +1,161 @@
+-- What is found before the steps: each check in its order, and what their passing leaves true.
+use Prim.Native.Nat.{ℕ, _<_, _≤_}
+use mathlib.Core.Path.{_≡_, refl, sym, _∙_, ap, subst}
+use mathlib.Core.Logic.{_↔_}
+use mathlib.Core.Bool.{Bool, true, false, not, _&&_, _||_}
+use mathlib.Core.Option.{Option, none, some}
+use mathlib.Core.List.{List, [], _∷_}
+use native.Mathlib.Omega.{arith}
+use lib.Dec.{T, eqb, leb, ltb}
+use lib.ListN.{length}
+use Rattle.word.proofs.TestLaws.{equals, is-below, at-most}
+use Rattle.answers.specs.declared.Ran.{Ran}
+use Rattle.answers.specs.declared.Ran.the-variants.{Limit, BadTerm, BadStore, BadWord}
+use Rattle.code.specs.Words.{badWord}
+use Rattle.terms.specs.Rules.{usedRows, badTerm, checkedBy}
+use Rattle.terms.specs.declared.Checked.{Checked}
+use Rattle.terms.specs.declared.Checked.the-variants.{Bad, Used}
+use Rattle.terms.proofs.TableLaws.{valid-table, used-rows}
+use Rattle.stores.specs.Valid.{cellFits, valid}
+use Rattle.theory.specs.Compile.{first, kindIn}
+use Rattle.theory.specs.Run.{Lent, RunOutcome, unchanged, lengthsFit, refusals, runBy, run}
+use Rattle.theory.proofs.CompileLaws.{first-none, when-none, map-none}
+use Rattle.theory.proofs.ValidLent.{stores-parts}
+use Rattle.running.specs.Steps.{Ready, findingOf}
+use Rattle.running.specs.declared.Finding.{Finding}
+use Rattle.running.specs.declared.Finding.the-variants.{Refused, Accepted}
+
+pub true-holds : {b : Bool} → b ≡ true → T b
+true-holds e = rw e tt
+
+-- the table's check
+module _ (rows : List ℕ) {answer : Checked} where
+  pub checked-bad : (o : Option ℕ) {row : ℕ} → answer ≡ checkedBy o rows → answer ≡ Bad row → o ≡ some row
+  checked-bad (some other) e q = cc
+  checked-bad none e q = absurd (let z : _≡_ {A = ℕ} 0 1 = cc in omega arith)
+
+  pub checked-used : (o : Option ℕ) {count : ℕ} → answer ≡ checkedBy o rows → answer ≡ Used count → (o ≡ none) × (count ≡ usedRows rows)
+  checked-used none e q = (refl, cc)
+  checked-used (some other) e q = absurd (let z : _≡_ {A = ℕ} 0 1 = cc in omega arith)
+
+module _ (rows : List ℕ) where
+  pub found-some : (o : Option Ran) {answer : Ran} → Refused answer ≡ findingOf o rows → o ≡ some answer
+  found-some (some other) e = cc
+  found-some none e = absurd (let z : _≡_ {A = ℕ} 0 1 = cc in omega arith)
+
+  pub found-none : (o : Option Ran) {used : ℕ} → Accepted used ≡ findingOf o rows → (o ≡ none) × (used ≡ usedRows rows)
+  found-none none e = (refl, cc)
+  found-none (some other) e = absurd (let z : _≡_ {A = ℕ} 0 1 = cc in omega arith)
+
+-- 1
+pub record Lengths (x : Lent) (code : List ℕ) : Type 0 where
+  pub objects-length : length (x .objects) ≡ 64
+  pub messages-length : length (x .messages) ≡ 256
+  pub few-rows : length (x .terms) ≤ 4096
+  pub few-words : length code ≤ 768
+
+seven : (a b c d e f g : Bool) → T (a && b && c && d && e && f && g) → T b × T c × T e × T g
+seven true true true true true true true h = (tt, tt, tt, tt)
+seven false b c d e f g h = absurd h
+seven true false c d e f g h = absurd h
+seven true true false d e f g h = absurd h
+seven true true true false e f g h = absurd h
+seven true true true true false f g h = absurd h
+seven true true true true true false g h = absurd h
+seven true true true true true true false h = absurd h
+
+pub lengths : {x : Lent} {code : List ℕ} → T (lengthsFit x code) → Lengths x code
+lengths {x} {code} h =
+    let (objects, messages, rows, words) =
+    seven (eqb (length (x .kinds)) 64) (eqb (length (x .objects)) 64) (eqb (length (x .messages)) 256) (leb (length (x .certificates)) 32)
+    (leb (length (x .terms)) 4096) (leb (x .counter) 65536) (leb (length code) 768) h in
+    record {
+      objects-length = equals (length (x .objects)) 64 .0 objects;
+      messages-length = equals (length (x .messages)) 256 .0 messages;
+      few-rows = at-most (length (x .terms)) 4096 .0 rows;
+      few-words = at-most (length code) 768 .0 words;
+    }
+
+module _ (x : Lent) (code : List ℕ) where
+  abbrev finding : Finding
+  finding = findingOf (first (refusals x code)) (x .terms)
+
+  abbrev pub storesFit : Bool
+  storesFit = valid (x .terms) (usedRows (x .terms)) (x .kinds) (x .objects) (x .messages) (x .certificates) (x .accumulator)
+
+  pub found-limit : lengthsFit x code ≡ false → Refused Limit ≡ finding
+  unfolding first
+  found-limit e = rw e
+
+  module _ (fits : lengthsFit x code ≡ true) where
+    pub found-term : {row : ℕ} → badTerm (x .terms) (x .counter) ≡ some row → Refused (BadTerm row) ≡ finding
+    unfolding first
+    found-term e = rw (fits, e)
+
+    module _ (rows : badTerm (x .terms) (x .counter) ≡ none) where
+      pub found-store : storesFit ≡ false → Refused BadStore ≡ finding
+      unfolding first
+      found-store e = rw (fits, rows, e)
+
+      module _ (stores : storesFit ≡ true) where
+        pub found-word : {word : ℕ} → badWord (kindIn (x .kinds)) code ≡ some word → Refused (BadWord word) ≡ finding
+        unfolding first
+        found-word e = rw (fits, rows, stores, e)
+
+        pub found-accepted : {used : ℕ} → used ≡ usedRows (x .terms) → badWord (kindIn (x .kinds)) code ≡ none → Accepted used ≡ finding
+        unfolding first
+        found-accepted counted e = rw (fits, rows, stores, e, counted)
+
+  -- what run answers
+  pub run-refused : {answer : Ran} → first (refusals x code) ≡ some answer → unchanged answer x ≡ run x code
+  unfolding run
+  run-refused e = rw e
+
+  pub run-stepped : first (refusals x code) ≡ none → runBy x code none ≡ run x code
+  unfolding run
+  run-stepped e = rw e
+
+  -- every check passed
+  pub record Passed : Type 0 where
+    pub long : Lengths x code
+    pub rows : badTerm (x .terms) (x .counter) ≡ none
+    pub stores : T storesFit
+    pub words : badWord (kindIn (x .kinds)) code ≡ none
+
+  pub passed : first (refusals x code) ≡ none → Passed
+  passed e =
+      let (limits, e) = first-none _ _ e in
+      let (rows, e) = first-none _ _ e in
+      let (stores, e) = first-none _ _ e in
+      let (words, e) = first-none _ _ e in
+      record {
+        long = lengths (holds (lengthsFit x code) (when-none (not (lengthsFit x code)) Limit limits));
+        rows = map-none BadTerm (badTerm (x .terms) (x .counter)) rows;
+        stores = holds storesFit (when-none (not storesFit) BadStore stores);
+        words = map-none BadWord (badWord (kindIn (x .kinds)) code) words;
+      }
+    where
+      holds : (b : Bool) → T (not (not b)) → T b
+      holds true h = tt
+      holds false h = h
+
+module _ {x : Lent} {code : List ℕ} (p : Passed x code) where
+  -- a cell that fits is unset or a used row
+  pub accumulator-small : x .accumulator < 65536
+  accumulator-small = go (eqb (x .accumulator) 65535) (equals (x .accumulator) 65535) cell
+    where
+      cell : T (cellFits (usedRows (x .terms)) (x .accumulator))
+      cell = stores-parts (x .terms) (usedRows (x .terms)) (x .kinds) (x .objects) (x .messages) (x .certificates) (x .accumulator) .0 (p .stores) .2
+
+      go : (b : Bool) → T b ↔ (x .accumulator ≡ 65535) → T (not (not b) || ltb (x .accumulator) (usedRows (x .terms))) → x .accumulator < 65536
+      go true e h = let q = e .0 tt in omega arith
+      go false e h = let l = is-below (x .accumulator) (usedRows (x .terms)) .0 h in omega (arith, used-rows (x .terms) .inside, p .long .few-rows)
+
+  pub ready : {used : ℕ} → used ≡ usedRows (x .terms) → Ready x used code
+  ready {used} counted = record {
+    counted = counted;
+    within = record { used-rows = rw counted (used-rows (x .terms) .inside); few-rows = p .long .few-rows };
+    zeros = rw counted (valid-table (x .terms) (x .counter) .0 (p .rows) .zeros);
+    good-words = p .words;
+    few-words = p .long .few-words;
+  }

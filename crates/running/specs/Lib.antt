@@ -1,0 +1,2 @@
+-- Run over the lent slices.
+pub mod Steps

@@ -1,0 +1,67 @@
+-- What run's steps start from and leave, and rows that are unused again.
+use Prim.Native.Nat.{ℕ, _<_, _≤_}
+use mathlib.Core.Path.{_≡_}
+use mathlib.Core.Option.{Option, none, some}
+use mathlib.Core.List.{List}
+use lib.ListN.{length, getD}
+use Rattle.answers.specs.declared.Ran.{Ran}
+use Rattle.code.specs.Instruction.{instructionOf}
+use Rattle.code.specs.Words.{badWord}
+use Rattle.code.specs.declared.Instruction.{Instruction}
+use Rattle.terms.specs.Rules.{usedRows}
+use Rattle.theory.specs.RowModel.{rowWorld}
+use Rattle.theory.specs.Machine.{step}
+use Rattle.theory.specs.Compile.{kindIn}
+use Rattle.theory.specs.Run.{Lent, RunOutcome, mostCodeWords}
+use Rattle.machine.specs.Machine.{Slices, stateAt, Within, Agrees}
+use Rattle.machine.specs.declared.Registers.{Registers}
+use Rattle.machine.specs.declared.Step.{Step}
+use Rattle.running.specs.declared.Finding.{Finding}
+use Rattle.running.specs.declared.Finding.the-variants.{Refused, Accepted}
+
+-- rows that are zero from one on to another, and as they were elsewhere
+pub record Cleared (rows : List ℕ) (from to : ℕ) (rows′ : List ℕ) : Type 0 where
+  pub long : length rows′ ≡ length rows
+  pub below : (row : ℕ) → row < from → getD rows′ row 0 ≡ getD rows row 0
+  pub zeros : (row : ℕ) → from ≤ row → row < to → getD rows′ row 0 ≡ 0
+  pub above : (row : ℕ) → to ≤ row → getD rows′ row 0 ≡ getD rows row 0
+
+-- the registers at a word
+abbrev pub placed : Registers → ℕ → Registers
+placed g place = record { place = place; accumulator = g .accumulator; used = g .used; counter = g .counter }
+
+-- what is lent, with the registers' accumulator and counter
+abbrev pub lent : Registers → List ℕ → List ℕ → List ℕ → List ℕ → List ℕ → Lent
+lent g kinds objects messages certificates rows = record {
+  kinds = kinds;
+  objects = objects;
+  messages = messages;
+  certificates = certificates;
+  accumulator = g .accumulator .0;
+  terms = rows;
+  counter = g .counter;
+}
+
+-- what the steps leave
+abbrev pub leaves : Ran → Registers → List ℕ → List ℕ → List ℕ → RunOutcome
+leaves answer g objects messages rows =
+    record { answer = answer; objects = objects; messages = messages; accumulator = g .accumulator .0; terms = rows; counter = g .counter }
+
+-- what 1, 2, 3 and 9 leave true, as far as the steps need it
+pub record Ready (x : Lent) (used : ℕ) (code : List ℕ) : Type 0 where
+  pub counted : used ≡ usedRows (x .terms)
+  pub within : Within (x .terms) used
+  pub zeros : (row : ℕ) → used ≤ row → getD (x .terms) row 0 ≡ 0
+  pub good-words : badWord (kindIn (x .kinds)) code ≡ none
+  pub few-words : length code ≤ mostCodeWords
+
+-- a word is done as the step of its instruction
+abbrev pub DoesWord : (ℕ → ℕ) → ℕ → ℕ → Registers → Slices → Step → Slices → Type 0
+DoesWord kind place word g before answer after =
+    (instruction : Instruction) → instructionOf word ≡ some instruction
+    → Agrees before (step rowWorld kind place instruction (stateAt g before)) answer after
+
+-- what run finds before it steps: a refusal, or the number of used rows
+abbrev pub findingOf : Option Ran → List ℕ → Finding
+findingOf (some answer) rows = Refused answer
+findingOf none rows = Accepted (usedRows rows)

@@ -1,0 +1,151 @@
+// A step for each word. What does not end gives its rows back.
+ghost use mathlib.Core.Path.{_≡_};
+ghost use mathlib.Core.Option.{none};
+ghost use Prim.Native.Nat.{_≤_};
+ghost use lib.Dec.{T};
+ghost use lib.ListN.{length};
+ghost use Rattle.code.specs.Words.{goodWord};
+ghost use Rattle.theory.specs.Compile.{kindIn};
+ghost use Rattle.theory.specs.Run.{runBy};
+ghost use Rattle.machine.specs.Machine.{slices, Within};
+ghost use Rattle.running.specs.Steps.{Cleared, placed, lent, leaves, Ready, DoesWord};
+use answers::Ran;
+use code::Read;
+use machine::Registers;
+use machine::Step;
+
+// An answer, with the registers and the cells after it.
+pub struct Stepped {
+    pub answer: Ran,
+    pub registers: Registers,
+    pub objects: [u16; 64],
+    pub messages: [u16; 256],
+}
+
+// Rows from one on to another are unused again.
+fn clear(rows: &mut [u64], from: usize, to: usize)
+    requires { ⌜ (from ≤ to) × (to ≤ length (now rows)) ⌝ }
+    ensures { λ r. ⌜ Cleared (now (rows .entry)) from to (now (rows .exit)) ⌝ }
+{
+    let mut row = from;
+    while row < to {
+        rows[row] = 0;
+        row += 1;
+    }
+}
+
+// The registers at a word.
+fn placed(g: Registers, place: u32) -> Registers
+    ensures { λ r. ⌜ r ≡ placed g place ⌝ }
+{
+    let accumulator = g.accumulator;
+    Registers {
+        place: place,
+        accumulator: accumulator,
+        used: g.used,
+        counter: g.counter,
+    }
+}
+
+// One good word.
+fn one(
+    g: Registers,
+    place: u32,
+    word: u32,
+    kinds: &[u8],
+    objects: &mut [u16],
+    messages: &mut [u16],
+    certificates: &[u64],
+    rows: &mut [u64],
+) -> Step
+    requires { ⌜ T (goodWord (kindIn (now kinds)) word) ⌝ }
+    requires { ⌜ (length (now objects) ≡ 64) × (length (now messages) ≡ 256) ⌝ }
+    requires { ⌜ Within (now rows) (g .used) ⌝ }
+    ensures { λ s. ⌜ DoesWord (kindIn (now (kinds .entry))) place word g
+        (slices (now (objects .entry)) (now (messages .entry)) (now (rows .entry)) (now (certificates .entry))) s
+        (slices (now (objects .exit)) (now (messages .exit)) (now (rows .exit)) (now (certificates .entry))) ⌝ }
+{
+    let read = code::instruction_of(word);
+    let Read::Is(instruction) = read else {
+        return Step::NoRoom;
+    };
+    let here = placed(g, place);
+    stepping::step(
+        here,
+        instruction,
+        kinds,
+        objects,
+        messages,
+        certificates,
+        rows,
+    )
+}
+
+pub fn steps(
+    start: Registers,
+    kinds: &[u8],
+    objects: [u16; 64],
+    messages: [u16; 256],
+    certificates: &[u64],
+    rows: &mut [u64],
+    code: &[u32],
+) -> Stepped
+    requires { ⌜ Ready (lent start (now kinds) objects messages (now certificates) (now rows)) (start .used) (now code) ⌝ }
+    ensures { λ r. ⌜ leaves (r .answer) (r .registers) (r .objects) (r .messages) (now (rows .exit))
+        ≡ runBy (lent start (now (kinds .entry)) objects messages (now (certificates .entry)) (now (rows .entry))) (now (code .entry)) none ⌝ }
+{
+    let from = start.used as usize;
+    let mut new_objects = objects;
+    let mut new_messages = messages;
+    let mut g = start;
+    let mut i: usize = 0;
+    while i < code.len() {
+        let place = i as u32;
+        let word = code[i];
+        let step = one(
+            g,
+            place,
+            word,
+            kinds,
+            &mut new_objects,
+            &mut new_messages,
+            certificates,
+            rows,
+        );
+        match step {
+            Step::Next(next) => {
+                g = next;
+            }
+            Step::Stuck(reason) => {
+                let to = g.used as usize;
+                clear(rows, from, to);
+                let answer = Ran::Stuck(place, reason);
+                return Stepped {
+                    answer: answer,
+                    registers: start,
+                    objects: objects,
+                    messages: messages,
+                };
+            }
+            Step::NoRoom => {
+                let upto = g.used as usize;
+                clear(rows, from, upto);
+                let answer = Ran::NoRoom(place);
+                return Stepped {
+                    answer: answer,
+                    registers: start,
+                    objects: objects,
+                    messages: messages,
+                };
+            }
+        }
+        i += 1;
+    }
+    let answer = Ran::Done(code.len() as u32);
+    Stepped {
+        answer: answer,
+        registers: g,
+        objects: new_objects,
+        messages: new_messages,
+    }
+}
