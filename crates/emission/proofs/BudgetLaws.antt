@@ -1,15 +1,17 @@
 -- The room that a pattern asks, and its parts. Assumes nothing.
 use Prim.Native.Nat.{ℕ, zero, suc, _+_, _-_, _*_, _≤_, _<_}
-use mathlib.Core.Path.{_≡_}
+use mathlib.Core.Path.{_≡_, _∙_}
 use mathlib.Core.List.{List}
 use native.Mathlib.Omega.{arith}
 use Rattle.patterns.specs.Pattern.{Pattern, object, raw, constant, opposite, keyOf, encryption, signature, hash, tuple, letIn, Parts, end, part, count, size, sizes}
 use Rattle.patterns.specs.Row.{fieldsOf}
-use Rattle.emission.specs.Meets.{Room}
+use Rattle.theory.specs.Emission.{Env, Emitted}
+use Rattle.emission.specs.Meets.{Does, Room}
 use Rattle.emission.specs.Budget.{patternIn, Row, RowAt}
 
 mutual
   unfolding size count
+
   pub size-pos : (p : Pattern) → 1 ≤ size p
   size-pos (object row v) = omega arith
   size-pos (raw row r) = omega arith
@@ -25,6 +27,14 @@ mutual
   pub count-sizes : (ps : Parts) → count ps ≤ sizes ps
   count-sizes end = omega arith
   count-sizes (part p ps) = omega (arith, size-pos p, count-sizes ps)
+
+-- less room, and what is left of it after a step
+pub room-le : {w m x n : ℕ} {e : List ℕ} → x ≤ w → n ≤ m → Room w m e → Room x n e
+room-le h g room = record { long = room .long; place = omega (arith, room .place); free = omega (arith, room .free) }
+
+pub room-then : {f : Env → Emitted} {w m x n y k : ℕ} {e code e′ code′ : List ℕ} → y + x ≤ w → k + n ≤ m → Room w m e → Does f y k e code e′ code′ → Room x n e′
+room-then h g room d =
+    record { long = d .long ∙ room .long; place = omega (arith, room .place, d .place); free = omega (arith, room .free, d .free) }
 
 -- every row has room for a form with no part
 pub leaf-room : (rows : List ℕ) (row word : ℕ) (e : List ℕ) → RowAt rows row word e → Room 7 1 e

@@ -58,14 +58,14 @@ module _ {start : ℕ} {blank code e′ code′ : List ℕ} where
       let n = m .met in
       let l : length (codeWords lines) ≡ length lines = length-map lines _ in
       let w : code′ ≡ sets (sets blank start (codeWords lines)) (start + length (codeWords lines)) (codeWords more) =
-          n .words ∙ rw (p, q, l) in
+      n .words ∙ rw (p, q, l) in
       record {
         met = record {
           fine = n .fine;
           env = n .env;
           written = rw length-append (omega (arith, n .written));
-          words = w ∙ sets-append (codeWords lines) (codeWords more) blank start ∙ ap (sets blank start) (sym (codeWords-append lines more))
-        }
+          words = w ∙ sets-append (codeWords lines) (codeWords more) blank start ∙ ap (sets blank start) (sym (codeWords-append lines more));
+        };
       }
 
   -- a step that is right while there is no refusal, and leaves a refusal
@@ -110,7 +110,7 @@ does-seq {f} {g} {e₂ = e₂} {code₂ = code₂} k l =
       go = λ a start blank m. subst (λ (b : Emitted). Meets b start blank e₂ code₂) (then-assoc a f g) (l .go (andThen a f) start blank (k .go a start blank m));
       place = omega (arith, k .place, l .place);
       free = omega (arith, k .free, l .free);
-      long = l .long ∙ k .long
+      long = l .long ∙ k .long;
     }
 
 -- nothing is done

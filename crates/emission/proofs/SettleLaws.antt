@@ -41,7 +41,7 @@ quiet-seq k l =
       does = λ code. does-seq (k .does code) (l .does code);
       place = omega (arith, k .place, l .place);
       free = omega (arith, k .free, l .free);
-      long = l .long ∙ k .long
+      long = l .long ∙ k .long;
     }
 
 nothing : {e : List ℕ} → Quiet (ok []) 0 e e

@@ -32,7 +32,7 @@ quiet {f} {e = e} {e′ = e′} h r w n l =
           (λ answer k. rw r k) (omega arith) n l;
       place = omega arith;
       free = n;
-      long = l
+      long = l;
     }
 
 nothing : {f : Env → Emitted} {e : List ℕ} → f (envOf e) ≡ ok [] (envOf e) → Quiet f 0 e e
@@ -73,7 +73,7 @@ refused {f} e number row answer five low h g = by (ℕ-discrete (refusalIn e) 0)
               (omega arith) (omega arith) l;
           place = omega arith;
           free = omega arith;
-          long = l
+          long = l;
         })
     by (no there) =
         rw (ne-eqb (refusalIn e) 0 there)
@@ -81,7 +81,7 @@ refused {f} e number row answer five low h g = by (ℕ-discrete (refusalIn e) 0)
           does = λ code. does-by (λ fine. absurd (there fine)) (λ answer k. k) (omega arith) (omega arith) refl;
           place = omega arith;
           free = omega arith;
-          long = refl
+          long = refl;
         })
 
 pub wrong-kind : (e : List ℕ) (row : ℕ) → length e ≡ 5 → row < 256 → (e′ : List ℕ) → e′ ≡ refusing (5 * 256 + row) e → Quiet (λ env. refuse (WrongKind row)) 0 e e′

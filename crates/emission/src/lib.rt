@@ -1,6 +1,7 @@
 // What the compiler knows while it emits, and one instruction after another.
-use code::{Instruction, Object, Raw};
-
+use code::Instruction;
+use code::Object;
+use code::Raw;
 ghost use mathlib.Core.Path.{_≡_};
 ghost use mathlib.Core.Bool.{true, false};
 ghost use mathlib.Core.List.{List, [], _∷_};
@@ -20,9 +21,11 @@ pub type Emission = [u64; 5];
 
 // Which object and raw variables are set, variable 0 at the most significant bit.
 pub const OBJECTS: usize = 0;
+
 pub const RAWS: usize = 1;
 // The next scratch number not taken, and how many words are written.
 pub const NEXT: usize = 2;
+
 pub const WRITTEN: usize = 3;
 // The number and the row of the first refusal, or 0.
 pub const REFUSAL: usize = 4;
@@ -63,8 +66,7 @@ fn read_object(emission: &mut Emission, row: u8, v: Object)
     requires { ⌜ length (now emission) ≡ 5 ⌝ }
     ensures { λ _. ⌜ Quiet (readObject row (v .0)) 0 (now (emission .entry)) (now (emission .exit)) ⌝ }
 {
-    if is_known(emission[OBJECTS], v.0) {
-    } else {
+    if is_known(emission[OBJECTS], v.0) {} else {
         refuse(emission, 7, row);
     }
 }
@@ -87,8 +89,7 @@ fn read_raw(emission: &mut Emission, row: u8, r: Raw)
     ensures { λ _. ⌜ Quiet (readRaw row (r .0)) 0 (now (emission .entry)) (now (emission .exit)) ⌝ }
 {
     if r.0 < 64 {
-        if is_known(emission[RAWS], r.0) {
-        } else {
+        if is_known(emission[RAWS], r.0) {} else {
             refuse(emission, 7, row);
         }
     }
