@@ -7,7 +7,7 @@ use Rattle.patterns.specs.Pattern.{Pattern, object, raw, constant, opposite, ke
 use Rattle.patterns.specs.Row.{fieldsOf}
 use Rattle.theory.specs.Emission.{Env, Emitted}
 use Rattle.emission.specs.Meets.{Does, Room}
-use Rattle.emission.specs.Budget.{patternIn, Row, RowAt}
+use Rattle.emission.specs.Budget.{words, scratches, patternIn, Row, RowAt}
 
 mutual
   unfolding size count
@@ -42,6 +42,11 @@ leaf-room rows row word e m =
     let p = patternIn rows row in
     let room = m .whole .room in
     record { long = room .long; place = omega (arith, room .place, size-pos p); free = omega (arith, room .free, size-pos p) }
+
+-- a child of a row
+pub row-below : (rows : List ℕ) (row child : ℕ) {e e′ : List ℕ} → Row rows row e → child < row → Room (words (patternIn rows child)) (scratches (patternIn rows child)) e′ → Row rows child e′
+row-below rows row child asked below room =
+    record { good = λ place h. asked .good place (omega arith); inside = omega (arith, asked .inside); most = omega (arith, asked .most); room = room }
 
 -- V is one of the 64 variables
 pub variable-low : (word v : ℕ) → v ≡ fieldsOf word .v → v < 64

@@ -30,6 +30,9 @@ pub const WRITTEN: usize = 3;
 // The number and the row of the first refusal, or 0.
 pub const REFUSAL: usize = 4;
 
+// The pattern's rows, and zero rows behind them.
+pub type Rows = [u64; 96];
+
 // Room for the longest code.
 pub type Code = [u32; 768];
 
