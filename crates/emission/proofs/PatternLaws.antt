@@ -1,17 +1,17 @@
 -- The pattern of a good row, by the row's tag. Assumes nothing.
-use Prim.Native.Nat.{ℕ, zero, suc, _+_, _-_, _*_, _/_, _%_, _^_, _≤_, _<_}
-use mathlib.Core.Path.{_≡_, refl, sym, ap, subst, _∙_}
+use Prim.Native.Nat.{ℕ, _≤_, _<_}
+use mathlib.Core.Path.{_≡_, refl, ap, _∙_}
 use mathlib.Core.List.{List, [], _∷_}
 use native.Mathlib.Omega.{arith}
-use lib.ListN.{length, getD, take}
+use lib.ListN.{length, getD}
 use lib.Dec.{T}
 use Rattle.word.proofs.All.{All, all-at}
-use Rattle.patterns.specs.Pattern.{Key, plainKey, opKey, certifiedKey, Pattern, object, raw, constant, opposite, keyOf, encryption, signature, hash, tuple, letIn, Parts, end, part}
+use Rattle.patterns.specs.Pattern.{Pattern, object, raw, constant, opposite, keyOf, encryption, signature, hash, tuple, letIn}
 use Rattle.patterns.specs.Row.{fieldsOf, children, childrenOf}
 use Rattle.patterns.specs.Rules.{rowFits}
-use Rattle.patterns.specs.Tree.{keyBy, partsBy, formBy, patternAt, patternsOf}
+use Rattle.patterns.specs.Tree.{keyBy, partsBy, patternsOf}
 use Rattle.patterns.proofs.RowLaws.{children-count, child-slot}
-use Rattle.patterns.proofs.GoodRow.{GoodKey, GoodRow}
+use Rattle.patterns.proofs.GoodRow.{GoodRow}
 use Rattle.patterns.proofs.GoodRow as fits
 use Rattle.patterns.proofs.TreeLaws.{Formed, formed}
 use Rattle.emission.specs.Budget.{patternIn}

@@ -8,7 +8,7 @@ use lib.Dec.{lit≤}
 use Rattle.code.specs.Instruction.{asObject}
 use Rattle.code.specs.declared.Raw.{Raw}
 use Rattle.code.specs.declared.Instruction.the-variants.{Load, Store, StoreConst, Decode, Encode, Opposite, KeyOf, Match, Verify, Hash}
-use Rattle.patterns.specs.Pattern.{plainKey, opKey, certifiedKey, object, raw, constant, opposite, keyOf, signature, hash}
+use Rattle.patterns.specs.Pattern.{opKey, certifiedKey, object, raw, constant, opposite, keyOf, hash}
 use Rattle.theory.specs.Machine.{named, scratch}
 use Rattle.theory.specs.Emission.{emit, take, _then_}
 use Rattle.theory.specs.Compilers.{LOAD, STORE, STORE-CONST, DECODE, ENCODE, OPPOSITE, KEY-OF, MATCH, VERIFY, HASH, compile↓, verifying}

@@ -1,10 +1,9 @@
 -- Rows with no children, by their tags. Assumes nothing.
-use Prim.Native.Nat.{ℕ, _+_, _-_, _*_, _≤_, _<_}
-use mathlib.Core.Path.{_≡_, refl, sym, ap, subst, _∙_}
+use Prim.Native.Nat.{ℕ, _≤_, _<_}
+use mathlib.Core.Path.{_≡_, sym, _∙_}
 use mathlib.Core.List.{List}
 use native.Mathlib.Omega.{arith}
 use lib.Dec.{lit≤}
-use lib.ListN.{getD}
 use Rattle.code.specs.Instruction.{asObject}
 use Rattle.code.specs.declared.Instruction.the-variants.{Decode, Verify}
 use Rattle.patterns.specs.Pattern.{Pattern, Key, plainKey, opKey, certifiedKey, object, raw, constant, opposite, keyOf, signature, hash}
@@ -13,8 +12,8 @@ use Rattle.patterns.specs.Tree.{keyBy}
 use Rattle.theory.specs.Machine.{named}
 use Rattle.theory.specs.Emission.{emit}
 use Rattle.theory.specs.Compilers.{compile↓, verifying}
-use Rattle.emission.specs.Meets.{Does, Room}
-use Rattle.emission.specs.Budget.{patternIn, Row, RowAt}
+use Rattle.emission.specs.Meets.{Does}
+use Rattle.emission.specs.Budget.{patternIn, RowAt}
 use Rattle.emission.proofs.MeetsLaws.{does-le, does-seq}
 use Rattle.emission.proofs.BudgetLaws.{size-pos, leaf-room, variable-low}
 use Rattle.emission.proofs.PatternLaws.{good-row, object-row, raw-row, constant-row, opposite-row, key-of-row, signature-row, hash-row}

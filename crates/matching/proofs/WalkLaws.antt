@@ -1,8 +1,8 @@
 -- Rows with children. Assumes nothing.
-use Prim.Native.Nat.{ℕ, zero, suc, _+_, _-_, _*_, _≤_, _<_}
+use Prim.Native.Nat.{ℕ, zero, suc, _+_, _≤_, _<_}
 use mathlib.Core.Path.{_≡_, refl, sym, ap, subst, _∙_}
 use mathlib.Core.List.{List, [], _∷_, map}
-use native.Mathlib.Nat.{add-zero, add-suc}
+use native.Mathlib.Nat.{add-zero}
 use native.Mathlib.Numerals.{add-one}
 use native.Mathlib.Omega.{arith}
 use lib.ListN.{length, getD, take, drop}
@@ -10,17 +10,17 @@ use lib.Seq.{drop-cons, getD-take, drop-length, length-take-le}
 use Rattle.code.specs.Instruction.{asObject}
 use Rattle.code.specs.declared.Raw.{Raw}
 use Rattle.code.specs.declared.Instruction.the-variants.{Load, Decode, AnalyzeTuple, Decrypt}
-use Rattle.patterns.specs.Pattern.{Pattern, plainKey, opKey, certifiedKey, encryption, tuple, letIn, Parts, end, part, count, size, sizes}
-use Rattle.patterns.specs.Row.{fieldsOf, children, childrenOf}
+use Rattle.patterns.specs.Pattern.{Pattern, plainKey, opKey, certifiedKey, encryption, tuple, letIn, end, part, count, size, sizes}
+use Rattle.patterns.specs.Row.{fieldsOf, childrenOf}
 use Rattle.patterns.specs.Tree.{keyBy, partsBy}
 use Rattle.patterns.proofs.RowLaws.{children-count}
 use Rattle.answers.specs.declared.Compiled.the-variants.{WrongKind}
 use Rattle.theory.specs.Machine.{named, scratch}
-use Rattle.theory.specs.Emission.{Env, Emitted, ok, refuse, emit, _then_}
+use Rattle.theory.specs.Emission.{Env, Emitted, refuse, emit, _then_}
 use Rattle.theory.specs.Emission as table
-use Rattle.theory.specs.Compilers.{LOAD, DECODE, ANALYZE-TUPLE, DECRYPT, compile↓, compile↓parts}
+use Rattle.theory.specs.Compilers.{LOAD, DECODE, ANALYZE-TUPLE, compile↓, compile↓parts}
 use Rattle.emission.specs.Steps.{freeRaw, raise}
-use Rattle.emission.specs.Meets.{nextIn, writtenIn, Does, Quiet, Room}
+use Rattle.emission.specs.Meets.{nextIn, Does, Quiet, Room}
 use Rattle.emission.specs.Budget.{words, scratches, wordsOf, scratchesOf, patternIn, Row, RowAt, RoomParts}
 use Rattle.emission.proofs.MeetsLaws.{does-le, does-seq, does-none, does-take, does-free}
 use Rattle.emission.proofs.BudgetLaws.{size-pos, count-sizes, row-below}

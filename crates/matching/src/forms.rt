@@ -11,7 +11,7 @@ use emission::is_known;
 use emission::scratch;
 use emission::take;
 ghost use Prim.Native.Nat.{_<_};
-ghost use Rattle.patterns.specs.Pattern.{plainKey, opKey, certifiedKey, object, raw, constant, opposite, keyOf, signature, hash};
+ghost use Rattle.patterns.specs.Pattern.{opKey, certifiedKey, object, raw, constant, opposite, keyOf, hash};
 ghost use Rattle.theory.specs.Compilers.{compile↓, verifying};
 ghost use Rattle.emission.specs.Meets.{Does, Room};
 

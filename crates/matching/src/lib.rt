@@ -13,13 +13,9 @@ use emission::scratch;
 use emission::take;
 use emission::wrong_kind;
 ghost use mathlib.Core.Path.{_≡_};
-ghost use mathlib.Core.List.{List, map};
-ghost use Prim.Native.Nat.{ℕ, _+_, _≤_, _<_};
-ghost use lib.ListN.{length, getD};
+ghost use Prim.Native.Nat.{_+_, _<_};
 ghost use Rattle.patterns.specs.Row.{fieldsOf};
-ghost use Rattle.theory.specs.Compilers.{compile↓, compile↓parts};
-ghost use Rattle.emission.specs.Meets.{Does, Room};
-ghost use Rattle.emission.specs.Budget.{Row, RowAt, RoomParts};
+ghost use Rattle.emission.specs.Budget.{Row, RowAt};
 ghost use Rattle.matching.specs.Matches.{Matches, Leaf, partsFrom, PartsAt, MatchesParts};
 
 // s : S(key, r)
