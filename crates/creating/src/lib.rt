@@ -1,1 +1,176 @@
 // Figure 6: the code that creates a message.
+pub mod forms;
+pub mod keys;
+
+use code::Instruction;
+use code::Object;
+use code::Raw;
+use emission::Code;
+use emission::Emission;
+use emission::emit;
+use emission::scratch;
+use emission::take;
+ghost use mathlib.Core.Path.{_≡_};
+ghost use Rattle.patterns.specs.Row.{fieldsOf};
+ghost use Rattle.emission.specs.Budget.{Row, RowAt};
+ghost use Rattle.creating.specs.Creates.{Creates, Leaf, PartsAt, CreatesParts};
+
+// s : S(key, r)
+fn create_signature(
+    rows: &[u64],
+    kinds: &[u8],
+    code: &mut Code,
+    emission: &mut Emission,
+    row: u8,
+    word: u64,
+)
+    requires { ⌜ RowAt (now rows) row word (now emission) ⌝ }
+    requires { ⌜ fieldsOf word .tag ≡ 6 ⌝ }
+    ensures { λ _. ⌜ Creates (now (rows .entry)) (now (kinds .entry)) row (now (emission .entry)) (now (code .entry)) (now (emission .exit)) (now (code .exit)) ⌝ }
+{
+    let s = patterns::variable(word);
+    let key = patterns::x(word);
+    let r = patterns::raw(word);
+    keys::create_key(kinds, code, emission, row, word);
+    emit(code, emission, row, Instruction::Load(Raw(r)));
+    emit(code, emission, row, Instruction::Sign(Object(key)));
+    emit(code, emission, row, Instruction::Decode(Object(s)));
+}
+
+// The pattern of a row with no children.
+fn create_leaf(
+    rows: &[u64],
+    kinds: &[u8],
+    code: &mut Code,
+    emission: &mut Emission,
+    row: u8,
+    word: u64,
+)
+    requires { ⌜ RowAt (now rows) row word (now emission) ⌝ }
+    requires { ⌜ Leaf (fieldsOf word .tag) ⌝ }
+    ensures { λ _. ⌜ Creates (now (rows .entry)) (now (kinds .entry)) row (now (emission .entry)) (now (code .entry)) (now (emission .exit)) (now (code .exit)) ⌝ }
+{
+    let tag = patterns::tag(word);
+    let v = patterns::variable(word);
+    match tag {
+        0 => forms::create_object(kinds, code, emission, row, v),
+        1 => emit(
+            code,
+            emission,
+            row,
+            Instruction::Load(Raw(patterns::raw(word))),
+        ),
+        2 => forms::create_constant(code, emission, row, v, patterns::x(word)),
+        3 => forms::create_opposite(kinds, code, emission, row, v, patterns::y(word)),
+        4 => keys::certified_key(code, emission, row, v, patterns::y(word)),
+        6 => create_signature(rows, kinds, code, emission, row, word),
+        _ => forms::create_hash(code, emission, row, v, patterns::raw(word)),
+    }
+}
+
+// The pattern of a row.
+pub fn create_row(rows: &[u64], kinds: &[u8], code: &mut Code, emission: &mut Emission, row: u8)
+    requires { ⌜ Row (now rows) row (now emission) ⌝ }
+    ensures { λ _. ⌜ Creates (now (rows .entry)) (now (kinds .entry)) row (now (emission .entry)) (now (code .entry)) (now (emission .exit)) (now (code .exit)) ⌝ }
+{
+    let word = rows[row as usize];
+    let tag = patterns::tag(word);
+    match tag {
+        5 => create_encryption(rows, kinds, code, emission, row, word),
+        8 => create_tuple(rows, kinds, code, emission, row, word),
+        9 => create_let(rows, kinds, code, emission, row, word),
+        _ => create_leaf(rows, kinds, code, emission, row, word),
+    }
+}
+
+// e : E(key, p)
+fn create_encryption(
+    rows: &[u64],
+    kinds: &[u8],
+    code: &mut Code,
+    emission: &mut Emission,
+    row: u8,
+    word: u64,
+)
+    requires { ⌜ RowAt (now rows) row word (now emission) ⌝ }
+    requires { ⌜ fieldsOf word .tag ≡ 5 ⌝ }
+    ensures { λ _. ⌜ Creates (now (rows .entry)) (now (kinds .entry)) row (now (emission .entry)) (now (code .entry)) (now (emission .exit)) (now (code .exit)) ⌝ }
+{
+    let e = patterns::variable(word);
+    let key = patterns::x(word);
+    let children = patterns::slots(word);
+    keys::create_key(kinds, code, emission, row, word);
+    create_row(rows, kinds, code, emission, children[0]);
+    emit(code, emission, row, Instruction::Encrypt(Object(key)));
+    emit(code, emission, row, Instruction::Decode(Object(e)));
+}
+
+// t : [p1 .. pn]
+fn create_tuple(
+    rows: &[u64],
+    kinds: &[u8],
+    code: &mut Code,
+    emission: &mut Emission,
+    row: u8,
+    word: u64,
+)
+    requires { ⌜ RowAt (now rows) row word (now emission) ⌝ }
+    requires { ⌜ fieldsOf word .tag ≡ 8 ⌝ }
+    ensures { λ _. ⌜ Creates (now (rows .entry)) (now (kinds .entry)) row (now (emission .entry)) (now (code .entry)) (now (emission .exit)) (now (code .exit)) ⌝ }
+{
+    let t = patterns::variable(word);
+    let n = patterns::count(word);
+    let children = patterns::slots(word);
+    let first = take(emission, n);
+    create_parts(rows, kinds, code, emission, row, children, n, first, 0);
+    let cell = scratch(first);
+    emit(
+        code,
+        emission,
+        row,
+        Instruction::CreateTuple(Object(t), cell, n),
+    );
+    emit(code, emission, row, Instruction::Encode(Object(t)));
+}
+
+// The first n children from the kth on, each into the scratch cell of its number.
+fn create_parts(
+    rows: &[u64],
+    kinds: &[u8],
+    code: &mut Code,
+    emission: &mut Emission,
+    row: u8,
+    children: [u8; 4],
+    n: u8,
+    first: u8,
+    k: u8,
+)
+    requires { ⌜ PartsAt (now rows) row children n first k (now emission) ⌝ }
+    ensures { λ _. ⌜ CreatesParts (now (rows .entry)) (now (kinds .entry)) row children n first k (now (emission .entry)) (now (code .entry)) (now (emission .exit)) (now (code .exit)) ⌝ }
+{
+    if k < n {
+        create_row(rows, kinds, code, emission, children[k as usize]);
+        emit(code, emission, row, Instruction::Store(scratch(first + k)));
+        create_parts(rows, kinds, code, emission, row, children, n, first, k + 1);
+    }
+}
+
+// let r = p1 in p2
+fn create_let(
+    rows: &[u64],
+    kinds: &[u8],
+    code: &mut Code,
+    emission: &mut Emission,
+    row: u8,
+    word: u64,
+)
+    requires { ⌜ RowAt (now rows) row word (now emission) ⌝ }
+    requires { ⌜ fieldsOf word .tag ≡ 9 ⌝ }
+    ensures { λ _. ⌜ Creates (now (rows .entry)) (now (kinds .entry)) row (now (emission .entry)) (now (code .entry)) (now (emission .exit)) (now (code .exit)) ⌝ }
+{
+    let r = patterns::raw(word);
+    let children = patterns::slots(word);
+    create_row(rows, kinds, code, emission, children[0]);
+    emit(code, emission, row, Instruction::Store(Raw(r)));
+    create_row(rows, kinds, code, emission, children[1]);
+}

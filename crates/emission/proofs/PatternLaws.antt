@@ -13,7 +13,7 @@ use Rattle.patterns.specs.Tree.{keyBy, partsBy, patternsOf}
 use Rattle.patterns.proofs.RowLaws.{children-count, child-slot}
 use Rattle.patterns.proofs.GoodRow.{GoodRow}
 use Rattle.patterns.proofs.GoodRow as fits
-use Rattle.patterns.proofs.TreeLaws.{Formed, formed}
+use Rattle.patterns.proofs.FormLaws.{Formed, formed}
 use Rattle.emission.specs.Budget.{patternIn}
 
 parts-same : (f g : ℕ → Pattern) (row : ℕ) (cs : List ℕ) → ((c : ℕ) → c < row → f c ≡ g c) → All (λ c. c < row) cs → partsBy f cs ≡ partsBy g cs

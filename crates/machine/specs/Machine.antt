@@ -1,14 +1,17 @@
 -- What a method of the machine does is a step of figure 4 at rows, on the slices that are lent.
-use Prim.Native.Nat.{ℕ, _≤_}
+use Prim.Native.Nat.{ℕ, zero, suc, _+_, _≤_}
 use mathlib.Core.Path.{_≡_}
-use mathlib.Core.List.{List}
-use lib.ListN.{length}
+use mathlib.Core.Bool.{Bool}
+use mathlib.Core.List.{List, []}
+use lib.ListN.{length, set}
 use Rattle.answers.specs.Numbers.{reasonNumber}
 use Rattle.answers.specs.declared.Reason.{Reason}
+use Rattle.code.specs.declared.TermRow.{TermRow}
 use Rattle.code.specs.declared.Instruction.{Instruction}
 use Rattle.theory.specs.Outcome.{Outcome, done}
 use Rattle.theory.specs.Outcome as Outcome
-use Rattle.theory.specs.RowModel.{rowWorld}
+use Rattle.theory.specs.Model.{goesWith}
+use Rattle.theory.specs.RowModel.{rowModel, rowWorld}
 use Rattle.theory.specs.Machine.{State, step}
 use Rattle.theory.specs.Run.{stateOver}
 use Rattle.machine.specs.declared.Registers.{Registers}
@@ -20,6 +23,9 @@ pub record Slices : Type 0 where
   pub messages : List ℕ
   pub rows : List ℕ
   pub certificates : List ℕ
+
+abbrev pub slices : List ℕ → List ℕ → List ℕ → List ℕ → Slices
+slices objects messages rows certificates = record { objects = objects; messages = messages; rows = rows; certificates = certificates }
 
 abbrev pub withObjects : Slices → List ℕ → Slices
 withObjects x objects = record { objects = objects; messages = x .messages; rows = x .rows; certificates = x .certificates }
@@ -38,6 +44,25 @@ abbrev pub stateAt : Registers → Slices → State rowWorld
 stateAt g x =
     stateOver (g .accumulator .0) (x .objects) (x .messages)
     (record { rows = x .rows; used = g .used; counter = g .counter; certificates = x .certificates })
+
+-- the registers with another accumulator, number of used rows, or besides that another name counter
+abbrev pub holding : Registers → TermRow → Registers
+holding g row = record { place = g .place; accumulator = row; used = g .used; counter = g .counter }
+
+abbrev pub usingRows : Registers → ℕ → Registers
+usingRows g used = record { place = g .place; accumulator = g .accumulator; used = used; counter = g .counter }
+
+abbrev pub naming : Registers → ℕ → ℕ → Registers
+naming g used counter = record { place = g .place; accumulator = g .accumulator; used = used; counter = counter }
+
+-- a key goes with another: `goesWith`, which looks at their two rows alone
+unfoldable pub keysPair : List ℕ → ℕ → ℕ → Bool
+keysPair rows key other = goesWith rowModel key other (record { rows = rows; used = 0; counter = 0; certificates = [] })
+
+-- n rows written to the cells from b on, one after another as in `setMessages`
+unfoldable pub spread : List ℕ → ℕ → ℕ → (ℕ → ℕ) → List ℕ
+spread cells b zero row = cells
+spread cells b (suc n) row = set (spread cells b n row) (b + n) (row n)
 
 -- the used rows are within the slice, and row numbers are below 65,535
 pub record Within (rows : List ℕ) (used : ℕ) : Type 0 where

@@ -1,26 +1,23 @@
 -- How the check of a pattern goes through its rows. Assumes nothing.
-use Prim.Native.Nat.{ℕ, zero, suc, _+_, _-_, _<_, _≤_}
-use mathlib.Core.Path.{_≡_, refl, sym, ap, _∙_}
-use mathlib.Core.Bool.{Bool, true, false, not, _||_, true≢false}
-use mathlib.Core.Option.{Option, none, some}
+use Prim.Native.Nat.{ℕ, suc, _+_, _-_, _<_, _≤_}
+use mathlib.Core.Path.{_≡_, refl, _∙_}
+use mathlib.Core.Bool.{Bool, true, false, not, _||_}
+use mathlib.Core.Option.{none, some}
 use mathlib.Core.List.{List, [], _∷_, _++_, append-nil, append-assoc, flatMap}
 use native.Mathlib.Numerals.{add-one}
 use native.Mathlib.Omega.{arith}
-use lib.ListN.{length, getD, take, length-take}
+use lib.ListN.{length, getD, take}
 use lib.Seq.{take-suc, take-all, getD-take, length-take-le}
-use Rattle.word.specs.Lowest.{lowest, oneOf}
+use Rattle.word.specs.Lowest.{lowest}
 use Rattle.word.proofs.All.{All, at-all}
 use Rattle.word.proofs.ScanLaws.{Left, scan-hit, scan-miss, scan-end, lowest-same}
 use Rattle.patterns.specs.declared.rules.Taken.{Taken}
 use Rattle.patterns.specs.Row.{fieldsOf, childrenOf}
-use Rattle.patterns.specs.Rules.{rowFits, repeats, named, badRow, unnamed, badPattern}
+use Rattle.patterns.specs.Rules.{rowFits, named, badRow, unnamed, badPattern}
 use Rattle.patterns.specs.Marks.{takeAll, Marked}
 use Rattle.patterns.proofs.RowLaws.{slot-below, child-slot}
-use Rattle.patterns.proofs.MarkLaws.{marked-none, marked-all, again-all}
-
-or-false-right : (a b : Bool) → (a || b) ≡ false → b ≡ false
-or-false-right true b e = absurd (true≢false e)
-or-false-right false b e = e
+use Rattle.patterns.proofs.SumLaws.{or-right}
+use Rattle.patterns.proofs.MarkLaws.{marked-all, again-all}
 
 children-below : (word : ℕ) → All (λ child. child < 128) (childrenOf word)
 children-below word = at-all _ (childrenOf word) 0 λ slot inside. rw (child-slot word slot inside) (slot-below word slot)
@@ -81,6 +78,6 @@ module _ (rows : List ℕ) (taken : Taken) (place : ℕ) (good : Good rows taken
     good-next fine =
         record {
           marked = rw (add-one, named-more rows place inside, here, takes) (marked-all taken (named (take place rows)) (childrenOf word) (good .marked) (children-below word));
-          fresh = or-false-right (not fits) (next .again) fine;
+          fresh = or-right (not fits) (next .again) fine;
           left = scan-miss (badRow rows) rows 0 place (good .left) inside (rw here (bad-here ∙ fine));
         }

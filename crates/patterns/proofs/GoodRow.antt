@@ -1,15 +1,15 @@
 -- A row that is good in itself, by document 01's table of the forms. Assumes nothing.
-use Prim.Native.Nat.{ℕ, zero, suc, _<_, _≤_}
+use Prim.Native.Nat.{ℕ, _<_, _≤_}
 use mathlib.Core.Path.{_≡_, refl, sym, subst}
 use mathlib.Core.Logic.{_↔_}
-use mathlib.Core.Bool.{Bool, true, false, not, _&&_, _||_}
+use mathlib.Core.Bool.{Bool, true, false, not, _||_}
 use mathlib.Core.List.{List, [], _∷_}
 use native.Mathlib.Omega.{arith}
 use lib.ListN.{getD, drop}
 use lib.Dec.{T, eqb, leb, ltb, nleb→lt}
 use Rattle.word.specs.Lowest.{each}
 use Rattle.word.proofs.All.{All}
-use Rattle.word.proofs.TestLaws.{both, either, equals, is-below, at-most}
+use Rattle.word.proofs.TestLaws.{both, equals, is-below, at-most}
 use Rattle.word.proofs.LowestLaws.{each-all}
 use Rattle.patterns.specs.Row.{Fields, children}
 use Rattle.patterns.proofs.ArmLaws.{below-ten}

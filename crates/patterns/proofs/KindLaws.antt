@@ -14,7 +14,7 @@ use Rattle.patterns.specs.Row.{Fields, fieldsOf}
 use Rattle.patterns.specs.Tree.{keyBy, formsBy, formBy, noPattern, patternsOf}
 use Rattle.patterns.specs.Kinds.{encryptionKey, signatureKey, formKinds, wrongKind}
 use Rattle.patterns.specs.RowKinds.{kindsBy, rowKinds}
-use Rattle.patterns.proofs.TreeLaws.{patterns-length, formed}
+use Rattle.patterns.proofs.FormLaws.{patterns-length, formed}
 
 module _ (create : Bool) (kind : ℕ → ℕ) where
   -- the form of a row looks at the row's own fields alone

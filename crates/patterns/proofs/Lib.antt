@@ -4,8 +4,10 @@ pub mod RowLaws
 pub mod SlotLaws
 pub mod MarkLaws
 pub mod CheckLaws
-pub mod TreeLaws
+pub mod FormLaws
 pub mod KindLaws
 pub mod GoodRow
 pub mod RuleLaws
 pub mod RightRow
+pub mod SumLaws
+pub mod TreeLaws

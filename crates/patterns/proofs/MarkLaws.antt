@@ -1,12 +1,12 @@
 -- Marks of children. Assumes nothing.
-use Prim.Native.Nat.{ℕ, zero, suc, _+_, _<_, _≤_}
+use Prim.Native.Nat.{ℕ, _+_, _<_, _≤_}
 use mathlib.Core.Path.{_≡_, refl, sym, ap, _∙_}
-use mathlib.Core.Bool.{Bool, true, false, not, _||_, or-assoc, or-comm, or-false}
+use mathlib.Core.Bool.{Bool, true, false, _||_, or-assoc, or-comm, or-false}
 use mathlib.Core.List.{List, [], _∷_, _++_, append-nil}
 use native.Mathlib.Numerals.{add-one}
 use native.Mathlib.Omega.{arith}
-use borrow.Author.Tests.{eqb-true, eqb-false, eq-eqb}
-use lib.ListN.{length, getD, take, drop, set, length-set, drop-of-length-le, replicate, length-replicate, getD-replicate}
+use borrow.Author.Tests.{eqb-true, eqb-false}
+use lib.ListN.{length, getD, drop, set, length-set, drop-of-length-le, replicate, getD-replicate}
 use lib.Seq.{drop-cons, getD-set-same, getD-set-other}
 use lib.Dec.{eqb}
 use Rattle.word.specs.Lowest.{oneOf}

@@ -4,21 +4,21 @@ use mathlib.Core.Path.{_≡_, refl, sym, subst, _∙_}
 use mathlib.Core.Logic.{_↔_, _⊎_, Iff·rfl}
 use mathlib.Core.Bool.{Bool, true, false, not, _&&_}
 use mathlib.Core.Option.{none, some}
-use mathlib.Core.List.{List, [], _∷_}
+use mathlib.Core.List.{List}
 use native.Mathlib.Omega.{arith}
-use lib.ListN.{length, getD}
+use lib.ListN.{length}
 use lib.Dec.{T, T-not, not-T, eqb, leb}
-use Rattle.word.proofs.TestLaws.{both, equals, at-most, fails}
+use Rattle.word.proofs.TestLaws.{both, equals, at-most}
 use Rattle.word.proofs.LowestLaws.{one-of-two, lowest-none}
 use Rattle.word.proofs.ScanLaws.{LowestWith, lowest-with}
 use Rattle.patterns.specs.Pattern.{Key, plainKey, opKey, certifiedKey}
 use Rattle.patterns.specs.Row.{Fields, fieldsOf}
 use Rattle.patterns.specs.Rules.{badPattern}
 use Rattle.patterns.specs.Tree.{keyBy}
-use Rattle.patterns.specs.Kinds.{privateSide, publicSide, encryptionKey, signatureKey, wrongKind}
+use Rattle.patterns.specs.Kinds.{privateSide, publicSide, encryptionKey, wrongKind}
 use Rattle.patterns.specs.RowKinds.{kindsBy, rowKinds}
 use Rattle.patterns.proofs.ArmLaws.{below-ten}
-use Rattle.patterns.proofs.GoodRow.{GoodKey, GoodRow}
+use Rattle.patterns.proofs.GoodRow.{GoodRow}
 use Rattle.patterns.proofs.KindLaws.{wrong-rows, other-way}
 use Rattle.patterns.proofs.RuleLaws.{fieldsAt, all-good}
 

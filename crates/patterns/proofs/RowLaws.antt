@@ -1,8 +1,8 @@
 -- The fields of any word. Assumes nothing.
-use Prim.Native.Nat.{ℕ, zero, suc, _<_, _≤_, min}
+use Prim.Native.Nat.{ℕ, zero, suc, _<_, min}
 use mathlib.Core.Path.{_≡_, refl}
 use native.Mathlib.Omega.{arith}
-use lib.ListN.{length, getD, take, length-take}
+use lib.ListN.{length, getD, length-take}
 use lib.Seq.{getD-take}
 use Rattle.patterns.specs.Row.{fieldsOf, childrenOf}
 
@@ -21,6 +21,10 @@ slot-below word (suc (suc (suc (suc slot)))) = omega arith
 pub raw-below : (word : ℕ) → fieldsOf word .r < 64
 unfolding fieldsOf
 raw-below word = omega arith
+
+pub byte-below : (word : ℕ) → fieldsOf word .x < 256
+unfolding fieldsOf
+byte-below word = omega arith
 
 pub children-count : (word : ℕ) → length (childrenOf word) ≡ min (fieldsOf word .n) 4
 unfolding fieldsOf

@@ -1,16 +1,16 @@
 -- Refusal 4 in the words of document 01. Assumes nothing.
-use Prim.Native.Nat.{ℕ, zero, suc, _+_, _-_, _<_, _≤_}
-use mathlib.Core.Path.{_≡_, refl, sym, _∙_, ap}
+use Prim.Native.Nat.{ℕ, zero, suc, _-_, _<_}
+use mathlib.Core.Path.{_≡_, refl, sym, _∙_}
 use mathlib.Core.Logic.{_↔_, _⊎_, inl, inr, ⊎-elim}
-use mathlib.Core.Bool.{Bool, true, false, not, _||_}
+use mathlib.Core.Bool.{Bool, true, false, not}
 use mathlib.Core.Option.{Option, none, some}
-use mathlib.Core.List.{List, [], _∷_, _++_, flatMap}
+use mathlib.Core.List.{List, [], _∷_, flatMap}
 use native.Mathlib.Omega.{arith}
-use lib.ListN.{length, getD, take, length-take}
+use lib.ListN.{length, getD, take}
 use lib.Seq.{length-take-le, getD-take}
 use lib.Dec.{T, T-not, not-T, eqb, eqb→eq}
 use Rattle.word.specs.Lowest.{lowest, oneOf}
-use Rattle.word.proofs.TestLaws.{either, fails, equals}
+use Rattle.word.proofs.TestLaws.{either, equals}
 use Rattle.word.proofs.LowestLaws.{one-of}
 use Rattle.word.proofs.ScanLaws.{LowestWith, NoneWith, none-with, lowest-with}
 use Rattle.patterns.specs.Row.{Fields, fieldsOf, childrenOf}
@@ -229,10 +229,55 @@ module _ (rows : List ℕ) where
       into none e h = (no-row .0 e, no-unnamed .0 (sym (second e) ∙ h))
       into (some j) e h = let clash : some j ≡ none = sym (first j e) ∙ h in let z : _≡_ {A = ℕ} 0 1 = cc in absurd (omega arith)
 
-  -- then every row is good in itself
-  pub all-good : badPattern rows ≡ none → (place : ℕ) → place < length rows → GoodRow place (fieldsAt rows place)
-  all-good passed place inside = go (rowFits place (fieldsAt rows place)) refl
+-- a row is a child exactly once
+pub record ChildOnce (rows : List ℕ) (row : ℕ) : Type 0 where
+  pub owner : ℕ
+  pub slot : ℕ
+  pub names : Names rows owner slot row
+  pub only : (other place : ℕ) → Names rows other place row → (other ≡ owner) × (place ≡ slot)
+
+-- what a pattern that passes says of its rows
+module _ (rows : List ℕ) (passed : badPattern rows ≡ none) where
+  no-bad : NoneWith (BadRow rows) (length rows)
+  no-bad = bad-pattern-none rows .0 passed .0
+
+  pub all-good : (place : ℕ) → place < length rows → GoodRow place (fieldsAt rows place)
+  all-good place inside = go (rowFits place (fieldsAt rows place)) refl
     where
       go : (fits : Bool) → rowFits place (fieldsAt rows place) ≡ fits → GoodRow place (fieldsAt rows place)
       go true e = good-row place (fieldsAt rows place) .0 (rw e tt)
-      go false e = absurd (bad-pattern-none .0 passed .0 place inside (inl λ g. rw e at (good-row place (fieldsAt rows place) .1 g)))
+      go false e = absurd (no-bad place inside (inl λ g. rw e at (good-row place (fieldsAt rows place) .1 g)))
+
+  -- no child is taken again
+  pub never-again : (place : ℕ) → place < length rows → repeats (named (take place rows)) (childrenAt rows place) ≡ false
+  never-again place inside = go (repeats (named (take place rows)) (childrenAt rows place)) refl
+    where
+      go : (again : Bool) → repeats (named (take place rows)) (childrenAt rows place) ≡ again → again ≡ false
+      go true e = absurd (no-bad place inside (inr (taken-says rows place inside .0 (rw e tt))))
+      go false e = refl
+
+  -- every row but the last is named
+  pub all-named : (row : ℕ) → row < length rows - 1 → oneOf (named rows) row ≡ true
+  all-named row inside = go (oneOf (named rows) row) refl
+    where
+      go : (some : Bool) → oneOf (named rows) row ≡ some → some ≡ true
+      go true e = refl
+      go false e = absurd (bad-pattern-none rows .0 passed .1 row inside λ owner slot n. rw e at (named-says rows row .1 (owner, slot, n)))
+
+  never-taken : {place slot child : ℕ} → Names rows place slot child → TakenBefore rows place slot child → ⊥
+  never-taken {place} {slot} {child} n t = no-bad place (n .inside) (inr (record { slot = slot; child = child; names = n; taken = t }))
+
+  -- every row but the last is a child exactly once
+  pub child-once : (row : ℕ) → row < length rows - 1 → ChildOnce rows row
+  child-once row inside =
+      let n = named-says rows row .0 (rw (all-named row inside) tt) in
+      record { owner = n .0; slot = n .1; names = n .2; only = λ other place m. same (n .2) m }
+    where
+      same : {owner slot other place : ℕ} → Names rows owner slot row → Names rows other place row → (other ≡ owner) × (place ≡ slot)
+      same {owner} {slot} {other} {place} n m =
+          let a : ¬ (other < owner) = λ l. never-taken n (record { owner = other; other = place; names = m; before = inl l }) in
+          let b : ¬ (owner < other) = λ l. never-taken m (record { owner = owner; other = slot; names = n; before = inl l }) in
+          let e : other ≡ owner = omega arith in
+          let c : ¬ (place < slot) = λ l. never-taken n (record { owner = other; other = place; names = m; before = inr (e, l) }) in
+          let d : ¬ (slot < place) = λ l. never-taken m (record { owner = owner; other = slot; names = n; before = inr (sym e, l) }) in
+          (e, omega arith)

@@ -9,6 +9,7 @@ use lib.ListN.{length, getD, take, drop}
 use lib.Seq.{take-nil, drop-nil}
 use lib.Dec.{leb, ltb}
 use Rattle.word.specs.Lowest.{each}
+use Rattle.word.proofs.ScanLaws.{each-none, each-more}
 
 -- four tests, as a list ends
 all-four : (p q r s : Bool) → (p && q && r && s) ≡ (p && (q && (r && (s && true))))
@@ -19,18 +20,6 @@ all-four true true true false = refl
 all-four true true true true = refl
 
 module _ (test : ℕ → Bool) where
-  each-none : each test [] ≡ true
-  unfolding each
-  each-none = refl
-
-  each-more : (a : ℕ) (rest : List ℕ) → each test (a ∷ rest) ≡ (test a && each test rest)
-  unfolding each
-  each-more a rest = go (test a)
-    where
-      go : (b : Bool) → elim b [ true ↦ each test rest | false ↦ false ] ≡ (b && each test rest)
-      go true = refl
-      go false = refl
-
   each-four : (a b c d : ℕ) (rest : List ℕ) → each test (a ∷ b ∷ c ∷ d ∷ rest) ≡ (test a && (test b && (test c && (test d && each test rest))))
   each-four a b c d rest = simp each-more
 
@@ -56,7 +45,7 @@ module _ (test : ℕ → Bool) (a b c d : ℕ) where
       (sym (ap (each test) (drop-nil n) ∙ each-none test))
 
 -- what holds of any four numbers holds of a list of four
-four : (P : List ℕ → Type 0) → ((a b c d : ℕ) → P (a ∷ b ∷ c ∷ d ∷ [])) → (slots : List ℕ) → length slots ≡ 4 → P slots
+pub four : (P : List ℕ → Type 0) → ((a b c d : ℕ) → P (a ∷ b ∷ c ∷ d ∷ [])) → (slots : List ℕ) → length slots ≡ 4 → P slots
 four P h [] l = absurd (omega arith)
 four P h (a ∷ []) l = absurd (omega arith)
 four P h (a ∷ b ∷ []) l = absurd (omega arith)

@@ -1,2 +1,3 @@
 -- Laws of what a terminal holds.
 pub mod CertificateLaws
+pub mod LoopLaws

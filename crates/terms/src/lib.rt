@@ -19,6 +19,7 @@ pub use row::tuple_word;
 pub use rules::first_bad_row;
 pub use rules::row_fits;
 pub use rules::used_rows;
+pub use rules::used_slots;
 
 // What the finder answers: the term's row and the number of used rows then, or that there is no room.
 pub enum Found {

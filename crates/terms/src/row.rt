@@ -1,6 +1,6 @@
 // A term row's fields, and the words of shapes.
 ghost use mathlib.Core.Path.{_≡_};
-ghost use Prim.Native.Nat.{ℕ, _+_, _<_, _≤_};
+ghost use Prim.Native.Nat.{_+_, _<_, _≤_};
 ghost use lib.ListN.{take, getD};
 ghost use Rattle.word.specs.Fields.{split, at};
 ghost use Rattle.terms.specs.Shape.{atom, encrypted, signed, hashed, tupled};
@@ -47,21 +47,18 @@ pub fn atom_word(tag: u64, number: u64) -> u64
 }
 
 pub fn encrypted_word(key: u16, body: u16) -> u64
-    requires { ⌜ (key < 4096) × (body < 4096) ⌝ }
     ensures { λ r. ⌜ r ≡ wordOf (encrypted key body) ⌝ }
 {
     (7 << 60) + ((key as u64) << 36) + ((body as u64) << 24)
 }
 
 pub fn signed_word(key: u16, body: u16) -> u64
-    requires { ⌜ (key < 4096) × (body < 4096) ⌝ }
     ensures { λ r. ⌜ r ≡ wordOf (signed key body) ⌝ }
 {
     (8 << 60) + ((key as u64) << 36) + ((body as u64) << 24)
 }
 
 pub fn hashed_word(body: u16) -> u64
-    requires { ⌜ body < 4096 ⌝ }
     ensures { λ r. ⌜ r ≡ wordOf (hashed body) ⌝ }
 {
     (9 << 60) + ((body as u64) << 36)
@@ -69,14 +66,14 @@ pub fn hashed_word(body: u16) -> u64
 
 // A part of the first n, and zero past them.
 fn named_part(parts: [u16; 4], n: usize, slot: usize) -> u64
-    requires { ⌜ (slot < 4) × ((k : ℕ) → k < n → getD parts k 0 < 4096) ⌝ }
-    ensures { λ r. ⌜ (r ≡ at slot (take n parts)) × (r < 4096) ⌝ }
+    requires { ⌜ slot < 4 ⌝ }
+    ensures { λ r. ⌜ (r ≡ at slot (take n parts)) × (r < 65536) ⌝ }
 {
     if slot < n { parts[slot] as u64 } else { 0 }
 }
 
 pub fn tuple_word(parts: [u16; 4], n: usize) -> u64
-    requires { ⌜ (n ≤ 4) × ((k : ℕ) → k < n → getD parts k 0 < 4096) ⌝ }
+    requires { ⌜ n ≤ 4 ⌝ }
     ensures { λ r. ⌜ r ≡ wordOf (tupled (take n parts)) ⌝ }
 {
     let first = named_part(parts, n, 0) << 36;

@@ -44,7 +44,7 @@ fn known_tag(word: u64) -> bool
 }
 
 // How many of its four slots a row uses, the key counted.
-fn used_slots(word: u64) -> usize
+pub fn used_slots(word: u64) -> usize
     ensures { λ r. ⌜ (r ≡ length (partsOf (shapeOf word))) × (r ≤ 4) ⌝ }
 {
     let t = tag(word);

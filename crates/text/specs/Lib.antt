@@ -1,2 +1,3 @@
 -- Lines of decimal numbers, as bytes.
 pub mod Lines
+pub mod Written

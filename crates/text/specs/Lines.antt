@@ -28,6 +28,11 @@ spaced [] = []
 spaced (n ∷ []) = decimal n
 spaced (n ∷ m ∷ rest) = decimal n ++ (space ∷ spaced (m ∷ rest))
 
+-- what stands before the number at a place: a space, but for the first
+unfoldable pub gap : ℕ → List ℕ
+gap zero = []
+gap (suc place) = space ∷ []
+
 -- a line of numbers, and one that begins with a word
 unfoldable pub line : List ℕ → List ℕ
 line numbers = spaced numbers ++ (lineFeed ∷ [])

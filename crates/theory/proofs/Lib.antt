@@ -32,3 +32,7 @@ pub mod ValidLent
 pub mod RowsKept
 pub mod ValidAgain
 pub mod CompileLaws
+pub mod CompiledWords
+pub mod Product
+pub mod RunLaws
+pub mod Demand3

@@ -1,17 +1,25 @@
--- How a loop goes through `lowest`, and which tests give the same answer. Assumes nothing.
+-- How a loop goes through `lowest` and `each`, and which tests give the same answer. Assumes nothing.
 use Prim.Native.Nat.{ℕ, suc, _+_, _<_, _≤_}
 use mathlib.Core.Path.{_≡_, refl, sym, _∙_}
-use mathlib.Core.Logic.{_↔_}
-use mathlib.Core.Bool.{Bool, true, false}
+use mathlib.Core.Logic.{_↔_, _⊎_, inl, inr}
+use mathlib.Core.Bool.{Bool, true, false, _&&_}
 use mathlib.Core.Option.{Option, none, some}
 use mathlib.Core.List.{List, [], _∷_}
 use native.Mathlib.Numerals.{add-one}
 use native.Mathlib.Omega.{arith}
+use borrow.Author.Tests.{ltb-true, ltb-false}
 use lib.ListN.{length, getD, drop, drop-of-length-le}
 use lib.Seq.{drop-cons}
-use lib.Dec.{T, T-not, not-T}
-use Rattle.word.specs.Lowest.{lowestFrom, lowest}
+use lib.Dec.{T, T-not, not-T, ltb}
+use Rattle.word.specs.Lowest.{lowestFrom, lowest, each}
 use Rattle.word.proofs.LowestLaws.{passes, lowest-none, lowest-some}
+
+pub lt-or-ge : (m n : ℕ) → (m < n) ⊎ (n ≤ m)
+lt-or-ge m n = go (ltb m n) refl
+  where
+    go : (b : Bool) → ltb m n ≡ b → (m < n) ⊎ (n ≤ m)
+    go true e = inl (ltb-true m n e)
+    go false e = inr (ltb-false m n e)
 
 module _ {A : Type 0} (test : ℕ → A → Bool) where
   lowest-hit : (i : ℕ) (a : A) (rest : List A) → test i a ≡ true → lowestFrom i test (a ∷ rest) ≡ some i
@@ -97,3 +105,30 @@ module _ {A : Type 0} (test : ℕ → A → Bool) (P : ℕ → Type 0) (all : Li
           earlier = λ j less. not-T (passes test default all j) λ t. h .earlier j less (says j (omega arith) .0 t);
         }),
   )
+
+-- a loop over all elements: what is left gives the answer
+module _ {A : Type 0} (test : A → Bool) where
+  pub each-none : each test [] ≡ true
+  unfolding each
+  each-none = refl
+
+  pub each-more : (a : A) (rest : List A) → each test (a ∷ rest) ≡ (test a && each test rest)
+  unfolding each
+  each-more a rest = go (test a)
+    where
+      go : (b : Bool) → elim b [ true ↦ each test rest | false ↦ false ] ≡ (b && each test rest)
+      go true = refl
+      go false = refl
+
+  module _ (whole : Bool) (all : List A) (default : A) (i : ℕ) (left : whole ≡ each test (drop i all)) where
+    each-here : i < length all → whole ≡ (test (getD all i default) && each test (drop (suc i) all))
+    each-here inside = left ∙ rw (drop-cons all i default, each-more)
+
+    pub each-stop : i < length all → test (getD all i default) ≡ false → whole ≡ false
+    each-stop inside h = each-here inside ∙ rw h
+
+    pub each-next : i < length all → test (getD all i default) ≡ true → whole ≡ each test (drop (i + 1) all)
+    each-next inside h = each-here inside ∙ rw (h, add-one)
+
+    pub each-end : length all ≤ i → whole ≡ true
+    each-end past = left ∙ rw (drop-of-length-le all {i = i} past, each-none)

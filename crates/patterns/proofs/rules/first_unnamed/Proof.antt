@@ -6,7 +6,7 @@ use native.Mathlib.Omega.{arith}
 use lib.ListN.{length, take}
 use lib.Seq.{length-take-le, getD-take}
 use borrow.Author.Needs.{needs}
-use Rattle.word.specs.Lowest.{lowest, placeOf}
+use Rattle.word.specs.Lowest.{placeOf}
 use Rattle.word.proofs.ScanLaws.{Left, scan-hit, scan-miss, scan-end}
 use Rattle.patterns.proofs.rules.first_unnamed.Statement.{statement}
 use Rattle.patterns.proofs.rules.first_unnamed.Tie as tie

@@ -1,6 +1,9 @@
 -- Within the first n a part is the one of all, past them there is none. Assumes nothing.
 use mathlib.Core.Path.{sym}
 use native.Mathlib.Omega.{arith}
+use mir.Syntax.{w16}
+use mir.Val.{Fits}
+use lib.ListN.{getD}
 use lib.Seq.{getD-take}
 use Rattle.terms.proofs.FieldLaws.{past-taken}
 use borrow.Author.Needs.{needs}
@@ -19,7 +22,8 @@ cast-result c = search needs
 returns : tie.Need-returns
 returns c =
     let a = c .before .args in
-    (sym (getD-take (a .n) (a .t1) (a .slot) 0 (c .if1 .taken)), c .before .pre .1 (a .slot) (c .if1 .taken))
+    let small : Fits w16 (getD (a .t1) (a .slot) 0) = search needs in
+    (sym (getD-take (a .n) (a .t1) (a .slot) 0 (c .if1 .taken)), small .fits)
 
 returns-2 : tie.Need-returns-2
 returns-2 c =

@@ -1,6 +1,6 @@
 -- The word made of the fields by each shape. Assumes nothing.
 use native.Mathlib.Omega.{arith}
-use Rattle.terms.proofs.FieldLaws.{slot-below, tag-below}
+use Rattle.terms.proofs.FieldLaws.{tag-below}
 use Rattle.terms.proofs.RuleLaws.{unused-ways}
 use borrow.Author.Needs.{needs}
 use Rattle.terms.proofs.rules.unused_zero.Statement.{statement}
@@ -40,7 +40,7 @@ used-slots-requires : tie.Need-used-slots-requires
 used-slots-requires c κs = search needs
 
 tuple-word-requires : tie.Need-tuple-word-requires
-tuple-word-requires c κs = (c .used-slots .ensures .1, λ k h. rw (c .before .slots .ensures) (slot-below _ k))
+tuple-word-requires c κs = search needs
 
 number-requires : tie.Need-number-requires
 number-requires c κs = search needs

@@ -1,0 +1,3 @@
+-- Bundles taken apart.
+pub mod Opening
+pub mod Clear

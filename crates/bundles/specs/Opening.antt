@@ -1,0 +1,43 @@
+-- A bundle's bytes, opened: the header as the code holds it.
+use Prim.Native.Nat.{ℕ, _+_}
+use mathlib.Core.Option.{Option, none, some}
+use mathlib.Core.List.{List}
+use lib.ListN.{drop, getD}
+use lib.Dec.{eqb}
+use Rattle.word.specs.Bytes.{elements}
+use Rattle.theory.specs.Bundle.{Bundle, headerOf, bundleOf, readBundle, wordBytes}
+use Rattle.theory.specs.Bundle as theory
+use Rattle.bundles.specs.declared.Header.{Header}
+use Rattle.bundles.specs.declared.Opened.{Opened}
+use Rattle.bundles.specs.declared.Opened.the-variants.{Refused, Is}
+
+-- the header in the first word
+abbrev pub headerIn : List ℕ → theory.Header
+headerIn bytes = headerOf (getD (elements wordBytes bytes) 0 0)
+
+-- the bundle of bytes that open
+abbrev pub bundleIn : List ℕ → Bundle
+bundleIn bytes = bundleOf (headerIn bytes) (drop 1 (elements wordBytes bytes))
+
+-- a header as the code holds it
+abbrev pub held : theory.Header → Header
+held h = record {
+  create = eqb (h .create) 1;
+  «pattern_rows» = h .patternRows;
+  certificates = h .certificates;
+  accumulator = h .accumulator;
+  «term_rows» = h .termRows;
+  counter = h .counter;
+}
+
+-- the word at which the kinds begin
+abbrev pub kindsAt : Header → ℕ
+kindsAt header = 1 + header .«pattern_rows» + header .«term_rows»
+
+abbrev pub openedBy : Option Bundle → theory.Header → Opened
+openedBy none h = Refused
+openedBy (some b) h = Is (held h)
+
+-- refused exactly where no bundle is read
+unfoldable pub opened : List ℕ → Opened
+opened bytes = openedBy (readBundle bytes) (headerIn bytes)

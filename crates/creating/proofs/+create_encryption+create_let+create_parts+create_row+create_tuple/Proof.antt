@@ -1,0 +1,997 @@
+use mathlib.Core.Path.{_≡_, refl, sym, _∙_}
+use native.Mathlib.Omega.{arith}
+use lib.ListN.{length}
+use Rattle.emission.proofs.BudgetLaws.{leaf-room, variable-low}
+use Rattle.creating.proofs.LeafLaws.{key-room}
+use Rattle.creating.proofs.ChildLaws.{slot, encryption-key, encryption-below, encryption-inside, encrypt-room, seal-room, encryption-done, let-below, let-first, let-store, let-second, let-done}
+use Rattle.creating.proofs.PartLaws.{parts-none, part-index, part-below, part-row, part-store, part-rest, part-cell, part-done, tuple-parts, tuple-create, tuple-encode, tuple-done}
+use Prim.Native.Nat.{ℕ, _+_, _-_, _*_, _<_}
+use borrow.Author.Needs.{needs}
+use borrow.Fn.Kinds.{In}
+use borrow.Fn.PlainCycle.{Measures, is, falls, and}
+use Rattle.creating.proofs.create_encryption.Reads as create-encryption
+use Rattle.creating.proofs.create_encryption.Kinds as create-encryption-kinds
+use Rattle.creating.proofs.+create_encryption+create_let+create_parts+create_row+create_tuple.Lts-create_encryption as create-encryption-lts
+use Rattle.creating.proofs.create_let.Reads as create-let
+use Rattle.creating.proofs.create_let.Kinds as create-let-kinds
+use Rattle.creating.proofs.+create_encryption+create_let+create_parts+create_row+create_tuple.Lts-create_let as create-let-lts
+use Rattle.creating.proofs.create_parts.Reads as create-parts
+use Rattle.creating.proofs.create_parts.Kinds as create-parts-kinds
+use Rattle.creating.proofs.+create_encryption+create_let+create_parts+create_row+create_tuple.Lts-create_parts as create-parts-lts
+use Rattle.creating.proofs.create_row.Reads as create-row
+use Rattle.creating.proofs.create_row.Kinds as create-row-kinds
+use Rattle.creating.proofs.+create_encryption+create_let+create_parts+create_row+create_tuple.Lts-create_row as create-row-lts
+use Rattle.creating.proofs.create_tuple.Reads as create-tuple
+use Rattle.creating.proofs.create_tuple.Kinds as create-tuple-kinds
+use Rattle.creating.proofs.+create_encryption+create_let+create_parts+create_row+create_tuple.Lts-create_tuple as create-tuple-lts
+use Rattle.creating.proofs.create_leaf.Reads as create-leaf-reads
+use Rattle.creating.proofs.keys.create_key.Reads as create-key-reads
+use Rattle.emission.proofs.emit.Reads as emit-reads
+use Rattle.emission.proofs.scratch.Reads as scratch-reads
+use Rattle.emission.proofs.take.Reads as take-reads
+use Rattle.patterns.proofs.count.Reads as count-reads
+use Rattle.patterns.proofs.raw.Reads as raw-reads
+use Rattle.patterns.proofs.slots.Reads as slots-reads
+use Rattle.patterns.proofs.tag.Reads as tag-reads
+use Rattle.patterns.proofs.variable.Reads as variable-reads
+use Rattle.patterns.proofs.x.Reads as x-reads
+use Rattle.creating.proofs.+create_encryption+create_let+create_parts+create_row+create_tuple.{
+  statement,
+}
+use Rattle.creating.proofs.+create_encryption+create_let+create_parts+create_row+create_tuple.Tie.{
+  close,
+}
+
+abbrev μ-create-encryption : Measures 4 create-encryption-kinds.ps ℕ
+μ-create-encryption κs a = 8 * a .1 .1 .1 .1 .0 + 6
+
+abbrev μ-create-let : Measures 4 create-let-kinds.ps ℕ
+μ-create-let κs a = 8 * a .1 .1 .1 .1 .0 + 6
+
+abbrev μ-create-parts : Measures 4 create-parts-kinds.ps ℕ
+μ-create-parts κs a = 8 * a .1 .1 .1 .1 .0 + (5 - a .1 .1 .1 .1 .1 .1 .1 .1 .0)
+
+abbrev μ-create-row : Measures 4 create-row-kinds.ps ℕ
+μ-create-row κs a = 8 * a .1 .1 .1 .1 .0 + 7
+
+abbrev μ-create-tuple : Measures 4 create-tuple-kinds.ps ℕ
+μ-create-tuple κs a = 8 * a .1 .1 .1 .1 .0 + 6
+
+abbrev create-encryption-at : ℕ → In 4 create-encryption-kinds.ps
+create-encryption-at t =
+    and
+    4
+    create-encryption-kinds.ps
+    (is 4 create-encryption-kinds.ps μ-create-encryption t)
+    create-encryption.Pre
+
+abbrev create-encryption-below : ℕ → In 4 create-encryption-kinds.ps
+create-encryption-below t =
+    and
+    4
+    create-encryption-kinds.ps
+    (falls 4 create-encryption-kinds.ps _<_ μ-create-encryption t)
+    create-encryption.Pre
+
+abbrev create-let-at : ℕ → In 4 create-let-kinds.ps
+create-let-at t =
+    and 4 create-let-kinds.ps (is 4 create-let-kinds.ps μ-create-let t) create-let.Pre
+
+abbrev create-let-below : ℕ → In 4 create-let-kinds.ps
+create-let-below t =
+    and 4 create-let-kinds.ps (falls 4 create-let-kinds.ps _<_ μ-create-let t) create-let.Pre
+
+abbrev create-parts-at : ℕ → In 4 create-parts-kinds.ps
+create-parts-at t =
+    and 4 create-parts-kinds.ps (is 4 create-parts-kinds.ps μ-create-parts t) create-parts.Pre
+
+abbrev create-parts-below : ℕ → In 4 create-parts-kinds.ps
+create-parts-below t =
+    and
+    4
+    create-parts-kinds.ps
+    (falls 4 create-parts-kinds.ps _<_ μ-create-parts t)
+    create-parts.Pre
+
+abbrev create-row-at : ℕ → In 4 create-row-kinds.ps
+create-row-at t =
+    and 4 create-row-kinds.ps (is 4 create-row-kinds.ps μ-create-row t) create-row.Pre
+
+abbrev create-row-below : ℕ → In 4 create-row-kinds.ps
+create-row-below t =
+    and 4 create-row-kinds.ps (falls 4 create-row-kinds.ps _<_ μ-create-row t) create-row.Pre
+
+abbrev create-tuple-at : ℕ → In 4 create-tuple-kinds.ps
+create-tuple-at t =
+    and 4 create-tuple-kinds.ps (is 4 create-tuple-kinds.ps μ-create-tuple t) create-tuple.Pre
+
+abbrev create-tuple-below : ℕ → In 4 create-tuple-kinds.ps
+create-tuple-below t =
+    and
+    4
+    create-tuple-kinds.ps
+    (falls 4 create-tuple-kinds.ps _<_ μ-create-tuple t)
+    create-tuple.Pre
+
+create-encryption-variable-requires : (t : ℕ) → create-encryption-lts.Need-variable-requires (
+  variable-reads.Asked,
+  variable-reads.Learnt,
+  x-reads.Asked,
+  x-reads.Learnt,
+  slots-reads.Asked,
+  slots-reads.Learnt,
+  create-key-reads.Asked,
+  create-key-reads.Learnt,
+  create-row-below t,
+  create-row.Post,
+  emit-reads.Asked,
+  emit-reads.Learnt,
+) (create-encryption-at t) create-encryption.Post
+create-encryption-variable-requires t c κs = search needs
+
+create-encryption-x-requires : (t : ℕ) → create-encryption-lts.Need-x-requires (
+  variable-reads.Asked,
+  variable-reads.Learnt,
+  x-reads.Asked,
+  x-reads.Learnt,
+  slots-reads.Asked,
+  slots-reads.Learnt,
+  create-key-reads.Asked,
+  create-key-reads.Learnt,
+  create-row-below t,
+  create-row.Post,
+  emit-reads.Asked,
+  emit-reads.Learnt,
+) (create-encryption-at t) create-encryption.Post
+create-encryption-x-requires t c κs = search needs
+
+create-encryption-slots-requires : (t : ℕ) → create-encryption-lts.Need-slots-requires (
+  variable-reads.Asked,
+  variable-reads.Learnt,
+  x-reads.Asked,
+  x-reads.Learnt,
+  slots-reads.Asked,
+  slots-reads.Learnt,
+  create-key-reads.Asked,
+  create-key-reads.Learnt,
+  create-row-below t,
+  create-row.Post,
+  emit-reads.Asked,
+  emit-reads.Learnt,
+) (create-encryption-at t) create-encryption.Post
+create-encryption-slots-requires t c κs = search needs
+
+create-encryption-create-key-requires : (t : ℕ) → create-encryption-lts.Need-create-key-requires (
+  variable-reads.Asked,
+  variable-reads.Learnt,
+  x-reads.Asked,
+  x-reads.Learnt,
+  slots-reads.Asked,
+  slots-reads.Learnt,
+  create-key-reads.Asked,
+  create-key-reads.Learnt,
+  create-row-below t,
+  create-row.Post,
+  emit-reads.Asked,
+  emit-reads.Learnt,
+) (create-encryption-at t) create-encryption.Post
+create-encryption-create-key-requires t c κs =
+    let asked = c .before .before .before .before .before .before .before .pre .1 in
+    (encryption-key _ _ _ (asked .0) (asked .1), key-room _ _ _ (asked .0))
+
+create-encryption-array-read-create-row :
+    (t : ℕ) → create-encryption-lts.Need-array-read-create-row (
+      variable-reads.Asked,
+      variable-reads.Learnt,
+      x-reads.Asked,
+      x-reads.Learnt,
+      slots-reads.Asked,
+      slots-reads.Learnt,
+      create-key-reads.Asked,
+      create-key-reads.Learnt,
+      create-row-below t,
+      create-row.Post,
+      emit-reads.Asked,
+      emit-reads.Learnt,
+    ) (create-encryption-at t) create-encryption.Post
+create-encryption-array-read-create-row t c = search needs
+
+create-encryption-create-row-requires : (t : ℕ) → create-encryption-lts.Need-create-row-requires (
+  variable-reads.Asked,
+  variable-reads.Learnt,
+  x-reads.Asked,
+  x-reads.Learnt,
+  slots-reads.Asked,
+  slots-reads.Learnt,
+  create-key-reads.Asked,
+  create-key-reads.Learnt,
+  create-row-below t,
+  create-row.Post,
+  emit-reads.Asked,
+  emit-reads.Learnt,
+) (create-encryption-at t) create-encryption.Post
+create-encryption-create-row-requires t c κs =
+    let asked = c .before .before .before .before .before .before .before .before .before .before .pre .1 in
+    let first = slot _ _ 0 (c .before .before .before .before .before .slots .ensures) in
+    (omega (arith, c .before .before .before .before .before .before .before .before .before .before .pre .0, encryption-below _ _ _ (asked .0) (asked .1) _ first), encryption-inside _ _ _ (asked .0) (asked .1) _ first (c .before .before .create-key .ensures))
+
+create-encryption-emit-requires : (t : ℕ) → create-encryption-lts.Need-emit-requires (
+  variable-reads.Asked,
+  variable-reads.Learnt,
+  x-reads.Asked,
+  x-reads.Learnt,
+  slots-reads.Asked,
+  slots-reads.Learnt,
+  create-key-reads.Asked,
+  create-key-reads.Learnt,
+  create-row-below t,
+  create-row.Post,
+  emit-reads.Asked,
+  emit-reads.Learnt,
+) (create-encryption-at t) create-encryption.Post
+create-encryption-emit-requires t c κs =
+    let asked = c .before .before .before .before .before .before .before .before .before .before .before .before .before .pre .1 in
+    let first = slot _ _ 0 (c .before .before .before .before .before .before .before .before .slots .ensures) in
+    (encrypt-room _ _ _ (asked .0) (asked .1) _ first (c .before .before .before .before .before .create-key .ensures) (c .before .before .create-row .ensures), tt)
+
+create-encryption-emit-requires-2 : (t : ℕ) → create-encryption-lts.Need-emit-requires-2 (
+  variable-reads.Asked,
+  variable-reads.Learnt,
+  x-reads.Asked,
+  x-reads.Learnt,
+  slots-reads.Asked,
+  slots-reads.Learnt,
+  create-key-reads.Asked,
+  create-key-reads.Learnt,
+  create-row-below t,
+  create-row.Post,
+  emit-reads.Asked,
+  emit-reads.Learnt,
+) (create-encryption-at t) create-encryption.Post
+create-encryption-emit-requires-2 t c κs =
+    let asked = c .before .before .before .before .before .before .before .before .before .before .before .before .before .before .before .before .pre .1 in
+    let first = slot _ _ 0 (c .before .before .before .before .before .before .before .before .before .before .before .slots .ensures) in
+    (seal-room _ _ _ (asked .0) (asked .1) _ first (c .before .before .before .before .before .before .before .before .create-key .ensures) (c .before .before .before .before .before .create-row .ensures) (c .before .before .emit .ensures), variable-low _ _ (c .before .before .before .before .before .before .before .before .before .before .before .before .before .variable .ensures))
+
+create-encryption-returns : (t : ℕ) → create-encryption-lts.Need-returns (
+  variable-reads.Asked,
+  variable-reads.Learnt,
+  x-reads.Asked,
+  x-reads.Learnt,
+  slots-reads.Asked,
+  slots-reads.Learnt,
+  create-key-reads.Asked,
+  create-key-reads.Learnt,
+  create-row-below t,
+  create-row.Post,
+  emit-reads.Asked,
+  emit-reads.Learnt,
+) (create-encryption-at t) create-encryption.Post
+create-encryption-returns t c =
+    let asked = c .before .before .before .before .before .before .before .before .before .before .before .before .before .before .before .before .before .pre .1 in
+    let first = slot _ _ 0 (c .before .before .before .before .before .before .before .before .before .before .before .before .slots .ensures) in
+    encryption-done _ _ _ (asked .0) (asked .1) _ first _ _ _ (c .before .before .before .before .before .before .before .before .before .before .before .before .before .before .variable .ensures) (c .before .before .before .before .before .before .before .before .before .before .before .before .before .x .ensures) (c .before .before .before .before .before .before .before .before .before .create-key .ensures) (c .before .before .before .before .before .before .create-row .ensures)
+    (c .before .before .before .emit .ensures) (c .emit2 .ensures)
+
+create-let-raw-requires : (t : ℕ) → create-let-lts.Need-raw-requires (
+  raw-reads.Asked,
+  raw-reads.Learnt,
+  slots-reads.Asked,
+  slots-reads.Learnt,
+  create-row-below t,
+  create-row.Post,
+  emit-reads.Asked,
+  emit-reads.Learnt,
+) (create-let-at t) create-let.Post
+create-let-raw-requires t c κs = search needs
+
+create-let-slots-requires : (t : ℕ) → create-let-lts.Need-slots-requires (
+  raw-reads.Asked,
+  raw-reads.Learnt,
+  slots-reads.Asked,
+  slots-reads.Learnt,
+  create-row-below t,
+  create-row.Post,
+  emit-reads.Asked,
+  emit-reads.Learnt,
+) (create-let-at t) create-let.Post
+create-let-slots-requires t c κs = search needs
+
+create-let-array-read-create-row : (t : ℕ) → create-let-lts.Need-array-read-create-row (
+  raw-reads.Asked,
+  raw-reads.Learnt,
+  slots-reads.Asked,
+  slots-reads.Learnt,
+  create-row-below t,
+  create-row.Post,
+  emit-reads.Asked,
+  emit-reads.Learnt,
+) (create-let-at t) create-let.Post
+create-let-array-read-create-row t c = search needs
+
+create-let-create-row-requires : (t : ℕ) → create-let-lts.Need-create-row-requires (
+  raw-reads.Asked,
+  raw-reads.Learnt,
+  slots-reads.Asked,
+  slots-reads.Learnt,
+  create-row-below t,
+  create-row.Post,
+  emit-reads.Asked,
+  emit-reads.Learnt,
+) (create-let-at t) create-let.Post
+create-let-create-row-requires t c κs =
+    let asked = c .before .before .before .before .before .before .pre .1 in
+    let first = slot _ _ 0 (c .before .before .slots .ensures) in
+    let second = slot _ _ 1 (c .before .before .slots .ensures) in
+    (omega (arith, c .before .before .before .before .before .before .pre .0, let-below _ _ _ (asked .0) (asked .1) _ first _ second .0), let-first _ _ _ (asked .0) (asked .1) _ first _ second)
+
+create-let-emit-requires : (t : ℕ) → create-let-lts.Need-emit-requires (
+  raw-reads.Asked,
+  raw-reads.Learnt,
+  slots-reads.Asked,
+  slots-reads.Learnt,
+  create-row-below t,
+  create-row.Post,
+  emit-reads.Asked,
+  emit-reads.Learnt,
+) (create-let-at t) create-let.Post
+create-let-emit-requires t c κs =
+    let asked = c .before .before .before .before .before .before .before .before .before .pre .1 in
+    let first = slot _ _ 0 (c .before .before .before .before .before .slots .ensures) in
+    let second = slot _ _ 1 (c .before .before .before .before .before .slots .ensures) in
+    (let-store _ _ _ (asked .0) (asked .1) _ first _ second (c .before .before .create-row .ensures), tt)
+
+create-let-array-read-create-row-2 : (t : ℕ) → create-let-lts.Need-array-read-create-row-2 (
+  raw-reads.Asked,
+  raw-reads.Learnt,
+  slots-reads.Asked,
+  slots-reads.Learnt,
+  create-row-below t,
+  create-row.Post,
+  emit-reads.Asked,
+  emit-reads.Learnt,
+) (create-let-at t) create-let.Post
+create-let-array-read-create-row-2 t c = search needs
+
+create-let-create-row-requires-2 : (t : ℕ) → create-let-lts.Need-create-row-requires-2 (
+  raw-reads.Asked,
+  raw-reads.Learnt,
+  slots-reads.Asked,
+  slots-reads.Learnt,
+  create-row-below t,
+  create-row.Post,
+  emit-reads.Asked,
+  emit-reads.Learnt,
+) (create-let-at t) create-let.Post
+create-let-create-row-requires-2 t c κs =
+    let asked = c .before .before .before .before .before .before .before .before .before .before .before .before .pre .1 in
+    let first = slot _ _ 0 (c .before .before .before .before .before .before .before .before .slots .ensures) in
+    let second = slot _ _ 1 (c .before .before .before .before .before .before .before .before .slots .ensures) in
+    (omega (arith, c .before .before .before .before .before .before .before .before .before .before .before .before .pre .0, let-below _ _ _ (asked .0) (asked .1) _ first _ second .1), let-second _ _ _ (asked .0) (asked .1) _ first _ second (c .before .before .before .before .before .create-row .ensures) (c .before .before .emit .ensures))
+
+create-let-returns : (t : ℕ) → create-let-lts.Need-returns (
+  raw-reads.Asked,
+  raw-reads.Learnt,
+  slots-reads.Asked,
+  slots-reads.Learnt,
+  create-row-below t,
+  create-row.Post,
+  emit-reads.Asked,
+  emit-reads.Learnt,
+) (create-let-at t) create-let.Post
+create-let-returns t c =
+    let asked = c .before .before .before .before .before .before .before .before .before .before .before .before .before .pre .1 in
+    let first = slot _ _ 0 (c .before .before .before .before .before .before .before .before .before .slots .ensures) in
+    let second = slot _ _ 1 (c .before .before .before .before .before .before .before .before .before .slots .ensures) in
+    let-done _ _ _ (asked .0) (asked .1) _ first _ second _ _ (c .before .before .before .before .before .before .before .before .before .before .raw .ensures) (c .before .before .before .before .before .before .create-row .ensures) (c .before .before .before .emit .ensures) (c .create-row2 .ensures)
+
+-- there are four children
+parts-four : (t : ℕ) (s : create-parts-lts.Start (
+  create-row-below t,
+  create-row.Post,
+  scratch-reads.Asked,
+  scratch-reads.Learnt,
+  emit-reads.Asked,
+  emit-reads.Learnt,
+  create-parts-below t,
+  create-parts.Post,
+) (create-parts-at t) create-parts.Post) → length (s .args .t6) ≡ 4
+parts-four t s = search needs
+
+create-parts-array-read-create-row : (t : ℕ) → create-parts-lts.Need-array-read-create-row (
+  create-row-below t,
+  create-row.Post,
+  scratch-reads.Asked,
+  scratch-reads.Learnt,
+  emit-reads.Asked,
+  emit-reads.Learnt,
+  create-parts-below t,
+  create-parts.Post,
+) (create-parts-at t) create-parts.Post
+create-parts-array-read-create-row t c =
+    let s = c .before .before .before .before .before in
+    let less = c .before .before .if1 .taken in
+    part-index _ _ _ _ _ _ (parts-four t s) (s .pre .1) less
+
+create-parts-create-row-requires : (t : ℕ) → create-parts-lts.Need-create-row-requires (
+  create-row-below t,
+  create-row.Post,
+  scratch-reads.Asked,
+  scratch-reads.Learnt,
+  emit-reads.Asked,
+  emit-reads.Learnt,
+  create-parts-below t,
+  create-parts.Post,
+) (create-parts-at t) create-parts.Post
+create-parts-create-row-requires t c κs =
+    let s = c .before .before .before .before .before in
+    let less = c .before .before .if1 .taken in
+    (omega (arith, s .pre .0, part-below _ _ _ _ _ _ (parts-four t s) (s .pre .1) less), part-row _ _ _ _ _ _ (parts-four t s) (s .pre .1) less)
+
+create-parts-add-scratch : (t : ℕ) → create-parts-lts.Need-add-scratch (
+  create-row-below t,
+  create-row.Post,
+  scratch-reads.Asked,
+  scratch-reads.Learnt,
+  emit-reads.Asked,
+  emit-reads.Learnt,
+  create-parts-below t,
+  create-parts.Post,
+) (create-parts-at t) create-parts.Post
+create-parts-add-scratch t c =
+    let s = c .before .before .before .before .before .before .before .before in
+    let less = c .before .before .before .before .before .if1 .taken in
+    omega (arith, part-cell _ _ _ _ _ _ (parts-four t s) (s .pre .1) less)
+
+create-parts-scratch-requires : (t : ℕ) → create-parts-lts.Need-scratch-requires (
+  create-row-below t,
+  create-row.Post,
+  scratch-reads.Asked,
+  scratch-reads.Learnt,
+  emit-reads.Asked,
+  emit-reads.Learnt,
+  create-parts-below t,
+  create-parts.Post,
+) (create-parts-at t) create-parts.Post
+create-parts-scratch-requires t c κs =
+    let s = c .before .before .before .before .before .before .before .before in
+    let less = c .before .before .before .before .before .if1 .taken in
+    omega (arith, part-cell _ _ _ _ _ _ (parts-four t s) (s .pre .1) less)
+
+create-parts-emit-requires : (t : ℕ) → create-parts-lts.Need-emit-requires (
+  create-row-below t,
+  create-row.Post,
+  scratch-reads.Asked,
+  scratch-reads.Learnt,
+  emit-reads.Asked,
+  emit-reads.Learnt,
+  create-parts-below t,
+  create-parts.Post,
+) (create-parts-at t) create-parts.Post
+create-parts-emit-requires t c κs =
+    let s = c .before .before .before .before .before .before .before .before .before in
+    let less = c .before .before .before .before .before .before .if1 .taken in
+    (part-store _ _ _ _ _ _ (parts-four t s) (s .pre .1) less (c .before .before .before .create-row .ensures), tt)
+
+create-parts-add-create-parts : (t : ℕ) → create-parts-lts.Need-add-create-parts (
+  create-row-below t,
+  create-row.Post,
+  scratch-reads.Asked,
+  scratch-reads.Learnt,
+  emit-reads.Asked,
+  emit-reads.Learnt,
+  create-parts-below t,
+  create-parts.Post,
+) (create-parts-at t) create-parts.Post
+create-parts-add-create-parts t c = search needs
+
+create-parts-create-parts-requires : (t : ℕ) → create-parts-lts.Need-create-parts-requires (
+  create-row-below t,
+  create-row.Post,
+  scratch-reads.Asked,
+  scratch-reads.Learnt,
+  emit-reads.Asked,
+  emit-reads.Learnt,
+  create-parts-below t,
+  create-parts.Post,
+) (create-parts-at t) create-parts.Post
+create-parts-create-parts-requires t c κs =
+    let s = c .before .before .before .before .before .before .before .before .before .before .before .before in
+    let less = c .before .before .before .before .before .before .before .before .before .if1 .taken in
+    (omega (arith, s .pre .0, part-index _ _ _ _ _ _ (parts-four t s) (s .pre .1) less), part-rest _ _ _ _ _ _ (parts-four t s) (s .pre .1) less (c .before .before .before .before .before .before .create-row .ensures) (c .before .before .emit .ensures))
+
+create-parts-returns : (t : ℕ) → create-parts-lts.Need-returns (
+  create-row-below t,
+  create-row.Post,
+  scratch-reads.Asked,
+  scratch-reads.Learnt,
+  emit-reads.Asked,
+  emit-reads.Learnt,
+  create-parts-below t,
+  create-parts.Post,
+) (create-parts-at t) create-parts.Post
+create-parts-returns t c =
+    let s = c .before .before .before .before .before .before .before .before .before .before .before .before .before in
+    let less = c .before .before .before .before .before .before .before .before .before .before .if1 .taken in
+    part-done _ _ _ _ _ _ (parts-four t s) (s .pre .1) less _ _ (c .before .before .before .before .scratch .ensures) (c .before .before .before .before .before .before .before .create-row .ensures) (c .before .before .before .emit .ensures) (c .create-parts .ensures)
+
+create-parts-returns-2 : (t : ℕ) → create-parts-lts.Need-returns-2 (
+  create-row-below t,
+  create-row.Post,
+  scratch-reads.Asked,
+  scratch-reads.Learnt,
+  emit-reads.Asked,
+  emit-reads.Learnt,
+  create-parts-below t,
+  create-parts.Post,
+) (create-parts-at t) create-parts.Post
+create-parts-returns-2 t c =
+    let s = c .before .before .before in
+    parts-none _ _ _ _ _ _ (parts-four t s) (s .pre .1) (c .if1 .left) _
+
+create-row-mul-word : (t : ℕ) → create-row-lts.Need-mul-word (
+  tag-reads.Asked,
+  tag-reads.Learnt,
+  create-encryption-below t,
+  create-encryption.Post,
+  create-tuple-below t,
+  create-tuple.Post,
+  create-let-below t,
+  create-let.Post,
+  create-leaf-reads.Asked,
+  create-leaf-reads.Learnt,
+) (create-row-at t) create-row.Post
+create-row-mul-word t c = search needs
+
+create-row-shared-slice-read-word : (t : ℕ) → create-row-lts.Need-shared-slice-read-word (
+  tag-reads.Asked,
+  tag-reads.Learnt,
+  create-encryption-below t,
+  create-encryption.Post,
+  create-tuple-below t,
+  create-tuple.Post,
+  create-let-below t,
+  create-let.Post,
+  create-leaf-reads.Asked,
+  create-leaf-reads.Learnt,
+) (create-row-at t) create-row.Post
+create-row-shared-slice-read-word t c = search needs
+
+create-row-tag-requires : (t : ℕ) → create-row-lts.Need-tag-requires (
+  tag-reads.Asked,
+  tag-reads.Learnt,
+  create-encryption-below t,
+  create-encryption.Post,
+  create-tuple-below t,
+  create-tuple.Post,
+  create-let-below t,
+  create-let.Post,
+  create-leaf-reads.Asked,
+  create-leaf-reads.Learnt,
+) (create-row-at t) create-row.Post
+create-row-tag-requires t c κs = search needs
+
+create-row-create-encryption-requires : (t : ℕ) → create-row-lts.Need-create-encryption-requires (
+  tag-reads.Asked,
+  tag-reads.Learnt,
+  create-encryption-below t,
+  create-encryption.Post,
+  create-tuple-below t,
+  create-tuple.Post,
+  create-let-below t,
+  create-let.Post,
+  create-leaf-reads.Asked,
+  create-leaf-reads.Learnt,
+) (create-row-at t) create-row.Post
+create-row-create-encryption-requires t c κs =
+    let s = c .before .before .before .before .before .before .before in
+    (omega (arith, s .pre .0), (record { here = refl; whole = s .pre .1 }, sym (c .before .before .before .tag .ensures) ∙ c .before .before .match .keys1))
+
+create-row-create-tuple-requires : (t : ℕ) → create-row-lts.Need-create-tuple-requires (
+  tag-reads.Asked,
+  tag-reads.Learnt,
+  create-encryption-below t,
+  create-encryption.Post,
+  create-tuple-below t,
+  create-tuple.Post,
+  create-let-below t,
+  create-let.Post,
+  create-leaf-reads.Asked,
+  create-leaf-reads.Learnt,
+) (create-row-at t) create-row.Post
+create-row-create-tuple-requires t c κs =
+    let s = c .before .before .before .before .before .before .before in
+    (omega (arith, s .pre .0), (record { here = refl; whole = s .pre .1 }, sym (c .before .before .before .tag .ensures) ∙ c .before .before .match .keys2))
+
+create-row-create-let-requires : (t : ℕ) → create-row-lts.Need-create-let-requires (
+  tag-reads.Asked,
+  tag-reads.Learnt,
+  create-encryption-below t,
+  create-encryption.Post,
+  create-tuple-below t,
+  create-tuple.Post,
+  create-let-below t,
+  create-let.Post,
+  create-leaf-reads.Asked,
+  create-leaf-reads.Learnt,
+) (create-row-at t) create-row.Post
+create-row-create-let-requires t c κs =
+    let s = c .before .before .before .before .before .before .before in
+    (omega (arith, s .pre .0), (record { here = refl; whole = s .pre .1 }, sym (c .before .before .before .tag .ensures) ∙ c .before .before .match .keys3))
+
+create-row-create-leaf-requires : (t : ℕ) → create-row-lts.Need-create-leaf-requires (
+  tag-reads.Asked,
+  tag-reads.Learnt,
+  create-encryption-below t,
+  create-encryption.Post,
+  create-tuple-below t,
+  create-tuple.Post,
+  create-let-below t,
+  create-let.Post,
+  create-leaf-reads.Asked,
+  create-leaf-reads.Learnt,
+) (create-row-at t) create-row.Post
+create-row-create-leaf-requires t c κs =
+    let tag = c .before .before .before .tag .ensures in
+    let other = c .before .before .match .rest in
+    (record { here = refl; whole = c .before .before .before .before .before .before .before .pre .1 }, record { encryption = λ h. other .0 .0 .1 (tag ∙ h); tuple = λ h. other .0 .1 (tag ∙ h); letIn = λ h. other .1 (tag ∙ h) })
+
+create-row-returns : (t : ℕ) → create-row-lts.Need-returns (
+  tag-reads.Asked,
+  tag-reads.Learnt,
+  create-encryption-below t,
+  create-encryption.Post,
+  create-tuple-below t,
+  create-tuple.Post,
+  create-let-below t,
+  create-let.Post,
+  create-leaf-reads.Asked,
+  create-leaf-reads.Learnt,
+) (create-row-at t) create-row.Post
+create-row-returns t c = search needs
+
+create-row-returns-2 : (t : ℕ) → create-row-lts.Need-returns-2 (
+  tag-reads.Asked,
+  tag-reads.Learnt,
+  create-encryption-below t,
+  create-encryption.Post,
+  create-tuple-below t,
+  create-tuple.Post,
+  create-let-below t,
+  create-let.Post,
+  create-leaf-reads.Asked,
+  create-leaf-reads.Learnt,
+) (create-row-at t) create-row.Post
+create-row-returns-2 t c = search needs
+
+create-row-returns-3 : (t : ℕ) → create-row-lts.Need-returns-3 (
+  tag-reads.Asked,
+  tag-reads.Learnt,
+  create-encryption-below t,
+  create-encryption.Post,
+  create-tuple-below t,
+  create-tuple.Post,
+  create-let-below t,
+  create-let.Post,
+  create-leaf-reads.Asked,
+  create-leaf-reads.Learnt,
+) (create-row-at t) create-row.Post
+create-row-returns-3 t c = search needs
+
+create-row-returns-4 : (t : ℕ) → create-row-lts.Need-returns-4 (
+  tag-reads.Asked,
+  tag-reads.Learnt,
+  create-encryption-below t,
+  create-encryption.Post,
+  create-tuple-below t,
+  create-tuple.Post,
+  create-let-below t,
+  create-let.Post,
+  create-leaf-reads.Asked,
+  create-leaf-reads.Learnt,
+) (create-row-at t) create-row.Post
+create-row-returns-4 t c = search needs
+
+create-tuple-variable-requires : (t : ℕ) → create-tuple-lts.Need-variable-requires (
+  variable-reads.Asked,
+  variable-reads.Learnt,
+  count-reads.Asked,
+  count-reads.Learnt,
+  slots-reads.Asked,
+  slots-reads.Learnt,
+  take-reads.Asked,
+  take-reads.Learnt,
+  create-parts-below t,
+  create-parts.Post,
+  scratch-reads.Asked,
+  scratch-reads.Learnt,
+  emit-reads.Asked,
+  emit-reads.Learnt,
+) (create-tuple-at t) create-tuple.Post
+create-tuple-variable-requires t c κs = search needs
+
+create-tuple-count-requires : (t : ℕ) → create-tuple-lts.Need-count-requires (
+  variable-reads.Asked,
+  variable-reads.Learnt,
+  count-reads.Asked,
+  count-reads.Learnt,
+  slots-reads.Asked,
+  slots-reads.Learnt,
+  take-reads.Asked,
+  take-reads.Learnt,
+  create-parts-below t,
+  create-parts.Post,
+  scratch-reads.Asked,
+  scratch-reads.Learnt,
+  emit-reads.Asked,
+  emit-reads.Learnt,
+) (create-tuple-at t) create-tuple.Post
+create-tuple-count-requires t c κs = search needs
+
+create-tuple-slots-requires : (t : ℕ) → create-tuple-lts.Need-slots-requires (
+  variable-reads.Asked,
+  variable-reads.Learnt,
+  count-reads.Asked,
+  count-reads.Learnt,
+  slots-reads.Asked,
+  slots-reads.Learnt,
+  take-reads.Asked,
+  take-reads.Learnt,
+  create-parts-below t,
+  create-parts.Post,
+  scratch-reads.Asked,
+  scratch-reads.Learnt,
+  emit-reads.Asked,
+  emit-reads.Learnt,
+) (create-tuple-at t) create-tuple.Post
+create-tuple-slots-requires t c κs = search needs
+
+create-tuple-take-requires : (t : ℕ) → create-tuple-lts.Need-take-requires (
+  variable-reads.Asked,
+  variable-reads.Learnt,
+  count-reads.Asked,
+  count-reads.Learnt,
+  slots-reads.Asked,
+  slots-reads.Learnt,
+  take-reads.Asked,
+  take-reads.Learnt,
+  create-parts-below t,
+  create-parts.Post,
+  scratch-reads.Asked,
+  scratch-reads.Learnt,
+  emit-reads.Asked,
+  emit-reads.Learnt,
+) (create-tuple-at t) create-tuple.Post
+create-tuple-take-requires t c κs =
+    let room = leaf-room _ _ _ _ (c .before .before .before .before .before .before .pre .1 .0) in
+    (room .long, omega (arith, room .free))
+
+create-tuple-create-parts-requires : (t : ℕ) → create-tuple-lts.Need-create-parts-requires (
+  variable-reads.Asked,
+  variable-reads.Learnt,
+  count-reads.Asked,
+  count-reads.Learnt,
+  slots-reads.Asked,
+  slots-reads.Learnt,
+  take-reads.Asked,
+  take-reads.Learnt,
+  create-parts-below t,
+  create-parts.Post,
+  scratch-reads.Asked,
+  scratch-reads.Learnt,
+  emit-reads.Asked,
+  emit-reads.Learnt,
+) (create-tuple-at t) create-tuple.Post
+create-tuple-create-parts-requires t c κs =
+    let asked = c .before .before .before .before .before .before .before .before .before .pre .1 in
+    let taken = c .before .before .take .ensures in
+    (omega (arith, c .before .before .before .before .before .before .before .before .before .pre .0), tuple-parts _ _ _ (asked .0) (asked .1) _ (c .before .before .before .before .before .count .ensures) _ (c .before .before .before .before .slots .ensures) _ (taken .0) (taken .1))
+
+create-tuple-scratch-requires : (t : ℕ) → create-tuple-lts.Need-scratch-requires (
+  variable-reads.Asked,
+  variable-reads.Learnt,
+  count-reads.Asked,
+  count-reads.Learnt,
+  slots-reads.Asked,
+  slots-reads.Learnt,
+  take-reads.Asked,
+  take-reads.Learnt,
+  create-parts-below t,
+  create-parts.Post,
+  scratch-reads.Asked,
+  scratch-reads.Learnt,
+  emit-reads.Asked,
+  emit-reads.Learnt,
+) (create-tuple-at t) create-tuple.Post
+create-tuple-scratch-requires t c κs = omega (arith, c .before .before .before .take .ensures .0, leaf-room _ _ _ _ (c .before .before .before .before .before .before .before .before .before .before .pre .1 .0) .free)
+
+create-tuple-emit-requires : (t : ℕ) → create-tuple-lts.Need-emit-requires (
+  variable-reads.Asked,
+  variable-reads.Learnt,
+  count-reads.Asked,
+  count-reads.Learnt,
+  slots-reads.Asked,
+  slots-reads.Learnt,
+  take-reads.Asked,
+  take-reads.Learnt,
+  create-parts-below t,
+  create-parts.Post,
+  scratch-reads.Asked,
+  scratch-reads.Learnt,
+  emit-reads.Asked,
+  emit-reads.Learnt,
+) (create-tuple-at t) create-tuple.Post
+create-tuple-emit-requires t c κs =
+    let asked = c .before .before .before .before .before .before .before .before .before .before .before .before .before .pre .1 in
+    let taken = c .before .before .before .before .before .before .take .ensures in
+    (tuple-create _ _ _ (asked .0) (asked .1) _ (c .before .before .before .before .before .before .before .before .before .count .ensures) _ (c .before .before .before .before .before .before .before .before .slots .ensures) _ (taken .0) (taken .1) (c .before .before .before .create-parts .ensures), variable-low _ _ (c .before .before .before .before .before .before .before .before .before .before .variable .ensures))
+
+create-tuple-emit-requires-2 : (t : ℕ) → create-tuple-lts.Need-emit-requires-2 (
+  variable-reads.Asked,
+  variable-reads.Learnt,
+  count-reads.Asked,
+  count-reads.Learnt,
+  slots-reads.Asked,
+  slots-reads.Learnt,
+  take-reads.Asked,
+  take-reads.Learnt,
+  create-parts-below t,
+  create-parts.Post,
+  scratch-reads.Asked,
+  scratch-reads.Learnt,
+  emit-reads.Asked,
+  emit-reads.Learnt,
+) (create-tuple-at t) create-tuple.Post
+create-tuple-emit-requires-2 t c κs =
+    let asked = c .before .before .before .before .before .before .before .before .before .before .before .before .before .before .before .before .pre .1 in
+    let taken = c .before .before .before .before .before .before .before .before .before .take .ensures in
+    (tuple-encode _ _ _ (asked .0) (asked .1) _ (c .before .before .before .before .before .before .before .before .before .before .before .before .count .ensures) _ (c .before .before .before .before .before .before .before .before .before .before .before .slots .ensures) _ (taken .0) (taken .1) (c .before .before .before .before .before .before .create-parts .ensures) (c .before .before .emit .ensures), tt)
+
+create-tuple-returns : (t : ℕ) → create-tuple-lts.Need-returns (
+  variable-reads.Asked,
+  variable-reads.Learnt,
+  count-reads.Asked,
+  count-reads.Learnt,
+  slots-reads.Asked,
+  slots-reads.Learnt,
+  take-reads.Asked,
+  take-reads.Learnt,
+  create-parts-below t,
+  create-parts.Post,
+  scratch-reads.Asked,
+  scratch-reads.Learnt,
+  emit-reads.Asked,
+  emit-reads.Learnt,
+) (create-tuple-at t) create-tuple.Post
+create-tuple-returns t c =
+    let asked = c .before .before .before .before .before .before .before .before .before .before .before .before .before .before .before .before .before .pre .1 in
+    let taken = c .before .before .before .before .before .before .before .before .before .before .take .ensures in
+    tuple-done _ _ _ (asked .0) (asked .1) _ (c .before .before .before .before .before .before .before .before .before .before .before .before .before .count .ensures) _ (c .before .before .before .before .before .before .before .before .before .before .before .before .slots .ensures) _ (taken .0) (taken .1) _ _ _ (c .before .before .before .before .before .before .before .before .before .before .before .before .before .before .variable .ensures) (c .before .before .before .before .before .before .scratch .ensures) (c .before .before .before .before .before .before .before .create-parts .ensures) (c .before .before .before .emit .ensures) (c .emit2 .ensures)
+
+pub +create-encryption+create-let+create-parts+create-row+create-tuple-spec :
+    {M : Type 1} → statement M
++create-encryption+create-let+create-parts+create-row+create-tuple-spec =
+    close
+    μ-create-encryption
+    μ-create-let
+    μ-create-parts
+    μ-create-row
+    μ-create-tuple
+    (λ t. create-encryption-lts.spec (
+      variable-reads.Asked,
+      variable-reads.Learnt,
+      x-reads.Asked,
+      x-reads.Learnt,
+      slots-reads.Asked,
+      slots-reads.Learnt,
+      create-key-reads.Asked,
+      create-key-reads.Learnt,
+      create-row-below t,
+      create-row.Post,
+      emit-reads.Asked,
+      emit-reads.Learnt,
+    )
+    (create-encryption-at t)
+    create-encryption.Post
+    (create-encryption-variable-requires t)
+    (create-encryption-x-requires t)
+    (create-encryption-slots-requires t)
+    (create-encryption-create-key-requires t)
+    (create-encryption-array-read-create-row t)
+    (create-encryption-create-row-requires t)
+    (create-encryption-emit-requires t)
+    (create-encryption-emit-requires-2 t)
+    (create-encryption-returns t))
+    (λ t. create-let-lts.spec (
+      raw-reads.Asked,
+      raw-reads.Learnt,
+      slots-reads.Asked,
+      slots-reads.Learnt,
+      create-row-below t,
+      create-row.Post,
+      emit-reads.Asked,
+      emit-reads.Learnt,
+    )
+    (create-let-at t)
+    create-let.Post
+    (create-let-raw-requires t)
+    (create-let-slots-requires t)
+    (create-let-array-read-create-row t)
+    (create-let-create-row-requires t)
+    (create-let-emit-requires t)
+    (create-let-array-read-create-row-2 t)
+    (create-let-create-row-requires-2 t)
+    (create-let-returns t))
+    (λ t. create-parts-lts.spec (
+      create-row-below t,
+      create-row.Post,
+      scratch-reads.Asked,
+      scratch-reads.Learnt,
+      emit-reads.Asked,
+      emit-reads.Learnt,
+      create-parts-below t,
+      create-parts.Post,
+    )
+    (create-parts-at t)
+    create-parts.Post
+    (create-parts-array-read-create-row t)
+    (create-parts-create-row-requires t)
+    (create-parts-add-scratch t)
+    (create-parts-scratch-requires t)
+    (create-parts-emit-requires t)
+    (create-parts-add-create-parts t)
+    (create-parts-create-parts-requires t)
+    (create-parts-returns t)
+    (create-parts-returns-2 t))
+    (λ t. create-row-lts.spec (
+      tag-reads.Asked,
+      tag-reads.Learnt,
+      create-encryption-below t,
+      create-encryption.Post,
+      create-tuple-below t,
+      create-tuple.Post,
+      create-let-below t,
+      create-let.Post,
+      create-leaf-reads.Asked,
+      create-leaf-reads.Learnt,
+    )
+    (create-row-at t)
+    create-row.Post
+    (create-row-mul-word t)
+    (create-row-shared-slice-read-word t)
+    (create-row-tag-requires t)
+    (create-row-create-encryption-requires t)
+    (create-row-create-tuple-requires t)
+    (create-row-create-let-requires t)
+    (create-row-create-leaf-requires t)
+    (create-row-returns t)
+    (create-row-returns-2 t)
+    (create-row-returns-3 t)
+    (create-row-returns-4 t))
+    λ t. create-tuple-lts.spec (
+      variable-reads.Asked,
+      variable-reads.Learnt,
+      count-reads.Asked,
+      count-reads.Learnt,
+      slots-reads.Asked,
+      slots-reads.Learnt,
+      take-reads.Asked,
+      take-reads.Learnt,
+      create-parts-below t,
+      create-parts.Post,
+      scratch-reads.Asked,
+      scratch-reads.Learnt,
+      emit-reads.Asked,
+      emit-reads.Learnt,
+    )
+    (create-tuple-at t)
+    create-tuple.Post
+    (create-tuple-variable-requires t)
+    (create-tuple-count-requires t)
+    (create-tuple-slots-requires t)
+    (create-tuple-take-requires t)
+    (create-tuple-create-parts-requires t)
+    (create-tuple-scratch-requires t)
+    (create-tuple-emit-requires t)
+    (create-tuple-emit-requires-2 t)
+    (create-tuple-returns t)

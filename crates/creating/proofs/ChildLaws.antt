@@ -1,0 +1,107 @@
+-- Rows with children of their own: an encryption and a let. Assumes nothing.
+use Prim.Native.Nat.{ℕ, _+_, _-_, _*_, _≤_, _<_}
+use mathlib.Core.Path.{_≡_, sym, ap, subst, _∙_}
+use mathlib.Core.List.{List}
+use native.Mathlib.Omega.{arith}
+use lib.Dec.{lit≤}
+use lib.ListN.{getD}
+use Rattle.code.specs.Instruction.{asObject}
+use Rattle.code.specs.declared.Instruction.the-variants.{Store, Decode, Encrypt}
+use Rattle.patterns.specs.Pattern.{Pattern, encryption, letIn, size}
+use Rattle.patterns.specs.Row.{fieldsOf}
+use Rattle.patterns.specs.Tree.{keyBy}
+use Rattle.theory.specs.Machine.{named}
+use Rattle.theory.specs.Emission.{Env, Emitted, emit}
+use Rattle.theory.specs.Compilers.{keyVar}
+use Rattle.emission.specs.Meets.{Does, Room}
+use Rattle.emission.specs.Budget.{patternIn, words, scratches, Row, RowAt}
+use Rattle.emission.proofs.MeetsLaws.{does-le, does-seq}
+use Rattle.emission.proofs.BudgetLaws.{size-pos}
+use Rattle.emission.proofs.PatternLaws.{good-row, encryption-child, encryption-row, let-children, let-row}
+use Rattle.creating.specs.Creates.{keyCode, patternCode, Creates}
+use Rattle.creating.proofs.RoomLaws.{room-le, room-then, row-below}
+use Rattle.creating.proofs.KeyLaws.{key-variable}
+
+pub slot : (children : List ℕ) (word i : ℕ) → children ≡ fieldsOf word .slots → getD children i 0 ≡ getD (fieldsOf word .slots) i 0
+slot children word i h = ap (λ (l : List ℕ). getD l i 0) h
+
+module _ (rows : List ℕ) (row word : ℕ) {e : List ℕ} (asked : RowAt rows row word e) where
+  -- a row whose pattern is known
+  pub room-as : (p : Pattern) → patternIn rows row ≡ p → Room (words p) (scratches p) e
+  room-as p h = subst (λ (q : Pattern). Room (words q) (scratches q) e) h (asked .whole .room)
+
+  pub as-pattern : (kinds : List ℕ) {code e′ code′ : List ℕ} (p : Pattern) → patternIn rows row ≡ p → Does (patternCode kinds p) (words p) (scratches p) e code e′ code′
+      → Creates rows kinds row e code e′ code′
+  as-pattern kinds {code} {e′} {code′} p h k = subst (λ (q : Pattern). Does (patternCode kinds q) (words q) (scratches q) e code e′ code′) (sym h) k
+
+  -- e : E(key, p)
+  pub encryption-key : fieldsOf word .tag ≡ 5 → (fieldsOf word .f < 3) × (fieldsOf word .x < 64)
+  encryption-key five =
+      let key = good-row rows row word (asked .whole .good) (asked .whole .inside) (asked .here) .encryption five .0 in
+      (omega (arith, key .form), omega (arith, key .variable))
+
+  module _ (five : fieldsOf word .tag ≡ 5) (child : ℕ) (first : child ≡ getD (fieldsOf word .slots) 0 0) where
+    is-encryption : patternIn rows row ≡ encryption row (fieldsOf word .v) (keyBy (fieldsOf word)) (patternIn rows child)
+    is-encryption = encryption-row rows row word (asked .whole .good) (asked .whole .inside) (asked .here) child first five
+
+    pub encryption-below : child < row
+    encryption-below = encryption-child rows row word (asked .whole .good) (asked .whole .inside) (asked .here) child first five
+
+    encryption-room : Room (8 * size (patternIn rows child) + 7) (2 * size (patternIn rows child) + 1) e
+    unfolding size
+    encryption-room = room-le (omega arith) (omega arith) (room-as (encryption row (fieldsOf word .v) (keyBy (fieldsOf word)) (patternIn rows child)) is-encryption)
+
+    module _ {f : Env → Emitted} {code e₁ code₁ : List ℕ} (keyed : Does f 3 0 e code e₁ code₁) where
+      pub encryption-inside : Row rows child e₁
+      encryption-inside = row-below rows row child (asked .whole) encryption-below (room-then (omega arith) (omega arith) encryption-room keyed)
+
+      module _ {g : Env → Emitted} {e₂ code₂ : List ℕ} (made : Does g (words (patternIn rows child)) (scratches (patternIn rows child)) e₁ code₁ e₂ code₂) where
+        after-inside : Room 2 0 e₂
+        after-inside = room-then (omega arith) (omega arith) encryption-room (does-seq keyed made)
+
+        pub encrypt-room : Room 1 0 e₂
+        encrypt-room = room-le (lit≤ tt) (lit≤ tt) after-inside
+
+        pub seal-room : {h : Env → Emitted} {e₃ code₃ : List ℕ} → Does h 1 0 e₂ code₂ e₃ code₃ → Room 1 0 e₃
+        seal-room encrypted = room-then (lit≤ tt) (lit≤ tt) after-inside encrypted
+
+    pub encryption-done : (kinds : List ℕ) (v x : ℕ) → v ≡ fieldsOf word .v → x ≡ fieldsOf word .x → {code e₁ code₁ e₂ code₂ e₃ code₃ e₄ code₄ : List ℕ}
+        → Does (keyCode kinds row (keyBy (fieldsOf word))) 3 0 e code e₁ code₁ → Creates rows kinds child e₁ code₁ e₂ code₂
+        → Does (emit row (Encrypt (asObject x))) 1 0 e₂ code₂ e₃ code₃ → Does (emit row (Decode (asObject v))) 1 0 e₃ code₃ e₄ code₄ → Creates rows kinds row e code e₄ code₄
+    unfolding keyCode patternCode size
+    encryption-done kinds v x variable key {e₂ = e₂} {code₂ = code₂} {e₃ = e₃} {code₃ = code₃} {e₄ = e₄} {code₄ = code₄} k l m n =
+        let same : x ≡ keyVar (keyBy (fieldsOf word)) = key ∙ sym (key-variable (fieldsOf word)) in
+        let o : Does (emit row (Encrypt (asObject (keyVar (keyBy (fieldsOf word)))))) 1 0 e₂ code₂ e₃ code₃ = rw same at m in
+        let p : Does (emit row (Decode (asObject (fieldsOf word .v)))) 1 0 e₃ code₃ e₄ code₄ = rw variable at n in
+        as-pattern kinds (encryption row (fieldsOf word .v) (keyBy (fieldsOf word)) (patternIn rows child)) is-encryption
+        (does-le (omega (arith, size-pos (patternIn rows child))) (omega (arith, size-pos (patternIn rows child))) (does-seq k (does-seq l (does-seq o p))))
+
+  -- let r = p1 in p2
+  module _ (nine : fieldsOf word .tag ≡ 9) (child : ℕ) (first : child ≡ getD (fieldsOf word .slots) 0 0) (other : ℕ) (second : other ≡ getD (fieldsOf word .slots) 1 0) where
+    is-let : patternIn rows row ≡ letIn row (fieldsOf word .r) (patternIn rows child) (patternIn rows other)
+    is-let = let-row rows row word (asked .whole .good) (asked .whole .inside) (asked .here) child first other second nine
+
+    pub let-below : (child < row) × (other < row)
+    let-below = let-children rows row word (asked .whole .good) (asked .whole .inside) (asked .here) child first other second nine
+
+    let-room : Room (8 * (size (patternIn rows child) + size (patternIn rows other)) + 7) (2 * (size (patternIn rows child) + size (patternIn rows other)) + 1) e
+    unfolding size
+    let-room = room-le (omega arith) (omega arith) (room-as (letIn row (fieldsOf word .r) (patternIn rows child) (patternIn rows other)) is-let)
+
+    pub let-first : Row rows child e
+    let-first = row-below rows row child (asked .whole) (let-below .0) (room-le (omega arith) (omega arith) let-room)
+
+    module _ {f : Env → Emitted} {code e₁ code₁ : List ℕ} (made : Does f (words (patternIn rows child)) (scratches (patternIn rows child)) e code e₁ code₁) where
+      pub let-store : Room 1 0 e₁
+      let-store = room-then (omega arith) (omega arith) let-room made
+
+      pub let-second : {g : Env → Emitted} {e₂ code₂ : List ℕ} → Does g 1 0 e₁ code₁ e₂ code₂ → Row rows other e₂
+      let-second stored = row-below rows row other (asked .whole) (let-below .1) (room-then (omega arith) (omega arith) let-room (does-seq made stored))
+
+    pub let-done : (kinds : List ℕ) (r : ℕ) → r ≡ fieldsOf word .r → {code e₁ code₁ e₂ code₂ e₃ code₃ : List ℕ} → Creates rows kinds child e code e₁ code₁
+        → Does (emit row (Store (named r))) 1 0 e₁ code₁ e₂ code₂ → Creates rows kinds other e₂ code₂ e₃ code₃ → Creates rows kinds row e code e₃ code₃
+    unfolding patternCode size
+    let-done kinds r raw {e₁ = e₁} {code₁ = code₁} {e₂ = e₂} {code₂ = code₂} k l m =
+        let n : Does (emit row (Store (named (fieldsOf word .r)))) 1 0 e₁ code₁ e₂ code₂ = rw raw at l in
+        as-pattern kinds (letIn row (fieldsOf word .r) (patternIn rows child) (patternIn rows other)) is-let
+        (does-le (omega arith) (omega arith) (does-seq k (does-seq n m)))

@@ -1,0 +1,7 @@
+-- What the proofs of several functions use.
+pub mod RoomLaws
+pub mod KeyLaws
+pub mod FormLaws
+pub mod LeafLaws
+pub mod ChildLaws
+pub mod PartLaws

@@ -1,0 +1,2 @@
+-- What creating promises of a row.
+pub mod Creates

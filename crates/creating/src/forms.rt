@@ -1,0 +1,66 @@
+// The forms with no part: at most seven words each.
+use crate::keys;
+use code::Instruction;
+use code::Object;
+use code::Raw;
+use emission::Code;
+use emission::Emission;
+use emission::emit;
+ghost use mathlib.Core.List.{List};
+ghost use Prim.Native.Nat.{ℕ, _<_};
+ghost use Rattle.patterns.specs.Pattern.{object, constant, opposite, hash};
+ghost use Rattle.emission.specs.Meets.{Does, Room};
+ghost use Rattle.creating.specs.Creates.{patternCode};
+
+// v
+pub fn create_object(kinds: &[u8], code: &mut Code, emission: &mut Emission, row: u8, v: u8)
+    requires { ⌜ v < 64 ⌝ }
+    requires { ⌜ Room 7 1 (now emission) ⌝ }
+    ensures { λ _. ⌜ Does (patternCode (now (kinds .entry)) (object row v)) 7 1 (now (emission .entry)) (now (code .entry)) (now (emission .exit)) (now (code .exit)) ⌝ }
+{
+    keys::get_variable(kinds, code, emission, row, v);
+    emit(code, emission, row, Instruction::Encode(Object(v)));
+}
+
+// c : C, whatever the kinds
+pub fn create_constant(code: &mut Code, emission: &mut Emission, row: u8, c: u8, byte: u8)
+    requires { ⌜ c < 64 ⌝ }
+    requires { ⌜ Room 7 1 (now emission) ⌝ }
+    ensures { λ _. ⌜ ((kinds : List ℕ) → Does (patternCode kinds (constant row c byte)) 7 1 (now (emission .entry)) (now (code .entry)) (now (emission .exit)) (now (code .exit))) ⌝ }
+{
+    emit(
+        code,
+        emission,
+        row,
+        Instruction::StoreConst(Object(c), byte),
+    );
+    emit(code, emission, row, Instruction::Encode(Object(c)));
+}
+
+// k : op(K)
+pub fn create_opposite(
+    kinds: &[u8],
+    code: &mut Code,
+    emission: &mut Emission,
+    row: u8,
+    public: u8,
+    private: u8,
+)
+    requires { ⌜ (public < 64) × (private < 64) ⌝ }
+    requires { ⌜ Room 7 1 (now emission) ⌝ }
+    ensures { λ _. ⌜ Does (patternCode (now (kinds .entry)) (opposite row public private)) 7 1 (now (emission .entry)) (now (code .entry)) (now (emission .exit)) (now (code .exit)) ⌝ }
+{
+    keys::opposite_key(kinds, code, emission, row, public, private);
+    emit(code, emission, row, Instruction::Encode(Object(public)));
+}
+
+// h : H(r), whatever the kinds
+pub fn create_hash(code: &mut Code, emission: &mut Emission, row: u8, h: u8, r: u8)
+    requires { ⌜ h < 64 ⌝ }
+    requires { ⌜ Room 7 1 (now emission) ⌝ }
+    ensures { λ _. ⌜ ((kinds : List ℕ) → Does (patternCode kinds (hash row h r)) 7 1 (now (emission .entry)) (now (code .entry)) (now (emission .exit)) (now (code .exit))) ⌝ }
+{
+    emit(code, emission, row, Instruction::Load(Raw(r)));
+    emit(code, emission, row, Instruction::Hash(Object(h)));
+    emit(code, emission, row, Instruction::Decode(Object(h)));
+}

@@ -1,0 +1,46 @@
+// Cells hold rows. A cell past the lent ones is unset.
+ghost use mathlib.Core.Path.{_≡_};
+ghost use Prim.Native.Nat.{_<_};
+ghost use lib.ListN.{length, getD, set};
+ghost use Rattle.stores.specs.Cells.{unset};
+use code::Object;
+use code::Raw;
+use code::TermRow;
+
+pub const UNSET: u16 = 65535;
+
+pub fn cell_at(cells: &[u16], at: usize) -> u16
+    ensures { λ r. ⌜ r ≡ getD (now (cells .entry)) at unset ⌝ }
+{
+    if at < cells.len() { cells[at] } else { UNSET }
+}
+
+pub fn object_at(objects: &[u16], v: Object) -> u16
+    ensures { λ r. ⌜ r ≡ getD (now (objects .entry)) (v .0) unset ⌝ }
+{
+    let at = v.0 as usize;
+    cell_at(objects, at)
+}
+
+pub fn message_at(messages: &[u16], r: Raw) -> u16
+    ensures { λ s. ⌜ s ≡ getD (now (messages .entry)) (r .0) unset ⌝ }
+{
+    let at = r.0 as usize;
+    cell_at(messages, at)
+}
+
+pub fn set_object(objects: &mut [u16], v: Object, row: TermRow)
+    requires { ⌜ v .0 < length (now objects) ⌝ }
+    ensures { λ s. ⌜ now (objects .exit) ≡ set (now (objects .entry)) (v .0) (row .0) ⌝ }
+{
+    let at = v.0 as usize;
+    objects[at] = row.0;
+}
+
+pub fn set_message(messages: &mut [u16], r: Raw, row: TermRow)
+    requires { ⌜ r .0 < length (now messages) ⌝ }
+    ensures { λ s. ⌜ now (messages .exit) ≡ set (now (messages .entry)) (r .0) (row .0) ⌝ }
+{
+    let at = r.0 as usize;
+    messages[at] = row.0;
+}

@@ -1,0 +1,90 @@
+// Instructions that move rows between the accumulator and the cells.
+ghost use Prim.Native.Nat.{ℕ, _<_};
+ghost use lib.ListN.{length};
+ghost use Rattle.code.specs.declared.Instruction.the-variants.{Load, Store, Decode, Encode, Match};
+ghost use Rattle.theory.specs.Compile.{kindIn};
+ghost use Rattle.machine.specs.Machine.{withObjects, withMessages, withRows, Does};
+use super::Registers;
+use super::Step;
+use super::cells::UNSET;
+use super::cells::message_at;
+use super::cells::object_at;
+use super::cells::set_message;
+use super::cells::set_object;
+use super::rows::kind_at;
+use answers::Reason;
+use code::Object;
+use code::Raw;
+use code::TermRow;
+
+impl Registers {
+    pub fn load(self, messages: &[u16], r: Raw) -> Step
+        ensures { λ s. ⌜ ((kind : ℕ → ℕ) → Does kind (Load r) self (λ x. withMessages x (now (messages .entry))) s (λ x. withMessages x (now (messages .entry)))) ⌝ }
+    {
+        let row = message_at(messages, r);
+        if row == UNSET {
+            return Step::Stuck(Reason::Unset);
+        }
+        Step::Next(self.holding(TermRow(row)))
+    }
+
+    pub fn store(self, messages: &mut [u16], r: Raw) -> Step
+        requires { ⌜ r .0 < length (now messages) ⌝ }
+        ensures { λ s. ⌜ ((kind : ℕ → ℕ) → Does kind (Store r) self (λ x. withMessages x (now (messages .entry))) s (λ x. withMessages x (now (messages .exit)))) ⌝ }
+    {
+        let row = self.accumulator;
+        let cell = row.0;
+        if cell == UNSET {
+            return Step::Stuck(Reason::Unset);
+        }
+        set_message(messages, r, row);
+        Step::Next(self)
+    }
+
+    pub fn encode(self, objects: &[u16], v: Object) -> Step
+        ensures { λ s. ⌜ ((kind : ℕ → ℕ) → Does kind (Encode v) self (λ x. withObjects x (now (objects .entry))) s (λ x. withObjects x (now (objects .entry)))) ⌝ }
+    {
+        let row = object_at(objects, v);
+        if row == UNSET {
+            return Step::Stuck(Reason::Unset);
+        }
+        Step::Next(self.holding(TermRow(row)))
+    }
+
+    pub fn decode(self, kinds: &[u8], rows: &[u64], objects: &mut [u16], v: Object) -> Step
+        requires { ⌜ v .0 < length (now objects) ⌝ }
+        ensures { λ s. ⌜ Does (kindIn (now (kinds .entry))) (Decode v) self
+            (λ x. withRows (withObjects x (now (objects .entry))) (now (rows .entry))) s
+            (λ x. withRows (withObjects x (now (objects .exit))) (now (rows .entry))) ⌝ }
+    {
+        let row = self.accumulator;
+        let cell = row.0;
+        if cell == UNSET {
+            return Step::Stuck(Reason::Unset);
+        }
+        if terms::tag(terms::row_at(rows, cell)) != kind_at(kinds, v) {
+            return Step::Stuck(Reason::OtherKind);
+        }
+        set_object(objects, v, row);
+        Step::Next(self)
+    }
+
+    // MATCH r; `match` is a word of the language.
+    pub fn compare(self, messages: &[u16], r: Raw) -> Step
+        ensures { λ s. ⌜ ((kind : ℕ → ℕ) → Does kind (Match r) self (λ x. withMessages x (now (messages .entry))) s (λ x. withMessages x (now (messages .entry)))) ⌝ }
+    {
+        let row = self.accumulator;
+        let cell = row.0;
+        if cell == UNSET {
+            return Step::Stuck(Reason::Unset);
+        }
+        let other = message_at(messages, r);
+        if other == UNSET {
+            return Step::Stuck(Reason::Unset);
+        }
+        if cell != other {
+            return Step::Stuck(Reason::Differs);
+        }
+        Step::Next(self)
+    }
+}

@@ -1,0 +1,86 @@
+// Kinds and cells.
+ghost use mathlib.Core.Path.{_≡_};
+ghost use Prim.Native.Nat.{min};
+ghost use lib.ListN.{length};
+ghost use Rattle.word.specs.Lowest.{each};
+ghost use Rattle.stores.specs.Cells.{isSet};
+ghost use Rattle.stores.specs.Valid.{kindsFit, eachVariable, undeclaredUnset, cellFits, declared};
+
+pub fn is_set(cell: u32) -> bool
+    ensures { λ r. ⌜ r ≡ isSet cell ⌝ }
+{
+    cell != 65535
+}
+
+// A cell is unset or a used row.
+pub fn cell_fits(used: u16, cell: u32) -> bool
+    ensures { λ r. ⌜ r ≡ cellFits used cell ⌝ }
+{
+    !is_set(cell) | (cell < used as u32)
+}
+
+pub fn cells_fit(used: u16, cells: &[u16]) -> bool
+    ensures { λ r. ⌜ r ≡ each (cellFits used) (now (cells .entry)) ⌝ }
+{
+    let mut i = 0;
+    while i < cells.len() {
+        if !cell_fits(used, cells[i] as u32) {
+            return false;
+        }
+        i += 1;
+    }
+    true
+}
+
+// A kind is at most 10.
+pub fn kinds_fit(kinds: &[u8]) -> bool
+    ensures { λ r. ⌜ r ≡ kindsFit (now (kinds .entry)) ⌝ }
+{
+    let mut i = 0;
+    while i < kinds.len() {
+        if 10 < kinds[i] {
+            return false;
+        }
+        i += 1;
+    }
+    true
+}
+
+// The number of variables with a kind and a cell.
+pub fn variables(kinds: &[u8], objects: &[u16]) -> usize
+    ensures { λ r. ⌜ r ≡ min (length (now (kinds .entry))) (length (now (objects .entry))) ⌝ }
+{
+    if kinds.len() < objects.len() {
+        kinds.len()
+    } else {
+        objects.len()
+    }
+}
+
+// The cell of an undeclared variable is unset.
+pub fn undeclared_unset(kind: u8, cell: u32) -> bool
+    ensures { λ r. ⌜ r ≡ undeclaredUnset kind cell ⌝ }
+{
+    (kind != 0) | !is_set(cell)
+}
+
+fn all_declared(kinds: &[u8], objects: &[u16]) -> bool
+    ensures { λ r. ⌜ r ≡ eachVariable undeclaredUnset (now (kinds .entry)) (now (objects .entry)) ⌝ }
+{
+    let count = variables(kinds, objects);
+    let mut v = 0;
+    while v < count {
+        if !undeclared_unset(kinds[v], objects[v] as u32) {
+            return false;
+        }
+        v += 1;
+    }
+    true
+}
+
+// 3, as compile sees it.
+pub fn declares(kinds: &[u8], objects: &[u16]) -> bool
+    ensures { λ r. ⌜ r ≡ declared (now (kinds .entry)) (now (objects .entry)) ⌝ }
+{
+    kinds_fit(kinds) & all_declared(kinds, objects)
+}

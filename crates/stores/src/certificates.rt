@@ -1,0 +1,72 @@
+// Certificates: agent row 12, public key row 12, zero 40.
+ghost use mathlib.Core.Path.{_≡_};
+ghost use mathlib.Core.Bool.{not};
+ghost use lib.ListN.{drop};
+ghost use lib.Dec.{eqb};
+ghost use Rattle.word.specs.Lowest.{each};
+ghost use Rattle.stores.specs.Certificates.{agentOf, keyOf, spareOf, certified, agentsOnce};
+ghost use Rattle.stores.specs.Answer.{certificateOf};
+use super::Certificate;
+use code::TermRow;
+
+pub fn agent(word: u64) -> u16
+    ensures { λ r. ⌜ r ≡ agentOf word ⌝ }
+{
+    ((word >> 52) % 4096) as u16
+}
+
+pub fn key(word: u64) -> u16
+    ensures { λ r. ⌜ r ≡ keyOf word ⌝ }
+{
+    ((word >> 40) % 4096) as u16
+}
+
+pub fn spare(word: u64) -> u64
+    ensures { λ r. ⌜ r ≡ spareOf word ⌝ }
+{
+    word % 1099511627776
+}
+
+// The public key row of an agent row.
+pub fn certified(certificates: &[u64], agent: u16) -> Certificate
+    ensures { λ r. ⌜ r ≡ certificateOf (certified (now (certificates .entry)) agent) ⌝ }
+{
+    let mut i = 0;
+    while i < certificates.len() {
+        let word = certificates[i];
+        if self::agent(word) == agent {
+            return Certificate::Key(TermRow(key(word)));
+        }
+        i += 1;
+    }
+    Certificate::None
+}
+
+// An agent stands nowhere among the certificates from a place on.
+fn stands_nowhere(certificates: &[u64], from: usize, agent: u16) -> bool
+    ensures { λ r. ⌜ r ≡ each (λ other. not (eqb (agentOf other) agent)) (drop from (now (certificates .entry))) ⌝ }
+{
+    let mut i = from;
+    while i < certificates.len() {
+        if self::agent(certificates[i]) == agent {
+            return false;
+        }
+        i += 1;
+    }
+    true
+}
+
+// No agent twice.
+pub fn agents_once(certificates: &[u64]) -> bool
+    ensures { λ r. ⌜ r ≡ agentsOnce (now (certificates .entry)) ⌝ }
+{
+    let mut i = 0;
+    while i < certificates.len() {
+        let named = agent(certificates[i]);
+        i += 1;
+        if !stands_nowhere(certificates, i, named) {
+            return false;
+        }
+    }
+    true
+}

@@ -1,0 +1,4 @@
+-- Laws of text that is written.
+pub mod DigitLaws
+pub mod WrittenLaws
+pub mod LineLaws

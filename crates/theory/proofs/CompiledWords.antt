@@ -1,0 +1,74 @@
+-- The words of compiled code pass run's check, and are read as the lines that they were written for.
+use mathlib.Core.Path.{_≡_, refl, sym, _∙_, ap}
+use mathlib.Core.Bool.{Bool, _&&_}
+use mathlib.Core.Option.{Option, none, some}
+use mathlib.Core.List.{List, [], _∷_, map}
+use Prim.Native.Nat.{ℕ, zero, suc, _+_, _<_, _≤_}
+use native.Mathlib.Omega.{arith}
+use lib.Dec.{T, ltb, leb}
+use lib.ListN.{length, getD, length-map}
+use Rattle.word.specs.Lowest.{oneOf}
+use Rattle.word.proofs.All.{All}
+use Rattle.word.proofs.TestLaws.{both, is-below, at-most}
+use Rattle.code.specs.Instruction.{wordOf, instructionOf}
+use Rattle.code.specs.Words.{hasKind, cellsFit, operandsFit, badWord}
+use Rattle.code.specs.declared.Object.{Object}
+use Rattle.code.specs.declared.Raw.{Raw}
+use Rattle.code.specs.declared.Instruction.{Instruction}
+use Rattle.code.specs.declared.Instruction.the-variants.{Load, Store, StoreConst, Decode, Encode, Create, AnalyzeTuple, CreateTuple, Opposite, KeyOf, Match, Encrypt, Decrypt, Sign, Verify, Hash}
+use Rattle.code.proofs.WordLaws.{FieldsFit, GoodWord, word-read, no-bad-word-iff}
+use Rattle.theory.specs.Machine.{Line, line}
+use Rattle.theory.specs.Compile.{codeWords}
+use Rattle.theory.specs.Run.{addLine, linesFrom, linesOf}
+use Rattle.theory.proofs.InLimits.{InRange, AllInRange}
+
+module _ (kind : ℕ → ℕ) where
+  low : (v : Object) (kinds : List ℕ) → T (hasKind kind v kinds) → v .0 < 256
+  low v kinds has = let l = is-below (v .0) 64 .0 (both (ltb (v .0) 64) (oneOf kinds (kind (v .0))) .0 has .0) in omega arith
+
+  tuple-low : (t : Object) (b : Raw) (n : ℕ) → T (hasKind kind t (10 ∷ []) && cellsFit b n) → (t .0 < 256) × (n < 8)
+  tuple-low t b n has =
+      let (k, c) = both (hasKind kind t (10 ∷ [])) (cellsFit b n) .0 has in
+      let m = at-most n 4 .0 (both (leb n 4) (leb (b .0 + n) 256) .0 c .0) in
+      (low t (10 ∷ []) k, omega arith)
+
+  -- an instruction in range has room in a word's fields
+  fields-fit : (i : Instruction) → InRange kind i → FieldsFit i
+  fields-fit (Load r) f = record { a = omega (arith, f .cells); b = omega arith; n = omega arith }
+  fields-fit (Store r) f = record { a = omega (arith, f .cells); b = omega arith; n = omega arith }
+  fields-fit (StoreConst c b) f = record { a = low c _ (f .operands); b = f .cells; n = omega arith }
+  fields-fit (Decode v) f = record { a = low v _ (f .operands); b = omega arith; n = omega arith }
+  fields-fit (Encode v) f = record { a = low v _ (f .operands); b = omega arith; n = omega arith }
+  fields-fit (Create v) f = record { a = low v _ (f .operands); b = omega arith; n = omega arith }
+  fields-fit (AnalyzeTuple t b n) f = let l = tuple-low t b n (f .operands) in record { a = l .0; b = omega (arith, f .cells .0); n = l .1 }
+  fields-fit (CreateTuple t b n) f = let l = tuple-low t b n (f .operands) in record { a = l .0; b = omega (arith, f .cells .0); n = l .1 }
+  fields-fit (Opposite K k) f =
+      let (p, q) = both (hasKind kind K (5 ∷ [])) (hasKind kind k (4 ∷ [])) .0 (f .operands) in
+      record { a = low K (5 ∷ []) p; b = low k (4 ∷ []) q; n = omega arith }
+  fields-fit KeyOf f = record { a = omega arith; b = omega arith; n = omega arith }
+  fields-fit (Match r) f = record { a = omega (arith, f .cells); b = omega arith; n = omega arith }
+  fields-fit (Encrypt v) f = record { a = low v _ (f .operands); b = omega arith; n = omega arith }
+  fields-fit (Decrypt v) f = record { a = low v _ (f .operands); b = omega arith; n = omega arith }
+  fields-fit (Sign v) f = record { a = low v _ (f .operands); b = omega arith; n = omega arith }
+  fields-fit (Verify v r) f = record { a = low v _ (f .operands); b = omega (arith, f .cells); n = omega arith }
+  fields-fit (Hash h) f = record { a = low h _ (f .operands); b = omega arith; n = omega arith }
+
+  good-words : (lines : List Line) → AllInRange kind lines → (i : ℕ) → i < length (codeWords lines) → GoodWord kind (getD (codeWords lines) i 0)
+  good-words [] h i l = absurd (omega arith)
+  good-words (x ∷ lines) h zero l =
+      record { instruction = x .instruction; says = word-read (x .instruction) (fields-fit (x .instruction) (h .0)); own = refl; operands = h .0 .operands }
+  good-words (x ∷ lines) h (suc i) l = good-words lines (h .1) i (omega arith)
+
+  -- run's check 9 passes
+  pub compiled-words-good : (lines : List Line) → AllInRange kind lines → badWord kind (codeWords lines) ≡ none
+  compiled-words-good lines h = no-bad-word-iff kind (codeWords lines) .1 (good-words lines h)
+
+  -- and the words are the same instructions again
+  read-lines : (place : ℕ) (lines : List Line) → AllInRange kind lines → map (λ l. l .instruction) (linesFrom place (codeWords lines)) ≡ map (λ l. l .instruction) lines
+  unfolding linesFrom
+  read-lines place [] h = refl
+  read-lines place (x ∷ lines) h =
+      rw (word-read (x .instruction) (fields-fit (x .instruction) (h .0))) (ap (λ is. x .instruction ∷ is) (read-lines (suc place) lines (h .1)))
+
+  pub compiled-words-read : (lines : List Line) → AllInRange kind lines → map (λ l. l .instruction) (linesOf (codeWords lines)) ≡ map (λ l. l .instruction) lines
+  compiled-words-read lines h = read-lines zero lines h

@@ -1,0 +1,81 @@
+-- Demand 3, from packed words to the figures: what the run of compiled code comes to is what the rules give.
+use mathlib.Core.Path.{_≡_, refl, sym, _∙_, ap, subst, fun-ext}
+use mathlib.Core.Bool.{Bool, true, false, cond, not, _&&_}
+use mathlib.Core.Option.{Option, none, some, Option·map}
+use mathlib.Core.List.{List, [], _∷_, map}
+use Prim.Native.Nat.{ℕ, zero, suc, _+_, _≤_}
+use native.Mathlib.Omega.{arith}
+use lib.Dec.{T, eqb, leb}
+use lib.ListN.{length, getD, take, List·getD-eq-default}
+use Rattle.word.proofs.All.{All, all-map}
+use Rattle.word.proofs.TestLaws.{both, at-most}
+use Rattle.answers.specs.declared.Compiled.{Compiled}
+use Rattle.answers.specs.declared.Compiled.the-variants.{Done}
+use Rattle.code.specs.Words.{operandsFit}
+use Rattle.patterns.specs.Pattern.{Pattern, size, RawsBelow, Packed}
+use Rattle.patterns.specs.Rules.{badPattern}
+use Rattle.patterns.specs.Tree.{patternOf}
+use Rattle.patterns.specs.Kinds.{RightKinds, wrongKind}
+use Rattle.patterns.proofs.TreeLaws.{pattern-size, right-kinds, raws-below, packed}
+use Rattle.theory.specs.Machine.{Line}
+use Rattle.theory.specs.Emission.{Env, Emitted, ok, refuse}
+use Rattle.theory.specs.Compile.{kindIn, variables, tables, entry, compile}
+use Rattle.theory.proofs.InLimits.{InLimits, InRange, AllInRange, Refusal, matching-in-limits, creating-in-limits, matching-refuses, creating-refuses}
+use Rattle.theory.proofs.CompileLaws.{Checked, Compiles, done-compiles}
+use Rattle.theory.proofs.Fitting.{ByteFits}
+
+-- the lengths of 1, as far as the pattern's
+pattern-lengths : (a b c d e : Bool) → T (a && b && c && d && e) → T a × T b
+pattern-lengths a b c d e h = let g = both (a && b && c && d) e .0 h .0 in let i = both (a && b && c) d .0 g .0 in both a b .0 (both (a && b) c .0 i .0)
+
+-- both directions of emission
+module _ (kind : ℕ → ℕ) (declared : (v : ℕ) → 64 ≤ v → kind v ≡ 0) where
+  tables-refuse : (create : Bool) (p : Pattern) (e : Env) (answer : Compiled) → RightKinds create kind p → RawsBelow 64 p → Packed p → size p ≤ 96 → e .next ≡ 0
+      → tables create kind p e ≡ refuse answer → Refusal answer
+  tables-refuse true = creating-refuses kind declared
+  tables-refuse false = matching-refuses kind declared
+
+  tables-limits : (create : Bool) (p : Pattern) (e e′ : Env) (c : List Line) → RightKinds create kind p → RawsBelow 64 p → Packed p → size p ≤ 96 → e .next ≡ 0
+      → tables create kind p e ≡ ok c e′ → InLimits kind c e′
+  tables-limits true = creating-in-limits kind declared
+  tables-limits false = matching-in-limits kind declared
+
+module _ (create : Bool) (pattern kinds objects named : List ℕ) (kinds-length : length kinds ≡ variables) where
+  -- a variable past the kinds is undeclared
+  declared-kinds : (v : ℕ) → 64 ≤ v → kindIn kinds v ≡ 0
+  declared-kinds v h = List·getD-eq-default kinds 0 (omega arith)
+
+  -- what the tables are given once the checks have passed
+  record Given : Type 0 where
+    few : size (patternOf pattern) ≤ 96
+    right : RightKinds create (kindIn kinds) (patternOf pattern)
+    raws : RawsBelow 64 (patternOf pattern)
+    fields : Packed (patternOf pattern)
+
+  given : Checked create pattern kinds objects named → Given
+  given c =
+      let (least, most) = pattern-lengths (leb 1 (length pattern)) (leb (length pattern) 96) (eqb (length kinds) 64) (eqb (length objects) 64) (eqb (length named) 64) (c .lengths) in
+      let one = at-most 1 (length pattern) .0 least in
+      record {
+        few = omega (arith, pattern-size pattern (c .rows) one, at-most (length pattern) 96 .0 most);
+        right = right-kinds pattern (c .rows) create (kindIn kinds) one (c .right);
+        raws = raws-below pattern;
+        fields = packed pattern;
+      }
+
+  -- a done compile: the checks have passed, and its words are those of lines within limits
+  pub record Written (words : ℕ) (after : List ℕ) : Type 0 where
+    pub compiles : Compiles create pattern kinds objects named words after
+    pub right : RightKinds create (kindIn kinds) (patternOf pattern)
+    pub limits : InLimits (kindIn kinds) (compiles .lines) (compiles .env)
+
+  pub compile-writes : (slice : List ℕ) (words : ℕ) → compile create pattern kinds objects named slice .answer ≡ Done words → Written words (compile create pattern kinds objects named slice .code)
+  compile-writes slice words e =
+      let c = done-compiles create pattern kinds objects named slice words
+      (λ checks answer q. let g = given checks in tables-refuse (kindIn kinds) declared-kinds create (patternOf pattern) (entry objects named) answer (g .right) (g .raws) (g .fields) (g .few) refl q) e in
+      let g = given (c .checks) in
+      record {
+        compiles = c;
+        right = g .right;
+        limits = tables-limits (kindIn kinds) declared-kinds create (patternOf pattern) (entry objects named) (c .env) (c .lines) (g .right) (g .raws) (g .fields) (g .few) refl (c .emits);
+      }
