@@ -1,22 +1,20 @@
 -- How steps of emission are joined. Assumes nothing.
-use Prim.Native.Nat.{ℕ, zero, suc, _+_, _*_, _/_, _%_, _≤_, _<_}
+use Prim.Native.Nat.{ℕ, suc, _+_, _≤_}
 use mathlib.Core.Path.{_≡_, refl, sym, ap, subst, fun-ext, _∙_}
 use mathlib.Core.Bool.{Bool, true, false, cond}
-use mathlib.Core.Option.{Option, none, some}
-use mathlib.Core.List.{List, [], _∷_, _++_, map, append-assoc, map-append}
+use mathlib.Core.Option.{some}
+use mathlib.Core.List.{List, [], _∷_, _++_, append-assoc, map-append}
 use native.Mathlib.Nat.{add-zero}
 use native.Mathlib.Omega.{arith}
-use lib.ListN.{length, getD, set, length-append, length-map}
+use lib.ListN.{length, set, length-append, length-map}
 use lib.Seq.{sets}
-use lib.Dec.{eqb}
-use borrow.Author.Tests.{eq-eqb, ne-eqb}
 use Rattle.answers.specs.declared.Compiled.{Compiled}
 use Rattle.theory.specs.Machine.{Line}
 use Rattle.theory.specs.Emission.{Env, Emitted, ok, refuse, after, andThen, _then_, take, writes}
 use Rattle.theory.specs.Compile.{codeWords}
 use Rattle.emission.specs.Known.{known}
 use Rattle.emission.specs.Steps.{freeRaw, raise}
-use Rattle.emission.specs.Meets.{nextIn, writtenIn, refusalIn, envOf, refusal, refusing, Fine, MeetsBy, Meets, Does, Quiet, Room}
+use Rattle.emission.specs.Meets.{nextIn, writtenIn, refusalIn, envOf, refusal, MeetsBy, Meets, Does, Quiet}
 
 -- what follows an emission may be taken together
 after-append : (c d : List Line) (x : Emitted) → after (c ++ d) x ≡ after c (after d x)

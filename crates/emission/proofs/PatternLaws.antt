@@ -1,18 +1,18 @@
 -- The pattern of a good row, by the row's tag. Assumes nothing.
-use Prim.Native.Nat.{ℕ, zero, suc, _+_, _-_, _*_, _/_, _%_, _^_, _≤_, _<_}
-use mathlib.Core.Path.{_≡_, refl, sym, ap, subst, _∙_}
-use mathlib.Core.Option.{none}
+use Prim.Native.Nat.{ℕ, _≤_, _<_}
+use mathlib.Core.Path.{_≡_, refl, ap, _∙_}
 use mathlib.Core.List.{List, [], _∷_}
 use native.Mathlib.Omega.{arith}
-use lib.ListN.{length, getD, take}
+use lib.ListN.{length, getD}
+use lib.Dec.{T}
 use Rattle.word.proofs.All.{All, all-at}
-use Rattle.patterns.specs.Pattern.{Key, plainKey, opKey, certifiedKey, Pattern, object, raw, constant, opposite, keyOf, encryption, signature, hash, tuple, letIn, Parts, end, part}
+use Rattle.patterns.specs.Pattern.{Pattern, object, raw, constant, opposite, keyOf, encryption, signature, hash, tuple, letIn}
 use Rattle.patterns.specs.Row.{fieldsOf, children, childrenOf}
-use Rattle.patterns.specs.Rules.{badPattern}
-use Rattle.patterns.specs.Tree.{keyBy, partsBy, formBy, patternAt, patternsOf}
+use Rattle.patterns.specs.Rules.{rowFits}
+use Rattle.patterns.specs.Tree.{keyBy, partsBy, patternsOf}
 use Rattle.patterns.proofs.RowLaws.{children-count, child-slot}
-use Rattle.patterns.proofs.GoodRow.{GoodKey, GoodRow}
-use Rattle.patterns.proofs.RuleLaws.{fieldsAt, all-good}
+use Rattle.patterns.proofs.GoodRow.{GoodRow}
+use Rattle.patterns.proofs.GoodRow as fits
 use Rattle.patterns.proofs.FormLaws.{Formed, formed}
 use Rattle.emission.specs.Budget.{patternIn}
 
@@ -23,9 +23,9 @@ parts-same f g row (c ∷ cs) h below =
     let t = parts-same f g row cs h (below .1) in
     cc
 
-module _ (rows : List ℕ) (row word : ℕ) (good : badPattern rows ≡ none) (inside : row < length rows) (here : word ≡ getD rows row 0) where
+module _ (rows : List ℕ) (row word : ℕ) (good : (place : ℕ) → place ≤ row → T (rowFits place (fieldsOf (getD rows place 0)))) (inside : row < length rows) (here : word ≡ getD rows row 0) where
   pub good-row : GoodRow row (fieldsOf word)
-  good-row = rw here (all-good rows good row inside)
+  good-row = rw here (fits.good-row row (fieldsOf (getD rows row 0)) .0 (good row (omega arith)))
 
   by-form : Formed (patternsOf rows) row word
   by-form = rw here (formed rows row inside)
@@ -34,7 +34,7 @@ module _ (rows : List ℕ) (row word : ℕ) (good : badPattern rows ≡ none) (i
   children-below : All (λ child. child < row) (children (fieldsOf word))
   children-below = good-row .below
 
-  slot-low : (n i : ℕ) → fieldsOf word .n ≡ n → i < n → n ≤ 4 → getD (fieldsOf word .slots) i 0 < row
+  pub slot-low : (n i : ℕ) → fieldsOf word .n ≡ n → i < n → n ≤ 4 → getD (fieldsOf word .slots) i 0 < row
   slot-low n i e h four =
       let few = children-count word in
       let inside : i < length (childrenOf word) = omega arith in

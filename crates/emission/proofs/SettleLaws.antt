@@ -1,7 +1,7 @@
 -- What an instruction reads and writes, an instruction at a time. Assumes nothing.
-use Prim.Native.Nat.{ℕ, _+_}
-use mathlib.Core.Path.{_≡_, refl, sym, ap, subst, fun-ext, _∙_}
-use mathlib.Core.Bool.{Bool, true, false, cond}
+use Prim.Native.Nat.{ℕ}
+use mathlib.Core.Path.{_≡_, refl, sym, subst, fun-ext, _∙_}
+use mathlib.Core.Bool.{Bool, true, false}
 use mathlib.Core.List.{List, [], _∷_}
 use native.Mathlib.Omega.{arith}
 use Rattle.code.specs.Instruction.{wordOf}
@@ -10,9 +10,9 @@ use Rattle.code.specs.declared.Raw.{Raw}
 use Rattle.code.specs.declared.Instruction.{Instruction}
 use Rattle.code.specs.declared.Instruction.the-variants.{Load, Store, StoreConst, Decode, Encode, Create, AnalyzeTuple, CreateTuple, Opposite, KeyOf, Match, Encrypt, Decrypt, Sign, Verify, Hash}
 use Rattle.theory.specs.Machine.{Line, line}
-use Rattle.theory.specs.Emission.{Env, Emitted, ok, refuse, after, andThen, _then_, reads, writes, one, readable, occupied, addObject, addRaw, emit}
+use Rattle.theory.specs.Emission.{Env, Emitted, ok, after, andThen, _then_, reads, writes, one, readable, occupied, addObject, addRaw, emit}
 use Rattle.emission.specs.Steps.{readObject, writeObject, readRaw, writeRaw, settled}
-use Rattle.emission.specs.Meets.{envOf, Does, Quiet}
+use Rattle.emission.specs.Meets.{Does, Quiet}
 use Rattle.emission.proofs.MeetsLaws.{after-nil, does-as, does-seq, does-none}
 
 settled-reads : (row : ℕ) (known : Bool) (x : Emitted) → settled (reads row known x) ≡ reads row known (settled x)

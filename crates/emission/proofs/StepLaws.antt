@@ -1,24 +1,24 @@
 -- What one look at a variable, one mark and one word do, a way out at a time. Assumes nothing.
 use Prim.Native.Nat.{ℕ, _+_, _*_, _/_, _%_, _≤_, _<_}
-use mathlib.Core.Path.{_≡_, refl, sym, ap, subst, _∙_}
-use mathlib.Core.Bool.{Bool, true, false, cond}
-use mathlib.Core.Option.{Option, none, some}
+use mathlib.Core.Path.{_≡_, refl, sym, _∙_}
+use mathlib.Core.Bool.{Bool, true, false}
+use mathlib.Core.Option.{none, some}
 use mathlib.Core.List.{List, [], _∷_}
 use native.Mathlib.Decide.{ℕ-discrete}
 use native.Mathlib.Omega.{arith}
 use lib.ListN.{length, getD, set, length-set}
-use lib.Seq.{sets, getD-set-same, getD-set-other}
-use lib.Dec.{eqb, ltb}
+use lib.Seq.{getD-set-same, getD-set-other}
+use lib.Dec.{eqb}
 use borrow.Author.Tests.{eq-eqb, ne-eqb, eqb-false, lt-ltb, le-ltb}
 use Rattle.answers.specs.declared.Compiled.{Compiled}
 use Rattle.answers.specs.declared.Compiled.the-variants.{WrongKind, WrittenWhileSet, ReadWhileUnset}
 use Rattle.code.specs.Instruction.{wordOf}
 use Rattle.theory.specs.Store.{put}
 use Rattle.theory.specs.Machine.{Line}
-use Rattle.theory.specs.Emission.{Env, Emitted, ok, refuse, readable, occupied, addObject, addRaw}
+use Rattle.theory.specs.Emission.{Env, Emitted, ok, refuse, readable, occupied, addRaw}
 use Rattle.emission.specs.Known.{known}
 use Rattle.emission.specs.Steps.{readObject, writeObject, readRaw, writeRaw, freeRaw, raise}
-use Rattle.emission.specs.Meets.{nextIn, writtenIn, refusalIn, envOf, refusalBy, refusal, refusing, Fine, MeetsBy, Meets, Does, Quiet, Room}
+use Rattle.emission.specs.Meets.{nextIn, writtenIn, refusalIn, envOf, refusalBy, refusal, refusing, MeetsBy, Does, Quiet}
 use Rattle.emission.proofs.MeetsLaws.{does-by}
 
 -- only what is known changes

@@ -1,11 +1,12 @@
 -- The rows of a pattern, and the room that a pattern asks.
 use Prim.Native.Nat.{ℕ, _+_, _-_, _*_, _≤_, _<_}
 use mathlib.Core.Path.{_≡_}
-use mathlib.Core.Option.{none}
 use mathlib.Core.List.{List}
 use lib.ListN.{length, getD}
+use lib.Dec.{T}
 use Rattle.patterns.specs.Pattern.{Pattern, Parts, count, size, sizes}
-use Rattle.patterns.specs.Rules.{badPattern}
+use Rattle.patterns.specs.Row.{fieldsOf}
+use Rattle.patterns.specs.Rules.{rowFits}
 use Rattle.patterns.specs.Tree.{patternAt, patternsOf}
 use Rattle.emission.specs.Meets.{nextIn, writtenIn, Room}
 
@@ -26,10 +27,11 @@ scratchesOf ps = 2 * sizes ps - count ps
 abbrev pub patternIn : List ℕ → ℕ → Pattern
 patternIn rows row = patternAt (patternsOf rows) row
 
--- the pattern of a good row, and room for it
+-- a row of the 96, good as those below it are, and room for its pattern
 pub record Row (rows : List ℕ) (row : ℕ) (e : List ℕ) : Type 0 where
-  pub good : badPattern rows ≡ none
+  pub good : (place : ℕ) → place ≤ row → T (rowFits place (fieldsOf (getD rows place 0)))
   pub inside : row < length rows
+  pub most : row < 96
   pub room : Room (words (patternIn rows row)) (scratches (patternIn rows row)) e
 
 -- the same, with the row's word

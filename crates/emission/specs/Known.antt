@@ -1,6 +1,6 @@
 -- A set of variables as a number of 64 bits, variable 0 at the most significant.
 use Prim.Native.Nat.{ℕ, _-_, _/_, _%_, _^_}
-use mathlib.Core.Bool.{Bool, true, false, cond}
+use mathlib.Core.Bool.{Bool, false, cond}
 use lib.Dec.{eqb, ltb}
 
 unfoldable pub known : ℕ → ℕ → Bool

@@ -4,8 +4,8 @@ use code::Object;
 use code::Raw;
 ghost use mathlib.Core.Path.{_≡_};
 ghost use mathlib.Core.Bool.{true, false};
-ghost use mathlib.Core.List.{List, [], _∷_};
-ghost use Prim.Native.Nat.{ℕ, _+_, _*_, _<_};
+ghost use mathlib.Core.List.{[], _∷_};
+ghost use Prim.Native.Nat.{_+_, _*_, _<_};
 ghost use lib.ListN.{length};
 ghost use Rattle.answers.specs.declared.Compiled.the-variants.{WrongKind};
 ghost use Rattle.code.specs.Instruction.{wordOf};
@@ -29,6 +29,9 @@ pub const NEXT: usize = 2;
 pub const WRITTEN: usize = 3;
 // The number and the row of the first refusal, or 0.
 pub const REFUSAL: usize = 4;
+
+// The pattern's rows, and zero rows behind them.
+pub type Rows = [u64; 96];
 
 // Room for the longest code.
 pub type Code = [u32; 768];

@@ -1,0 +1,49 @@
+use Rattle.matching.proofs.FormLaws.{object-ways}
+use borrow.Author.Needs.{needs}
+use Rattle.matching.proofs.forms.match_object.Statement.{statement}
+use Rattle.matching.proofs.forms.match_object.Tie as tie
+
+element-copy-out-is-known : tie.Need-element-copy-out-is-known
+element-copy-out-is-known c = search needs
+
+is-known-requires : tie.Need-is-known-requires
+is-known-requires c κs = search needs
+
+take-requires : tie.Need-take-requires
+take-requires c κs = search needs
+
+scratch-requires : tie.Need-scratch-requires
+scratch-requires c κs = search needs
+
+emit-requires : tie.Need-emit-requires
+emit-requires c κs = search needs
+
+emit-requires-2 : tie.Need-emit-requires-2
+emit-requires-2 c κs = search needs
+
+emit-requires-3 : tie.Need-emit-requires-3
+emit-requires-3 c κs = search needs
+
+emit-requires-4 : tie.Need-emit-requires-4
+emit-requires-4 c κs = search needs
+
+returns : tie.Need-returns
+returns c = search object-ways
+
+returns-2 : tie.Need-returns-2
+returns-2 c = search object-ways
+
+pub match-object-spec : {M : Type 1} → statement M
+match-object-spec =
+    tie.close
+    (tie.spec
+    element-copy-out-is-known
+    is-known-requires
+    take-requires
+    scratch-requires
+    emit-requires
+    emit-requires-2
+    emit-requires-3
+    emit-requires-4
+    returns
+    returns-2)

@@ -1,0 +1,33 @@
+use Rattle.matching.proofs.FormLaws.{raw-ways}
+use borrow.Author.Needs.{needs}
+use Rattle.matching.proofs.forms.match_raw.Statement.{statement}
+use Rattle.matching.proofs.forms.match_raw.Tie as tie
+
+element-copy-out-is-known : tie.Need-element-copy-out-is-known
+element-copy-out-is-known c = search needs
+
+is-known-requires : tie.Need-is-known-requires
+is-known-requires c κs = search needs
+
+emit-requires : tie.Need-emit-requires
+emit-requires c κs = search needs
+
+emit-requires-2 : tie.Need-emit-requires-2
+emit-requires-2 c κs = search needs
+
+returns : tie.Need-returns
+returns c = search raw-ways
+
+returns-2 : tie.Need-returns-2
+returns-2 c = search raw-ways
+
+pub match-raw-spec : {M : Type 1} → statement M
+match-raw-spec =
+    tie.close
+    (tie.spec
+    element-copy-out-is-known
+    is-known-requires
+    emit-requires
+    emit-requires-2
+    returns
+    returns-2)

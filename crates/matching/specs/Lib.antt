@@ -1,0 +1,2 @@
+-- What matching promises of a row.
+pub mod Matches

@@ -1,0 +1,162 @@
+// The forms with no part: at most seven words and one scratch number each.
+use code::Instruction;
+use code::Object;
+use code::Raw;
+use emission::Code;
+use emission::Emission;
+use emission::OBJECTS;
+use emission::RAWS;
+use emission::emit;
+use emission::is_known;
+use emission::scratch;
+use emission::take;
+ghost use Prim.Native.Nat.{_<_};
+ghost use Rattle.patterns.specs.Pattern.{opKey, certifiedKey, object, raw, constant, opposite, keyOf, hash};
+ghost use Rattle.theory.specs.Compilers.{compile↓, verifying};
+ghost use Rattle.emission.specs.Meets.{Does, Room};
+
+// v
+pub fn match_object(code: &mut Code, emission: &mut Emission, row: u8, v: u8)
+    requires { ⌜ v < 64 ⌝ }
+    requires { ⌜ Room 7 1 (now emission) ⌝ }
+    ensures { λ _. ⌜ Does (compile↓ (object row v)) 7 1 (now (emission .entry)) (now (code .entry)) (now (emission .exit)) (now (code .exit)) ⌝ }
+{
+    if is_known(emission[OBJECTS], v) {
+        let s = scratch(take(emission, 1));
+        emit(code, emission, row, Instruction::Store(s));
+        emit(code, emission, row, Instruction::Encode(Object(v)));
+        emit(code, emission, row, Instruction::Match(s));
+    } else {
+        emit(code, emission, row, Instruction::Decode(Object(v)));
+    }
+}
+
+// r
+pub fn match_raw(code: &mut Code, emission: &mut Emission, row: u8, r: u8)
+    requires { ⌜ Room 7 1 (now emission) ⌝ }
+    ensures { λ _. ⌜ Does (compile↓ (raw row r)) 7 1 (now (emission .entry)) (now (code .entry)) (now (emission .exit)) (now (code .exit)) ⌝ }
+{
+    if is_known(emission[RAWS], r) {
+        emit(code, emission, row, Instruction::Match(Raw(r)));
+    } else {
+        emit(code, emission, row, Instruction::Store(Raw(r)));
+    }
+}
+
+// c : C
+pub fn match_constant(code: &mut Code, emission: &mut Emission, row: u8, c: u8, byte: u8)
+    requires { ⌜ c < 64 ⌝ }
+    requires { ⌜ Room 7 1 (now emission) ⌝ }
+    ensures { λ _. ⌜ Does (compile↓ (constant row c byte)) 7 1 (now (emission .entry)) (now (code .entry)) (now (emission .exit)) (now (code .exit)) ⌝ }
+{
+    let s = scratch(take(emission, 1));
+    emit(code, emission, row, Instruction::Store(s));
+    emit(
+        code,
+        emission,
+        row,
+        Instruction::StoreConst(Object(c), byte),
+    );
+    emit(code, emission, row, Instruction::Encode(Object(c)));
+    emit(code, emission, row, Instruction::Match(s));
+}
+
+// k : op(K)
+pub fn match_opposite(code: &mut Code, emission: &mut Emission, row: u8, public: u8, private: u8)
+    requires { ⌜ public < 64 ⌝ }
+    requires { ⌜ Room 7 1 (now emission) ⌝ }
+    ensures { λ _. ⌜ Does (compile↓ (opposite row public private)) 7 1 (now (emission .entry)) (now (code .entry)) (now (emission .exit)) (now (code .exit)) ⌝ }
+{
+    let s = scratch(take(emission, 1));
+    emit(code, emission, row, Instruction::Store(s));
+    emit(
+        code,
+        emission,
+        row,
+        Instruction::Opposite(Object(private), Object(public)),
+    );
+    emit(code, emission, row, Instruction::Encode(Object(public)));
+    emit(code, emission, row, Instruction::Match(s));
+}
+
+// k : keyOf(a)
+pub fn match_key_of(code: &mut Code, emission: &mut Emission, row: u8, key: u8, agent: u8)
+    requires { ⌜ key < 64 ⌝ }
+    requires { ⌜ Room 7 1 (now emission) ⌝ }
+    ensures { λ _. ⌜ Does (compile↓ (keyOf row key agent)) 7 1 (now (emission .entry)) (now (code .entry)) (now (emission .exit)) (now (code .exit)) ⌝ }
+{
+    emit(code, emission, row, Instruction::Decode(Object(key)));
+    let s = scratch(take(emission, 1));
+    emit(code, emission, row, Instruction::Store(s));
+    emit(code, emission, row, Instruction::Encode(Object(agent)));
+    emit(code, emission, row, Instruction::KeyOf);
+    emit(code, emission, row, Instruction::Match(s));
+}
+
+// h : H(r)
+pub fn match_hash(code: &mut Code, emission: &mut Emission, row: u8, h: u8, r: u8)
+    requires { ⌜ h < 64 ⌝ }
+    requires { ⌜ Room 7 1 (now emission) ⌝ }
+    ensures { λ _. ⌜ Does (compile↓ (hash row h r)) 7 1 (now (emission .entry)) (now (code .entry)) (now (emission .exit)) (now (code .exit)) ⌝ }
+{
+    emit(code, emission, row, Instruction::Decode(Object(h)));
+    let s = scratch(take(emission, 1));
+    emit(code, emission, row, Instruction::Store(s));
+    emit(code, emission, row, Instruction::Load(Raw(r)));
+    emit(code, emission, row, Instruction::Hash(Object(h)));
+    emit(code, emission, row, Instruction::Match(s));
+}
+
+// What k : op(K) verifies.
+pub fn verify_opposite(
+    code: &mut Code,
+    emission: &mut Emission,
+    row: u8,
+    public: u8,
+    private: u8,
+    r: u8,
+)
+    requires { ⌜ public < 64 ⌝ }
+    requires { ⌜ Room 6 1 (now emission) ⌝ }
+    ensures { λ _. ⌜ Does (verifying row (opKey public private) r) 6 1 (now (emission .entry)) (now (code .entry)) (now (emission .exit)) (now (code .exit)) ⌝ }
+{
+    emit(
+        code,
+        emission,
+        row,
+        Instruction::Opposite(Object(private), Object(public)),
+    );
+    emit(
+        code,
+        emission,
+        row,
+        Instruction::Verify(Object(public), Raw(r)),
+    );
+}
+
+// What k : keyOf(a) verifies.
+pub fn verify_certified(
+    code: &mut Code,
+    emission: &mut Emission,
+    row: u8,
+    key: u8,
+    agent: u8,
+    r: u8,
+)
+    requires { ⌜ key < 64 ⌝ }
+    requires { ⌜ Room 6 1 (now emission) ⌝ }
+    ensures { λ _. ⌜ Does (verifying row (certifiedKey key agent) r) 6 1 (now (emission .entry)) (now (code .entry)) (now (emission .exit)) (now (code .exit)) ⌝ }
+{
+    let s = scratch(take(emission, 1));
+    emit(code, emission, row, Instruction::Store(s));
+    emit(code, emission, row, Instruction::Encode(Object(agent)));
+    emit(code, emission, row, Instruction::KeyOf);
+    emit(code, emission, row, Instruction::Decode(Object(key)));
+    emit(code, emission, row, Instruction::Load(s));
+    emit(
+        code,
+        emission,
+        row,
+        Instruction::Verify(Object(key), Raw(r)),
+    );
+}

@@ -1,0 +1,202 @@
+// Figure 5: the code that matches a pattern.
+pub mod forms;
+
+use code::Instruction;
+use code::Object;
+use code::Raw;
+use emission::Code;
+use emission::Emission;
+use emission::Rows;
+use emission::emit;
+use emission::free_raw;
+use emission::scratch;
+use emission::take;
+use emission::wrong_kind;
+ghost use mathlib.Core.Path.{_≡_};
+ghost use Prim.Native.Nat.{_+_, _<_};
+ghost use Rattle.patterns.specs.Row.{fieldsOf};
+ghost use Rattle.emission.specs.Budget.{Row, RowAt};
+ghost use Rattle.matching.specs.Matches.{Matches, Leaf, partsFrom, PartsAt, MatchesParts};
+
+// s : S(key, r)
+fn match_signature(rows: &Rows, code: &mut Code, emission: &mut Emission, row: u8, word: u64)
+    requires { ⌜ RowAt (now rows) row word (now emission) ⌝ }
+    requires { ⌜ fieldsOf word .tag ≡ 6 ⌝ }
+    ensures { λ _. ⌜ Matches (now (rows .entry)) row (now (emission .entry)) (now (code .entry)) (now (emission .exit)) (now (code .exit)) ⌝ }
+{
+    emit(
+        code,
+        emission,
+        row,
+        Instruction::Decode(Object(patterns::variable(word))),
+    );
+    let key = patterns::x(word);
+    let r = patterns::raw(word);
+    let form = patterns::key_form(word);
+    match form {
+        0 => emit(
+            code,
+            emission,
+            row,
+            Instruction::Verify(Object(key), Raw(r)),
+        ),
+        1 => forms::verify_opposite(code, emission, row, key, patterns::y(word), r),
+        _ => forms::verify_certified(code, emission, row, key, patterns::y(word), r),
+    }
+}
+
+// The pattern of a row with no children.
+fn match_leaf(rows: &Rows, code: &mut Code, emission: &mut Emission, row: u8, word: u64)
+    requires { ⌜ RowAt (now rows) row word (now emission) ⌝ }
+    requires { ⌜ Leaf (fieldsOf word .tag) ⌝ }
+    ensures { λ _. ⌜ Matches (now (rows .entry)) row (now (emission .entry)) (now (code .entry)) (now (emission .exit)) (now (code .exit)) ⌝ }
+{
+    let tag = patterns::tag(word);
+    let v = patterns::variable(word);
+    match tag {
+        0 => forms::match_object(code, emission, row, v),
+        1 => forms::match_raw(code, emission, row, patterns::raw(word)),
+        2 => forms::match_constant(code, emission, row, v, patterns::x(word)),
+        3 => forms::match_opposite(code, emission, row, v, patterns::y(word)),
+        4 => forms::match_key_of(code, emission, row, v, patterns::y(word)),
+        6 => match_signature(rows, code, emission, row, word),
+        _ => forms::match_hash(code, emission, row, v, patterns::raw(word)),
+    }
+}
+
+// A part of a tuple: its row, and the scratch number that holds it.
+pub struct Part {
+    pub child: u8,
+    pub scratch: u8,
+}
+
+fn parts_of(children: [u8; 4], first: u8) -> [Part; 4]
+    requires { ⌜ first < 192 ⌝ }
+    ensures { λ r. ⌜ r ≡ partsFrom children first ⌝ }
+{
+    [
+        Part {
+            child: children[0],
+            scratch: first,
+        },
+        Part {
+            child: children[1],
+            scratch: first + 1,
+        },
+        Part {
+            child: children[2],
+            scratch: first + 2,
+        },
+        Part {
+            child: children[3],
+            scratch: first + 3,
+        },
+    ]
+}
+
+// The pattern of a row.
+pub fn match_row(rows: &Rows, code: &mut Code, emission: &mut Emission, row: u8)
+    requires { ⌜ Row (now rows) row (now emission) ⌝ }
+    ensures { λ _. ⌜ Matches (now (rows .entry)) row (now (emission .entry)) (now (code .entry)) (now (emission .exit)) (now (code .exit)) ⌝ }
+{
+    let word = rows[row as usize];
+    let tag = patterns::tag(word);
+    match tag {
+        5 => match_encryption(rows, code, emission, row, word),
+        8 => match_tuple(rows, code, emission, row, word),
+        9 => match_let(rows, code, emission, row, word),
+        _ => match_leaf(rows, code, emission, row, word),
+    }
+}
+
+// e : E(key, p)
+fn match_encryption(rows: &Rows, code: &mut Code, emission: &mut Emission, row: u8, word: u64)
+    requires { ⌜ RowAt (now rows) row word (now emission) ⌝ }
+    requires { ⌜ fieldsOf word .tag ≡ 5 ⌝ }
+    ensures { λ _. ⌜ Matches (now (rows .entry)) row (now (emission .entry)) (now (code .entry)) (now (emission .exit)) (now (code .exit)) ⌝ }
+{
+    if patterns::key_form(word) == 0 {
+        emit(
+            code,
+            emission,
+            row,
+            Instruction::Decode(Object(patterns::variable(word))),
+        );
+        emit(
+            code,
+            emission,
+            row,
+            Instruction::Decrypt(Object(patterns::x(word))),
+        );
+        let children = patterns::slots(word);
+        match_row(rows, code, emission, children[0]);
+    } else {
+        wrong_kind(emission, row);
+    }
+}
+
+// t : [p1 .. pn]
+fn match_tuple(rows: &Rows, code: &mut Code, emission: &mut Emission, row: u8, word: u64)
+    requires { ⌜ RowAt (now rows) row word (now emission) ⌝ }
+    requires { ⌜ fieldsOf word .tag ≡ 8 ⌝ }
+    ensures { λ _. ⌜ Matches (now (rows .entry)) row (now (emission .entry)) (now (code .entry)) (now (emission .exit)) (now (code .exit)) ⌝ }
+{
+    let t = patterns::variable(word);
+    let n = patterns::count(word);
+    emit(code, emission, row, Instruction::Decode(Object(t)));
+    let first = take(emission, n);
+    emit(
+        code,
+        emission,
+        row,
+        Instruction::AnalyzeTuple(Object(t), scratch(first), n),
+    );
+    match_parts(
+        rows,
+        code,
+        emission,
+        row,
+        parts_of(patterns::slots(word), first),
+        n,
+    );
+}
+
+// The parts of a tuple, from left to right.
+fn match_parts(
+    rows: &Rows,
+    code: &mut Code,
+    emission: &mut Emission,
+    row: u8,
+    parts: [Part; 4],
+    n: u8,
+)
+    requires { ⌜ PartsAt (now rows) row parts n (now emission) ⌝ }
+    ensures { λ _. ⌜ MatchesParts (now (rows .entry)) row parts n (now (emission .entry)) (now (code .entry)) (now (emission .exit)) (now (code .exit)) ⌝ }
+{
+    let mut k: u8 = 0;
+    while k < n {
+        let part = parts[k as usize];
+        emit(
+            code,
+            emission,
+            row,
+            Instruction::Load(scratch(part.scratch)),
+        );
+        match_row(rows, code, emission, part.child);
+        k += 1;
+    }
+}
+
+// let r = p1 in p2: p2 first, which must set r, and then p1 on what r holds.
+fn match_let(rows: &Rows, code: &mut Code, emission: &mut Emission, row: u8, word: u64)
+    requires { ⌜ RowAt (now rows) row word (now emission) ⌝ }
+    requires { ⌜ fieldsOf word .tag ≡ 9 ⌝ }
+    ensures { λ _. ⌜ Matches (now (rows .entry)) row (now (emission .entry)) (now (code .entry)) (now (emission .exit)) (now (code .exit)) ⌝ }
+{
+    let r = patterns::raw(word);
+    let children = patterns::slots(word);
+    free_raw(emission, row, r);
+    match_row(rows, code, emission, children[1]);
+    emit(code, emission, row, Instruction::Load(Raw(r)));
+    match_row(rows, code, emission, children[0]);
+}
