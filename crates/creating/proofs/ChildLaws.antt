@@ -16,10 +16,9 @@ use Rattle.theory.specs.Compilers.{keyVar}
 use Rattle.emission.specs.Meets.{Does, Room}
 use Rattle.emission.specs.Budget.{patternIn, words, scratches, Row, RowAt}
 use Rattle.emission.proofs.MeetsLaws.{does-le, does-seq}
-use Rattle.emission.proofs.BudgetLaws.{size-pos}
+use Rattle.emission.proofs.BudgetLaws.{size-pos, room-le, room-then, row-below}
 use Rattle.emission.proofs.PatternLaws.{good-row, encryption-child, encryption-row, let-children, let-row}
 use Rattle.creating.specs.Creates.{keyCode, patternCode, Creates}
-use Rattle.creating.proofs.RoomLaws.{room-le, room-then, row-below}
 use Rattle.creating.proofs.KeyLaws.{key-variable}
 
 pub slot : (children : List ℕ) (word i : ℕ) → children ≡ fieldsOf word .slots → getD children i 0 ≡ getD (fieldsOf word .slots) i 0

@@ -1,5 +1,4 @@
 -- What the proofs of several functions use.
-pub mod RoomLaws
 pub mod KeyLaws
 pub mod FormLaws
 pub mod LeafLaws

@@ -22,10 +22,9 @@ use Rattle.emission.specs.Steps.{raise}
 use Rattle.emission.specs.Meets.{nextIn, Does, Quiet, Room}
 use Rattle.emission.specs.Budget.{patternIn, words, scratches, wordsOf, scratchesOf, Row, RowAt, RoomParts}
 use Rattle.emission.proofs.MeetsLaws.{does-le, does-seq, does-none, does-take}
-use Rattle.emission.proofs.BudgetLaws.{size-pos, count-sizes}
+use Rattle.emission.proofs.BudgetLaws.{size-pos, count-sizes, room-le, room-then}
 use Rattle.emission.proofs.PatternLaws.{good-row, tuple-row}
 use Rattle.creating.specs.Creates.{kindIn, patternCode, partsCode, Creates, partsFrom, PartsAt, CreatesParts}
-use Rattle.creating.proofs.RoomLaws.{room-le, room-then}
 use Rattle.creating.proofs.ChildLaws.{room-as, as-pattern}
 
 count-parts : (f : ℕ → Pattern) (cs : List ℕ) → count (partsBy f cs) ≡ length cs
@@ -72,8 +71,9 @@ module _ (rows : List ℕ) (row : ℕ) (children : List ℕ) (n first k : ℕ) {
         let s = size-pos (patternIn rows child) in
         let m = count-sizes rest in
         record {
-          good = asked .good;
+          good = λ place h. asked .good place (omega (arith, part-below));
           inside = omega (arith, asked .inside, part-below);
+          most = omega (arith, asked .most, part-below);
           room = record { long = part-room .long; place = omega (arith, part-room .place); free = omega (arith, part-room .free) };
         }
 
@@ -96,6 +96,7 @@ module _ (rows : List ℕ) (row : ℕ) (children : List ℕ) (n first k : ℕ) {
           record {
             good = asked .good;
             inside = asked .inside;
+            most = asked .most;
             few = asked .few;
             below = asked .below;
             cells = asked .cells;
@@ -157,6 +158,7 @@ module _ (rows : List ℕ) (row word : ℕ) {e : List ℕ} (asked : RowAt rows r
           record {
             good = asked .whole .good;
             inside = asked .whole .inside;
+            most = asked .whole .most;
             few = tuple-few;
             below = child-low;
             cells = omega (arith, tuple-room .free, all-counted);

@@ -1,11 +1,12 @@
 -- The code of figure 6 over a list of kinds, and for the pattern of a row within its budget.
 use Prim.Native.Nat.{ℕ, _+_, _≤_, _<_}
 use mathlib.Core.Path.{_≡_}
-use mathlib.Core.Option.{none}
 use mathlib.Core.List.{List}
 use lib.ListN.{length, getD, take, drop}
+use lib.Dec.{T}
 use Rattle.patterns.specs.Pattern.{Key, Pattern, Parts}
-use Rattle.patterns.specs.Rules.{badPattern}
+use Rattle.patterns.specs.Row.{fieldsOf}
+use Rattle.patterns.specs.Rules.{rowFits}
 use Rattle.patterns.specs.Tree.{partsBy}
 use Rattle.theory.specs.Emission.{Env, Emitted}
 use Rattle.theory.specs.Compilers.{creating, compile↑K, compile↑, compile↑parts}
@@ -38,8 +39,9 @@ partsFrom rows children n k = partsBy (patternIn rows) (drop k (take n children)
 
 -- children below their row, cells for them from the first on, and room for those from the kth on
 pub record PartsAt (rows : List ℕ) (row : ℕ) (children : List ℕ) (n first k : ℕ) (e : List ℕ) : Type 0 where
-  pub good : badPattern rows ≡ none
+  pub good : (place : ℕ) → place ≤ row → T (rowFits place (fieldsOf (getD rows place 0)))
   pub inside : row < length rows
+  pub most : row < 96
   pub few : n ≤ 4
   pub below : (i : ℕ) → i < n → getD children i 0 < row
   pub cells : first + n ≤ 192
