@@ -2,7 +2,7 @@
 use Prim.Native.Nat.{ℕ, _<_, _≤_}
 use mathlib.Core.Path.{_≡_, refl, sym, _∙_}
 use mathlib.Core.Bool.{Bool, true, false}
-use mathlib.Core.List.{List, _++_}
+use mathlib.Core.List.{List, [], _++_}
 use lib.Dec.{eqb, leb}
 use lib.ListN.{length, take, drop}
 use borrow.Author.Tests.{le-leb, lt-leb, eq-eqb, ne-eqb}
@@ -12,6 +12,15 @@ use Rattle.answers.specs.declared.Compiled.the-variants.{Done, CodeTooShort}
 use Rattle.theory.specs.Compile.{CompileOutcome, leaves, written, compile}
 use Rattle.compiler.specs.Buffer.{Compiles}
 use Rattle.compiler.specs.Used.{usedPart}
+
+-- the used part
+pub part-fits : (n : ℕ) (code : List ℕ) → n ≤ length code → take n code ≡ usedPart n code
+unfolding usedPart
+part-fits n code most = rw (le-leb n (length code) most)
+
+pub part-short : (n : ℕ) (code : List ℕ) → length code < n → [] ≡ usedPart n code
+unfolding usedPart
+part-short n code less = rw (lt-leb n (length code) less)
 
 module _ (words code : List ℕ) where
   pub too-short : length code < length words → leaves (CodeTooShort (length words)) code ≡ written words code

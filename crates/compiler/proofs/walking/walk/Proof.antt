@@ -45,10 +45,10 @@ cast-root : tie.Need-cast-root
 cast-root c = omega (arith, long (c .before .before .before .before .before) .few-rows)
 
 set-cells-requires : tie.Need-set-cells-requires
-set-cells-requires c κs = long (c .before .before .before .before .before) .all-objects
+set-cells-requires c κs = let s = c .before .before .before .before .before in omega (arith, long s .all-objects, long s .all-named)
 
 set-cells-requires-2 : tie.Need-set-cells-requires-2
-set-cells-requires-2 c κs = long (c .before .before .before .before .before .before) .all-named
+set-cells-requires-2 c κs = let s = c .before .before .before .before .before .before in omega (arith, long s .all-objects, long s .all-named)
 
 emit-row-requires : tie.Need-emit-row-requires
 emit-row-requires c κs = let s = c .before .before .before .before .before .before .before .before .before .before in rw (c .before .before .before .before .before .rows-of .ensures) (root-row (pattern s) (long s .some-rows) (long s .few-rows) (passes s .rows) _ _)
