@@ -63,7 +63,7 @@ pub reads-none : (word : ℕ) → word < 4294967296 → NoneOf (run 2 16) (word 
 reads-none word fits others = rw (by-operation word (word / 134217728) fits refl, says-none _ _ _ _ others)
 
 -- what reading a word told
-read-some : (said : Option Instruction) (instruction : Instruction) → Is instruction ≡ readOf said → said ≡ some instruction
+pub read-some : (said : Option Instruction) (instruction : Instruction) → Is instruction ≡ readOf said → said ≡ some instruction
 read-some none instruction e = let z : _≡_ {A = ℕ} 0 1 = cc in absurd (omega arith)
 read-some (some other) instruction e = cc
 

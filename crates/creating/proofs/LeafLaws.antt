@@ -16,16 +16,10 @@ use Rattle.emission.specs.Meets.{Does, Room}
 use Rattle.emission.specs.Budget.{patternIn, RowAt}
 use Rattle.emission.proofs.MeetsLaws.{does-le, does-seq}
 use Rattle.emission.proofs.BudgetLaws.{size-pos, leaf-room, variable-low, room-le, room-then}
-use Rattle.emission.proofs.PatternLaws.{good-row, object-row, raw-row, constant-row, opposite-row, key-of-row, signature-row, hash-row}
+use Rattle.emission.proofs.PatternLaws.{good-row, object-row, raw-row, constant-row, opposite-row, key-of-row, signature-row, hash-row, above-four, seven-left}
 use Rattle.creating.specs.Creates.{keyCode, patternCode, Creates, Leaf}
 use Rattle.creating.proofs.KeyLaws.{key-variable, second-low}
 use Rattle.creating.proofs.FormLaws.{raw-done, key-of-done}
-
-above-four : (tag : ℕ) → (tag ≡ 0 → ⊥) → (tag ≡ 1 → ⊥) → (tag ≡ 2 → ⊥) → (tag ≡ 3 → ⊥) → (tag ≡ 4 → ⊥) → 5 ≤ tag
-above-four tag n₀ n₁ n₂ n₃ n₄ = omega arith
-
-seven-left : (tag : ℕ) → 5 ≤ tag → tag < 10 → (tag ≡ 5 → ⊥) → (tag ≡ 6 → ⊥) → (tag ≡ 8 → ⊥) → (tag ≡ 9 → ⊥) → tag ≡ 7
-seven-left tag high low n₅ n₆ n₈ n₉ = omega arith
 
 module _ (rows kinds : List ℕ) (row word : ℕ) {e code e′ code′ : List ℕ} (asked : RowAt rows row word e) where
   as-leaf : (p : Pattern) → patternIn rows row ≡ p → Does (patternCode kinds p) 7 1 e code e′ code′ → Creates rows kinds row e code e′ code′

@@ -15,6 +15,7 @@ use Rattle.patterns.specs.Pattern.{Pattern, tuple, Parts, part, count, size, si
 use Rattle.patterns.specs.Row.{fieldsOf, childrenOf}
 use Rattle.patterns.specs.Tree.{partsBy}
 use Rattle.patterns.proofs.RowLaws.{slots-four, children-count, child-slot}
+use Rattle.patterns.proofs.TreeLaws.{parts-count}
 use Rattle.theory.specs.Machine.{scratch}
 use Rattle.theory.specs.Emission.{Env, Emitted, emit, _then_}
 use Rattle.theory.specs.Compilers.{CREATE-TUPLE, ENCODE, compile↑parts}
@@ -27,11 +28,6 @@ use Rattle.emission.proofs.PatternLaws.{good-row, tuple-row}
 use Rattle.theory.specs.Compile.{kindIn}
 use Rattle.creating.specs.Creates.{patternCode, partsCode, Creates, partsFrom, PartsAt, CreatesParts}
 use Rattle.creating.proofs.ChildLaws.{room-as, as-pattern}
-
-count-parts : (f : ℕ → Pattern) (cs : List ℕ) → count (partsBy f cs) ≡ length cs
-unfolding count
-count-parts f [] = refl
-count-parts f (c ∷ cs) = ap suc (count-parts f cs)
 
 module _ (rows : List ℕ) (row : ℕ) (children : List ℕ) (n first k : ℕ) {e : List ℕ} (four : length children ≡ 4) (asked : PartsAt rows row children n first k e) where
   all-long : length (take n children) ≡ n
@@ -140,7 +136,7 @@ module _ (rows : List ℕ) (row word : ℕ) {e : List ℕ} (asked : RowAt rows r
     all-counted : count all ≡ n
     all-counted =
         let long : length children ≡ 4 = ap length slots ∙ slots-four word in
-        count-parts (patternIn rows) (take n children) ∙ omega (arith, length-take n children, tuple-few)
+        parts-count (patternIn rows) (take n children) ∙ omega (arith, length-take n children, tuple-few)
 
     tuple-room : Room (8 * sizes all + 7) (2 * sizes all + 1) e
     unfolding size

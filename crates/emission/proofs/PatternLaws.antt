@@ -83,3 +83,10 @@ module _ (rows : List ℕ) (row word : ℕ) (good : (place : ℕ) → place ≤ 
   pub tuple-row : fieldsOf word .tag ≡ 8 → patternIn rows row ≡ tuple row (fieldsOf word .v) (partsBy (patternIn rows) (childrenOf word))
   tuple-row h =
       by-form .form ∙ rw h (ap (tuple row (fieldsOf word .v)) (parts-same (by-form .below) (patternIn rows) row (childrenOf word) (by-form .before) children-below))
+
+-- tags told apart, as a match does
+pub above-four : (tag : ℕ) → (tag ≡ 0 → ⊥) → (tag ≡ 1 → ⊥) → (tag ≡ 2 → ⊥) → (tag ≡ 3 → ⊥) → (tag ≡ 4 → ⊥) → 5 ≤ tag
+above-four tag n₀ n₁ n₂ n₃ n₄ = omega arith
+
+pub seven-left : (tag : ℕ) → 5 ≤ tag → tag < 10 → (tag ≡ 5 → ⊥) → (tag ≡ 6 → ⊥) → (tag ≡ 8 → ⊥) → (tag ≡ 9 → ⊥) → tag ≡ 7
+seven-left tag high low n₅ n₆ n₈ n₉ = omega arith

@@ -1,6 +1,5 @@
 -- Laws of the machine over the lent slices.
 pub mod KeyLaws
-pub mod RowLaws
 pub mod FoundLaws
 pub mod StateLaws
 pub mod WorldLaws

@@ -14,6 +14,7 @@ use Rattle.patterns.specs.Pattern.{Pattern, plainKey, opKey, certifiedKey, encr
 use Rattle.patterns.specs.Row.{fieldsOf, childrenOf}
 use Rattle.patterns.specs.Tree.{keyBy, partsBy}
 use Rattle.patterns.proofs.RowLaws.{children-count}
+use Rattle.patterns.proofs.TreeLaws.{parts-count}
 use Rattle.answers.specs.declared.Compiled.the-variants.{WrongKind}
 use Rattle.theory.specs.Machine.{named, scratch}
 use Rattle.theory.specs.Emission.{Env, Emitted, refuse, emit, _then_}
@@ -217,11 +218,6 @@ map-take zero parts = refl
 map-take (suc n) [] = refl
 map-take (suc n) (p ∷ ps) = ap (p .child ∷_) (map-take n ps)
 
-count-parts : (f : ℕ → Pattern) (cs : List ℕ) → count (partsBy f cs) ≡ length cs
-unfolding count
-count-parts f [] = refl
-count-parts f (c ∷ cs) = ap suc (count-parts f cs)
-
 -- the four parts, slot by slot
 part-slot : (slots : List ℕ) (first k : ℕ) → k < 4 → (partAt (partsFrom slots first) k .child ≡ getD slots k 0) × (partAt (partsFrom slots first) k .scratch ≡ first + k)
 part-slot slots first zero l = (refl, omega arith)
@@ -249,7 +245,7 @@ module _ (rows : List ℕ) (row word : ℕ) {e : List ℕ} (asked : RowAt rows r
   tuple-is = tuple-row rows row word (asked .whole .good) (asked .whole .inside) (asked .here) eight ∙ rw (← parts-in)
 
   counts : count (partsIn rows parts n 0) ≡ n
-  counts = rw parts-in (count-parts (patternIn rows) (childrenOf word) ∙ children-count word ∙ omega (arith, few))
+  counts = rw parts-in (parts-count (patternIn rows) (childrenOf word) ∙ children-count word ∙ omega (arith, few))
 
   module _ (t : ℕ) (s : Raw) {e₁ e₂ e₃ code code₁ code₃ : List ℕ} (decoded : Does (emit row (Decode (asObject t))) 1 0 e code e₁ code₁) (next : first ≡ nextIn e₁)
       (taken : Quiet (raise n) n e₁ e₂) (analyzed : Does (emit row (AnalyzeTuple (asObject t) s n)) 1 0 e₂ code₁ e₃ code₃) where

@@ -9,7 +9,7 @@ use lib.ListN.{getD, drop}
 use lib.Dec.{T, eqb, leb, ltb, nleb→lt}
 use Rattle.word.specs.Lowest.{each}
 use Rattle.word.proofs.All.{All}
-use Rattle.word.proofs.TestLaws.{both, equals, is-below, at-most}
+use Rattle.word.proofs.TestLaws.{both, implied, equals, is-below, at-most}
 use Rattle.word.proofs.LowestLaws.{each-all}
 use Rattle.patterns.specs.Row.{Fields, children}
 use Rattle.patterns.proofs.ArmLaws.{below-ten}
@@ -61,13 +61,9 @@ zero-unless : (used : Bool) (field : ℕ) → T (used || eqb field 0) ↔ (T (no
 zero-unless true field = (λ h n. absurd n, λ h. tt)
 zero-unless false field = (λ h n. equals field 0 .0 h, λ h. equals field 0 .1 (h tt))
 
-only-where : (used test : Bool) → T (not used || test) ↔ (T used → T test)
-only-where true test = (λ h u. h, λ h. h tt)
-only-where false test = (λ h n. absurd n, λ h. tt)
-
 good-as : (entry : Form) (place : ℕ) (row : Fields) → T (formFits place row entry) ↔ GoodAs entry place row
 good-as entry place row =
-    simp (both, zero-unless, only-where, at-most, equals, rest, below) (
+    simp (both, zero-unless, implied, at-most, equals, rest, below) (
       λ h.
           record {
             v = h .0 .0 .0 .0 .0 .0 .0 .0 .0;

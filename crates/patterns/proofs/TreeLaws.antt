@@ -238,7 +238,7 @@ unfolding PackedParts
 parts-packed below packed [] = tt
 parts-packed below packed (child ∷ rest) = (packed child, parts-packed below packed rest)
 
-parts-count : (below : ℕ → Pattern) (children : List ℕ) → count (partsBy below children) ≡ length children
+pub parts-count : (below : ℕ → Pattern) (children : List ℕ) → count (partsBy below children) ≡ length children
 unfolding count
 parts-count below [] = refl
 parts-count below (child ∷ rest) = ap suc (parts-count below rest)

@@ -8,9 +8,9 @@ use native.Mathlib.Omega.{arith}
 use lib.Dec.{T}
 use lib.ListN.{length, getD, drop, drop-of-length-le}
 use lib.Seq.{drop-cons}
-use Rattle.answers.specs.Numbers.{reasonNumber, reasonOf}
+use Rattle.answers.specs.Numbers.{reasonNumber}
+use Rattle.answers.proofs.NumberLaws.{reason-known}
 use Rattle.answers.specs.declared.Reason.{Reason}
-use Rattle.answers.specs.declared.Reason.the-variants.{Unset, OtherKind, Differs, PartCount, NoCertificate, NotOpened, NotVerified}
 use Rattle.answers.specs.declared.Ran.{Ran}
 use Rattle.answers.specs.declared.Ran.the-variants as Ran
 use Rattle.code.specs.Words.{goodWord}
@@ -54,15 +54,6 @@ module _ (kind : ℕ → ℕ) (place : ℕ) (i : Instruction) (s : State rowWorl
 
   room-here : step rowWorld kind place i s ≡ Outcome.room other → step rowWorld kind place i s ≡ Outcome.room place
   room-here e = sym (moved-step rowWorld kind place place i s) ∙ ap (movedTo place) e
-
-reason-back : (reason : Reason) → reasonOf (reasonNumber reason) ≡ reason
-reason-back Unset = refl
-reason-back OtherKind = refl
-reason-back Differs = refl
-reason-back PartCount = refl
-reason-back NoCertificate = refl
-reason-back NotOpened = refl
-reason-back NotVerified = refl
 
 module _ (x : Lent) where
   abbrev lentTable : Table
@@ -169,7 +160,7 @@ module _ (x : Lent) (code : List ℕ) {g : Registers} {objects messages rows : L
       stuck-ends {reason} {rows″} q cleared =
           let ((place, goes), same) = sticks (rw q at agrees) in
           let e : exec rowWorld kind (linesOf code) (stateOf x) ≡ Outcome.stuck i (reasonNumber reason) = sym (rw (stuck-here kind i (good .instruction) _ goes) at now) in
-          rw (e, undone same cleared, reason-back reason)
+          rw (e, undone same cleared, reason-known reason)
 
       pub room-ends : {rows″ : List ℕ} → answer ≡ NoRoom → Cleared rows′ used (g .used) rows″ → left (Ran.NoRoom i) rows″ ≡ runBy x code none
       room-ends {rows″} q cleared =

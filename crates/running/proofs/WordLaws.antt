@@ -10,6 +10,7 @@ use Rattle.code.specs.Words.{operandsFit, goodWord}
 use Rattle.code.specs.declared.Instruction.{Instruction}
 use Rattle.code.specs.declared.Read.{Read}
 use Rattle.code.specs.declared.Read.the-variants.{Is, Not}
+use Rattle.code.proofs.ReadLaws.{read-some}
 use Rattle.code.proofs.WordLaws.{GoodWord, good-iff}
 use Rattle.theory.specs.RowModel.{rowWorld}
 use Rattle.theory.specs.Machine.{step}
@@ -22,10 +23,6 @@ use Rattle.running.specs.Steps.{placed, DoesWord}
 pub still-within : (rows : List ℕ) (g : Registers) (place : ℕ) {here : Registers} → here ≡ placed g place → Within rows (g .used) → Within rows (here .used)
 still-within rows g place at within = subst (λ h. Within rows (h .used)) (sym at) within
 
-read-is : (said : Option Instruction) {read : Read} {instruction : Instruction} → read ≡ readOf said → read ≡ Is instruction → said ≡ some instruction
-read-is (some other) e q = cc
-read-is none e q = absurd (let z : _≡_ {A = ℕ} 0 1 = cc in omega arith)
-
 module _ (kind : ℕ → ℕ) (word : ℕ) (good : T (goodWord kind word)) {read : Read} (says : read ≡ readOf (instructionOf word)) where
   -- a good word says an instruction
   pub never-not : {A : Type 0} → read ≡ Not → A
@@ -35,7 +32,7 @@ module _ (kind : ℕ → ℕ) (word : ℕ) (good : T (goodWord kind word)) {read
 
   module _ {instruction : Instruction} (is : read ≡ Is instruction) where
     same : (other : Instruction) → instructionOf word ≡ some other → instruction ≡ other
-    same other e = let q = read-is (instructionOf word) says is in cc
+    same other e = let q = read-some (instructionOf word) instruction (sym is ∙ says) in cc
 
     pub operands : T (operandsFit kind instruction)
     operands =

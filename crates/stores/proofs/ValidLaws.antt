@@ -52,20 +52,20 @@ pub record ValidStores (rows : List ℕ) (used : ℕ) (kinds objects messages ce
   pub held : UnsetOrUsed used accumulator
 
 -- each test, as a proposition
-known-kinds : (kinds : List ℕ) → T (kindsFit kinds) ↔ KnownKinds kinds
+pub known-kinds : (kinds : List ℕ) → T (kindsFit kinds) ↔ KnownKinds kinds
 unfolding kindsFit
 known-kinds kinds = each-all (λ kind. leb kind 10) (λ kind. kind ≤ 10) (λ kind. at-most kind 10) kinds
 
-undeclared-unset : (kind cell : ℕ) → T (undeclaredUnset kind cell) ↔ UndeclaredUnset kind cell
+pub undeclared-unset : (kind cell : ℕ) → T (undeclaredUnset kind cell) ↔ UndeclaredUnset kind cell
 undeclared-unset kind cell = simp (implied, twice, equals) Iff·rfl
 
-unset-or-used : (used cell : ℕ) → T (cellFits used cell) ↔ UnsetOrUsed used cell
+pub unset-or-used : (used cell : ℕ) → T (cellFits used cell) ↔ UnsetOrUsed used cell
 unset-or-used used cell = simp either (
   ⊎-elim (λ u. inl (equals cell unset .0 (twice (eqb cell unset) .0 u))) (λ l. inr (is-below cell used .0 l)),
   ⊎-elim (λ e. inl (twice (eqb cell unset) .1 (equals cell unset .1 e))) (λ l. inr (is-below cell used .1 l)),
 )
 
-object-fits : (rows : List ℕ) (used kind cell : ℕ) → T (objectFits rows used kind cell) ↔ (UndeclaredUnset kind cell × HoldsKind rows used kind cell)
+pub object-fits : (rows : List ℕ) (used kind cell : ℕ) → T (objectFits rows used kind cell) ↔ (UndeclaredUnset kind cell × HoldsKind rows used kind cell)
 object-fits rows used kind cell =
     simp (both, undeclared-unset kind cell, set-used, set-kind)
     (λ h. (h .0 .0, λ set. (h .0 .1 set, h .1 set)), λ h. ((h .0, λ set. h .1 set .0), λ set. h .1 set .1))
@@ -77,7 +77,7 @@ object-fits rows used kind cell =
     set-kind = simp (implied, fails, equals) Iff·rfl
 
 module _ (test : ℕ → ℕ → Bool) (P : ℕ → ℕ → Type 0) (says : (kind cell : ℕ) → T (test kind cell) ↔ P kind cell) where
-  each-variable : (kinds cells : List ℕ) → T (eachVariable test kinds cells) ↔ EachVariable P kinds cells
+  pub each-variable : (kinds cells : List ℕ) → T (eachVariable test kinds cells) ↔ EachVariable P kinds cells
   unfolding eachVariable
   each-variable [] cells = (λ _ v k. absurd (omega arith), λ _. tt)
   each-variable (kind ∷ kinds) [] = (λ _ v k c. absurd (omega arith), λ _. tt)
@@ -103,12 +103,20 @@ module _ (rows : List ℕ) (used : ℕ) (kinds objects messages certificates : L
   cells-fit : T (each (cellFits used) messages) ↔ All (UnsetOrUsed used) messages
   cells-fit = each-all (cellFits used) (UnsetOrUsed used) (unset-or-used used) messages
 
-  pub valid-stores : T (valid rows used kinds objects messages certificates accumulator) ↔ ValidStores rows used kinds objects messages certificates accumulator
+  pub stores-parts : T (valid rows used kinds objects messages certificates accumulator)
+      ↔ ((T (kindsFit kinds) × T (eachVariable (objectFits rows used) kinds objects) × T (each (cellFits used) messages))
+      × T (each (pairFits rows used) certificates && agentsOnce certificates) × T (cellFits used accumulator))
   unfolding valid
+  stores-parts =
+      six (kindsFit kinds) (eachVariable (objectFits rows used) kinds objects) (each (cellFits used) messages) (each (pairFits rows used) certificates) (agentsOnce certificates)
+      (cellFits used accumulator)
+    where
+      six : (a b c d e f : Bool) → T (a && b && c && d && e && f) ↔ ((T a × T b × T c) × T (d && e) × T f)
+      six a b c d e f = simp both (λ h. ((h .0 .0 .0 .0 .0, h .0 .0 .0 .0 .1, h .0 .0 .0 .1), (h .0 .0 .1, h .0 .1), h .1), λ h. (((((h .0 .0, h .0 .1), h .0 .2), h .1 .0), h .1 .1), h .2))
+
+  pub valid-stores : T (valid rows used kinds objects messages certificates accumulator) ↔ ValidStores rows used kinds objects messages certificates accumulator
   valid-stores =
-      Iff·trans
-      (six (kindsFit kinds) (eachVariable (objectFits rows used) kinds objects) (each (cellFits used) messages) (each (pairFits rows used) certificates) (agentsOnce certificates)
-      (cellFits used accumulator))
+      Iff·trans stores-parts
       (simp (known-kinds, objects-fit, cells-fit, valid-certificates rows used certificates, unset-or-used used accumulator) (
         λ h.
             record {
@@ -121,6 +129,3 @@ module _ (rows : List ℕ) (used : ℕ) (kinds objects messages certificates : L
             },
         λ s. ((s .known, (λ v k c. (s .undeclared v k c, s .typed v k c)), s .cells), s .certified, s .held),
       ))
-    where
-      six : (a b c d e f : Bool) → T (a && b && c && d && e && f) ↔ ((T a × T b × T c) × T (d && e) × T f)
-      six a b c d e f = simp both (λ h. ((h .0 .0 .0 .0 .0, h .0 .0 .0 .0 .1, h .0 .0 .0 .1), (h .0 .0 .1, h .0 .1), h .1), λ h. (((((h .0 .0, h .0 .1), h .0 .2), h .1 .0), h .1 .1), h .2))

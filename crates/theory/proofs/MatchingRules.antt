@@ -22,13 +22,10 @@ use Rattle.theory.specs.Rules.{match, matchParts, matchKey, matchObject,
 use Rattle.theory.specs.TermModel.{Term, atom, encrypted, signed, hashed, tupled, Terms, nil, cons, Names, collected, listed, termWorld}
 use Rattle.theory.specs.Figure2.{TermStores, setObject, Gives, KeyMatches, Matches, MatchesParts, key-variable, key-op, key-keyOf, no-more, one-more, object-set, raw-set, object-new, raw-new, constant-rule, op-rule, keyOf-rule, signature-rule, hash-rule, tuple-rule, let-rule, encryption-rule}
 use Rattle.theory.proofs.StoreLaws.{put-other, put-back, put-comm}
+use Rattle.theory.proofs.Meaning.{shape-listed}
 use Rattle.theory.proofs.FigureLaws.{stuck-not-done, done-inj, bind-then, at-then, need-then, free-then, got-message, same-self, same-then, gives-then, decodes-then, apart}
 
--- a list of terms and the parts of a tuple
-listed-collected : (ms : List Term) → listed (collected ms) ≡ ms
-listed-collected [] = refl
-listed-collected (m ∷ ms) = ap (λ ms. m ∷ ms) (listed-collected ms)
-
+-- the parts of a tuple as a list
 collected-listed : (ts : Terms) → collected (listed ts) ≡ ts
 collected-listed nil = refl
 collected-listed (cons t ts) = ap (cons t) (collected-listed ts)
@@ -47,7 +44,7 @@ getD-shows [] m = tt
 getD-shows (a ∷ ms) m = (refl, shows-later (λ i. getD (a ∷ ms) i m) zero ms (getD-shows ms m))
 
 parts-are : (m : Term) (ms : List Term) (k : ℕ) (x : Names) → m ≡ tupled (collected ms) → length ms ≡ k → termWorld .parts m k x ≡ got (λ i. getD ms i m)
-parts-are m ms k x whole counted = rw whole (rw (listed-collected ms, eq-eqb _ _ counted))
+parts-are m ms k x whole counted = rw whole (rw (shape-listed ms, eq-eqb _ _ counted))
 
 parts-then : {B : Type 0} (row : ℕ) (m : Term) (k : ℕ) (x : Names) (f : (ℕ → Term) → Outcome B) (b : B) → bind (at row (termWorld .parts m k x)) f ≡ done b
     → (ms : List Term) × (m ≡ tupled (collected ms)) × (length ms ≡ k) × (f (λ i. getD ms i m) ≡ done b)

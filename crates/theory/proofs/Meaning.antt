@@ -31,7 +31,7 @@ abbrev pub meaning : List ℕ → ℕ → Term
 meaning rows row = termAt rows (suc row) row
 
 -- a term and its shape
-shape-listed : (parts : List Term) → listed (collected parts) ≡ parts
+pub shape-listed : (parts : List Term) → listed (collected parts) ≡ parts
 shape-listed [] = refl
 shape-listed (t ∷ parts) = ap (t ∷_) (shape-listed parts)
 

@@ -1,0 +1,2 @@
+-- Laws of slices compared element after element.
+pub mod SameLaws

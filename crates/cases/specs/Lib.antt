@@ -1,0 +1,2 @@
+-- What the cases compare.
+pub mod Same
