@@ -1,0 +1,4 @@
+-- Laws of the entries for C.
+pub mod FrontLaws
+pub mod RunLaws
+pub mod Coincide
