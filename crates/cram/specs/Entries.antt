@@ -2,13 +2,17 @@
 use Prim.Native.Nat.{ℕ}
 use mathlib.Core.Bool.{Bool, cond, _&&_}
 use mathlib.Core.List.{List}
-use lib.Dec.{eqb}
+use lib.Dec.{eqb, leb}
 use Rattle.word.specs.Bytes.{whole, elements, spelled}
-use Rattle.answers.specs.Numbers.{ranNumber, ranPlace, ranReason}
+use Rattle.answers.specs.Numbers.{compiledNumber, compiledPlace, ranNumber, ranPlace, ranReason}
+use Rattle.answers.specs.declared.Compiled.{Compiled}
+use Rattle.answers.specs.declared.Compiled.the-variants as Compiled
 use Rattle.answers.specs.declared.Ran.{Ran}
 use Rattle.answers.specs.declared.Ran.the-variants as Ran
 use Rattle.terms.specs.Rules.{usedRows}
-use Rattle.theory.specs.Run.{Lent, RunOutcome, unchanged, run}
+use Rattle.theory.specs.Compile.{CompileOutcome, compile}
+use Rattle.theory.specs.Run.{Lent, RunOutcome, run}
+use Rattle.cram.specs.declared.CompileAnswer.{CompileAnswer}
 use Rattle.cram.specs.declared.RunAnswer.{RunAnswer}
 
 -- a call of run: what comes back, and the lent bytes that it may write
@@ -79,3 +83,30 @@ runRefused x = record {
 -- run, lent bytes: a slice that is not whole elements is 1
 unfoldable pub runEntry : Lent → List ℕ → RunLeft
 runEntry x code = cond (runWhole x code) (runSpelled (run (lentElements x) (elements 4 code))) (runRefused x)
+
+-- a call of compile: what comes back, and the lent bytes that it may write
+pub record CompileLeft : Type 0 where
+  pub answer : CompileAnswer
+  pub code : List ℕ
+
+abbrev pub compiledNumbers : Compiled → CompileAnswer
+compiledNumbers answer = record { number = compiledNumber answer; place = compiledPlace answer }
+
+-- an outcome in numbers and bytes
+abbrev pub compileSpelled : CompileOutcome → CompileLeft
+compileSpelled o = record { answer = compiledNumbers (o .answer); code = spelled 4 (o .code) }
+
+-- 1, with every byte as it was
+abbrev pub compileRefused : List ℕ → CompileLeft
+compileRefused code = record { answer = compiledNumbers Compiled.Limit; code = code }
+
+module _ (create : ℕ) (pattern kinds objects named code : List ℕ) where
+  -- the direction is 0 for matching or 1 for creating; pattern rows are eight bytes, cells two, code words four
+  abbrev pub compileWhole : Bool
+  compileWhole = leb create 1 && whole 8 pattern && whole 2 objects && whole 2 named && whole 4 code
+
+  -- compile, lent bytes: another direction, or a slice that is not whole elements, is 1
+  unfoldable pub compileEntry : CompileLeft
+  compileEntry =
+      cond compileWhole (compileSpelled (compile (eqb create 1) (elements 8 pattern) kinds (elements 2 objects) (elements 2 named) (elements 4 code)))
+      (compileRefused code)

@@ -63,7 +63,7 @@ fn over_cells(
     ensures { λ r. ⌜ record { answer = r .answer; objects = now (objects .exit); messages = now (messages .exit); accumulator = r .accumulator; terms = now (rows .exit); counter = r .counter }
         ≡ cellsSpelled (run (record { kinds = now (kinds .entry); objects = elements 2 (now (objects .entry)); messages = elements 2 (now (messages .entry)); certificates = now (certificates .entry); accumulator = accumulator; terms = now (rows .entry); counter = counter }) (now (words .entry))) ⌝ }
 {
-    let mut object_cells = arrays::object_cells(objects);
+    let mut object_cells = arrays::cells(objects);
     let mut message_cells = arrays::message_cells(messages);
     let ended = running::run(
         kinds,

@@ -15,8 +15,8 @@ lent s = record {
   counter = s .args .counter;
 }
 
-object-cells-requires : tie.Need-object-cells-requires
-object-cells-requires c κs = search needs
+cells-requires : tie.Need-cells-requires
+cells-requires c κs = search needs
 
 message-cells-requires : tie.Need-message-cells-requires
 message-cells-requires c κs = search needs
@@ -57,14 +57,14 @@ returns c =
     let ran = packed .before .before .before .before .before .before .before .before .before .before .before .before in
     let cells = ran .before .before .before .before in
     let s = cells .before .before .before .before .before .before .before .before .before .before in
-    cells-packed (lent s) (s .args .words .now) (cells .before .before .object-cells .ensures) (cells .message-cells .ensures)
+    cells-packed (lent s) (s .args .words .now) (cells .before .before .cells .ensures) (cells .message-cells .ensures)
     (ran .run .ensures) (packed .before .before .before .before .before .pack-pairs .ensures) (packed .pack-pairs2 .ensures)
 
 pub over-cells-spec : {M : Type 1} → statement M
 over-cells-spec =
     tie.close
     (tie.spec
-    object-cells-requires
+    cells-requires
     message-cells-requires
     slice-aggregate-run
     slice-aggregate-run-2
