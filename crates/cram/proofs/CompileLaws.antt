@@ -1,7 +1,7 @@
 -- Compile over lent bytes: what fits or is refused, and words that come to the code's bytes.
 use Prim.Native.Nat.{ℕ, _*_, _/_, _%_, _<_, _≤_}
 use mathlib.Core.Path.{_≡_, refl, sym, _∙_, ap}
-use mathlib.Core.Bool.{Bool, true, false, cond, _&&_}
+use mathlib.Core.Bool.{Bool, true, false, _&&_}
 use mathlib.Core.List.{List, _++_}
 use native.Mathlib.Omega.{arith}
 use lib.Dec.{T, eqb, leb}
@@ -18,6 +18,7 @@ use Rattle.compiler.specs.Buffer.{Compiles}
 use Rattle.compiler.proofs.DeliveryLaws.{too-short, all-fit, compile-refused, compile-done}
 use Rattle.running.proofs.LookLaws.{true-holds}
 use Rattle.cram.specs.Entries.{CompileLeft, compiledNumbers, compileSpelled, compileRefused, compileWhole, compileEntry}
+use Rattle.cram.proofs.ChoiceLaws.{is-false, where-true, either-way}
 
 -- words that come to bytes
 module _ (words code : List ℕ) (exact : length code % 4 ≡ 0) (below : Below 256 code) where
@@ -49,12 +50,15 @@ module _ (create : ℕ) (pattern kinds objects named code : List ℕ) where
       leb create 1 && eqb (length pattern % 8) 0 && leb (length pattern) 768 && eqb (length objects) 128 && eqb (length named) 128
       && eqb (length code % 4) 0
 
+  abbrev isWhole : Bool
+  isWhole = compileWhole create pattern kinds objects named code
+
   abbrev outcome : CompileOutcome
   outcome = compile (eqb create 1) (elements 8 pattern) kinds (elements 2 objects) (elements 2 named) (elements 4 code)
 
   -- a direction, and whole elements, for which there is room
   pub record Fitting : Type 0 where
-    pub all-whole : T (compileWhole create pattern kinds objects named code)
+    pub all-whole : T isWhole
     pub few-rows : length pattern / 8 ≤ 96
     pub object-bytes : length objects ≡ 128
     pub named-bytes : length named ≡ 128
@@ -72,37 +76,26 @@ module _ (create : ℕ) (pattern kinds objects named code : List ℕ) where
       }
 
   -- elements within the limits are bytes that fit
-  refits : T (compileWhole create pattern kinds objects named code) → T (lengthsFit (eqb create 1) (elements 8 pattern) kinds (elements 2 objects) (elements 2 named)) → T bytesFit
+  refits : T isWhole → T (lengthsFit (eqb create 1) (elements 8 pattern) kinds (elements 2 objects) (elements 2 named)) → T bytesFit
   refits =
       simp (both, equals, at-most, length-words) λ w l.
       (((((w .0 .0 .0 .0, w .0 .0 .0 .1), omega (arith, w .0 .0 .0 .1, l .0 .0 .0 .1)), omega (arith, w .0 .0 .1, l .0 .1)), omega (arith, w .0 .1, l .1)), w .1)
 
-  refused-by-compile : bytesFit ≡ false → T (compileWhole create pattern kinds objects named code) → outcome ≡ leaves Limit (elements 4 code)
+  refused-by-compile : bytesFit ≡ false → T isWhole → outcome ≡ leaves Limit (elements 4 code)
   unfolding compile first
   refused-by-compile e w = rw (is-false (lengthsFit (eqb create 1) (elements 8 pattern) kinds (elements 2 objects) (elements 2 named)) λ t. rw e at (refits w t))
-    where
-      is-false : (b : Bool) → (T b → ⊥) → b ≡ false
-      is-false true h = absurd (h tt)
-      is-false false h = refl
 
   -- 1, of whole elements or not
   pub compile-limit : Below 256 code → bytesFit ≡ false → compileRefused code ≡ compileEntry create pattern kinds objects named code
   unfolding compileEntry
-  compile-limit below e = go (compileWhole create pattern kinds objects named code) (λ w. w)
-    where
-      go : (b : Bool) → (T b → T (compileWhole create pattern kinds objects named code)) → compileRefused code ≡ cond b (compileSpelled outcome) (compileRefused code)
-      go false w = refl
-      go true w = rw (refused-by-compile e (w tt), spelled-elements 4 code (simp both at (w tt) .1) below)
+  compile-limit below e = either-way isWhole (compileSpelled outcome) (compileRefused code) λ w.
+      rw (refused-by-compile e w, spelled-elements 4 code (simp both at w .1) below)
 
   -- what the compiler leaves in numbers and bytes, by its answer's number
   module _ {answer : Compiled} {buffer : List ℕ} (f : Fitting) (compiles : Compiles (eqb create 1) (elements 8 pattern) kinds (elements 2 objects) (elements 2 named) answer buffer) where
     fits : compileSpelled outcome ≡ compileEntry create pattern kinds objects named code
     unfolding compileEntry
-    fits = go (compileWhole create pattern kinds objects named code) (f .all-whole)
-      where
-        go : (b : Bool) → T b → compileSpelled outcome ≡ cond b (compileSpelled outcome) (compileRefused code)
-        go true t = refl
-        go false t = absurd t
+    fits = where-true isWhole (compileSpelled outcome) (compileRefused code) (f .all-whole)
 
     pub entry-refused : Below 256 code → (compiledNumber answer ≡ 0 → ⊥)
         → record { answer = compiledNumbers answer; code = code } ≡ compileEntry create pattern kinds objects named code

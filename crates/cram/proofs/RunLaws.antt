@@ -1,7 +1,7 @@
 -- Run over lent bytes: lengths that fit or are refused, and what is packed back.
 use Prim.Native.Nat.{ℕ, _*_, _/_, _%_, _≤_}
-use mathlib.Core.Path.{_≡_, refl, sym, _∙_, ap}
-use mathlib.Core.Bool.{Bool, true, false, cond, _&&_}
+use mathlib.Core.Path.{_≡_, sym, _∙_, ap}
+use mathlib.Core.Bool.{Bool, true, false, _&&_}
 use mathlib.Core.List.{List}
 use native.Mathlib.Omega.{arith}
 use borrow.Author.Tests.{eq-eqb, ne-eqb}
@@ -19,6 +19,7 @@ use Rattle.theory.specs.Run.{Lent, RunOutcome, unchanged, lengthsFit, run}
 use Rattle.running.proofs.LookLaws.{true-holds, found-some, found-limit, run-refused}
 use Rattle.cram.specs.declared.RunAnswer.{RunAnswer}
 use Rattle.cram.specs.Entries.{RunLeft, ranNumbers, runWhole, lentElements, cellsSpelled, rowsSpelled, runSpelled, runRefused, runEntry}
+use Rattle.cram.proofs.ChoiceLaws.{is-false, where-true, either-way}
 
 module _ (x : Lent) (code : List ℕ) where
   abbrev pub bytesFit : Bool
@@ -58,32 +59,21 @@ module _ (x : Lent) (code : List ℕ) where
 
   refused-by-run : bytesFit ≡ false → T (runWhole x code) → run (lentElements x) (elements 4 code) ≡ unchanged Limit (lentElements x)
   refused-by-run e w =
-      sym (run-refused (lentElements x) (elements 4 code) (found-some (elements 8 (x .terms)) _ (found-limit (lentElements x) (elements 4 code) (is-false _ λ t. rw e at (refits w t)))))
-    where
-      is-false : (b : Bool) → (T b → ⊥) → b ≡ false
-      is-false true h = absurd (h tt)
-      is-false false h = refl
+      let unfit = is-false (lengthsFit (lentElements x) (elements 4 code)) λ t. rw e at (refits w t) in
+      sym (run-refused (lentElements x) (elements 4 code) (found-some (elements 8 (x .terms)) _ (found-limit (lentElements x) (elements 4 code) unfit)))
 
   -- 1, of whole elements or not
   pub run-limit : Below 256 (x .objects) → Below 256 (x .messages) → Below 256 (x .terms) → bytesFit ≡ false → runRefused x ≡ runEntry x code
   unfolding runEntry
-  run-limit objects messages terms e = go (runWhole x code) (λ w. w)
-    where
-      go : (b : Bool) → (T b → T (runWhole x code)) → runRefused x ≡ cond b (runSpelled (run (lentElements x) (elements 4 code))) (runRefused x)
-      go false w = refl
-      go true w =
-          let t = simp both at (w tt) in
-          rw (refused-by-run e (w tt), spelled-elements 2 (x .objects) (t .0 .0 .0 .0) objects, spelled-elements 2 (x .messages) (t .0 .0 .0 .1) messages, spelled-elements 8 (x .terms) (t .0 .1) terms)
+  run-limit objects messages terms e = either-way (runWhole x code) (runSpelled (run (lentElements x) (elements 4 code))) (runRefused x) λ w.
+      let t = simp both at w in
+      rw (refused-by-run e w, spelled-elements 2 (x .objects) (t .0 .0 .0 .0) objects, spelled-elements 2 (x .messages) (t .0 .0 .0 .1) messages, spelled-elements 8 (x .terms) (t .0 .1) terms)
 
   pub run-fits : {left : RunLeft} {pairs words : List ℕ} → T (runWhole x code) → pairs ≡ elements 8 (x .certificates) → words ≡ elements 4 code
       → left ≡ runSpelled (run (record { kinds = x .kinds; objects = elements 2 (x .objects); messages = elements 2 (x .messages); certificates = pairs; accumulator = x .accumulator; terms = elements 8 (x .terms); counter = x .counter }) words)
       → left ≡ runEntry x code
   unfolding runEntry
-  run-fits w p q e = rw (p, q) at e ∙ go (runWhole x code) w
-    where
-      go : (b : Bool) → T b → runSpelled (run (lentElements x) (elements 4 code)) ≡ cond b (runSpelled (run (lentElements x) (elements 4 code))) (runRefused x)
-      go true t = refl
-      go false t = absurd t
+  run-fits w p q e = rw (p, q) at e ∙ where-true (runWhole x code) (runSpelled (run (lentElements x) (elements 4 code))) (runRefused x) w
 
 -- the answer in numbers
 module _ (answer : Ran) {number place reason : ℕ} (n : number ≡ ranNumber answer) (p : place ≡ ranPlace answer) (r : reason ≡ ranReason answer)

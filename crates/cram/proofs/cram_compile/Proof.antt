@@ -1,3 +1,4 @@
+-- What fits is unpacked and compiled, and words that fit are packed; what does not is 1 or 8.
 use Prim.Native.Nat.{_≤_}
 use mathlib.Core.Path.{_≡_, sym, _∙_}
 use native.Mathlib.Omega.{arith}

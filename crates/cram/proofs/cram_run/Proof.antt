@@ -1,3 +1,4 @@
+-- What fits is unpacked and run; what does not is 1.
 use mathlib.Core.Path.{sym, _∙_}
 use native.Mathlib.Omega.{arith}
 use borrow.Author.Needs.{needs}
