@@ -80,7 +80,7 @@ extern "C" {
 #define CRAM_CERTIFICATES 32u    /* at most */
 #define CRAM_COUNTER 65536u      /* the name counter's highest value; CREATE then finds no name */
 #define CRAM_UNSET 65535u        /* a cell or an accumulator that is unset */
-#define CRAM_STACK_BYTES 262144u /* see above */
+#define CRAM_STACK_BYTES 65536u  /* see above */
 
 /* What a number says, in both calls. */
 enum {

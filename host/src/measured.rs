@@ -15,7 +15,9 @@ pub fn compiles() -> Vec<(&'static str, CompileInput)> {
         ("compile the listing's pattern", worked::greeting()),
         ("compile 96 rows, matching", worked::nested_pairs(false, most)),
         ("compile 96 rows, creating", worked::nested_pairs(true, most)),
-        ("compile rows as deep as they go", deep()),
+        ("compile rows as deep as they go, matching", deep(false)),
+        ("compile rows as deep as they go, creating", deep(true)),
+        ("refuse 95 tuples in each other, creating", one_variable()),
     ];
     named.map(|(name, case)| (name, case.lend_compile(CODE_WORDS))).to_vec()
 }
@@ -38,8 +40,8 @@ pub const FULL_TABLE: &str = "check 4,096 used rows, no code";
 pub const SEARCHES: &str = "check 4,096 used rows, then 768 searches";
 
 /// Sixteen lets around tuples of one part in each other.
-fn deep() -> Case {
-    let mut case = Case::new(false);
+fn deep(create: bool) -> Case {
+    let mut case = Case::new(create);
     case.kinds = [TUPLE; NAMED];
     case.declare(&[NONCE]);
     case.pattern.push(object(0));
@@ -50,6 +52,18 @@ fn deep() -> Case {
         let inner = case.pattern.len() as u8 - 1;
         let r = inner % NAMED as u8;
         case.pattern.extend([raw(r), bound(r, inner, inner + 1)]);
+    }
+    case
+}
+
+/// Tuples of one part in each other that all write one variable, which is seen after the innermost.
+fn one_variable() -> Case {
+    let mut case = Case::new(true);
+    case.declare(&[NONCE, TUPLE]);
+    case.pattern.push(object(0));
+    while case.pattern.len() < PATTERN_ROWS {
+        let inner = case.pattern.len() as u8 - 1;
+        case.pattern.push(tuple(1, &[inner]));
     }
     case
 }

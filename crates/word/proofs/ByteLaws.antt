@@ -107,7 +107,7 @@ bytesOf-number (byte ∷ bytes) below =
     (ap (λ (k : ℕ). k % 256) (digits-div byte (number-lt bytes (λ place. below (suc place)))) ∙ mod-eq-of-lt (below 0))
     (bytesOf-low (length bytes) byte (number bytes) ∙ bytesOf-number bytes (λ place. below (suc place)))
 
-spelled-append : (size : ℕ) (first later : List ℕ) → spelled size (first ++ later) ≡ spelled size first ++ spelled size later
+pub spelled-append : (size : ℕ) (first later : List ℕ) → spelled size (first ++ later) ≡ spelled size first ++ spelled size later
 unfolding spelled
 spelled-append size [] later = refl
 spelled-append size (value ∷ first) later = rw (spelled-append size first later, append-assoc)

@@ -1,0 +1,153 @@
+-- What fits is unpacked and compiled, and words that fit are packed; what does not is 1 or 8.
+use Prim.Native.Nat.{_≤_}
+use mathlib.Core.Path.{_≡_, sym, _∙_}
+use native.Mathlib.Omega.{arith}
+use borrow.Author.Needs.{needs}
+use borrow.Author.Tests.{not-true, not-false}
+use lib.Seq.{length-take-le}
+use lib.Dec.{eqb}
+use lib.ListN.{length}
+use Rattle.word.specs.Bytes.{elements}
+use Rattle.answers.specs.Numbers.{compiledNumber}
+use Rattle.compiler.specs.Buffer.{Compiles}
+use Rattle.compiler.proofs.DeliveryLaws.{few-words, buffer-length}
+use Rattle.cram.proofs.CompileLaws.{Fitting, fitting, compile-limit, entry-refused, entry-done}
+use Rattle.cram.proofs.cram_compile.Statement.{statement}
+use Rattle.cram.proofs.cram_compile.Tie as tie
+
+-- the lengths fit
+module _ (c : tie.Else1) where
+  abbrev start : tie.Start
+  start = c .before .before .before .before .before .before .before
+
+  fits : Fitting (start .args .create) (start .args .pattern .now) (start .args .kinds .now) (start .args .objects .now) (start .args .named .now) (start .args .code .now)
+  fits = fitting _ _ _ _ _ _ (sym (c .before .lengths-fit .ensures) ∙ not-false _ (c .if1 .left))
+
+-- the compiler has answered
+module _ (c : tie.After-words) where
+  abbrev here : tie.Else1
+  here = c .before .before .before .before .before .before .before .before .before
+
+  compiles : Compiles (eqb (start here .args .create) 1) (elements 8 (start here .args .pattern .now)) (start here .args .kinds .now)
+      (elements 2 (start here .args .objects .now)) (elements 2 (start here .args .named .now)) (c .words .result) (c .words .last .1 .1 .1 .1 .1 .0)
+  compiles = rw (c .before .before .before .before .before .before .before .before .pattern-rows .ensures, c .before .before .before .before .before .before .before .cells .ensures, c .before .before .before .before .before .before .cells2 .ensures) at (c .words .ensures)
+
+-- its answer is 0: the buffer has so many words
+module _ (c : tie.After-place) where
+  abbrev answered : tie.After-words
+  answered = c .before .before .before
+
+  zero : compiledNumber (answered .words .result) ≡ 0
+  zero = sym (c .before .before .number .ensures .0) ∙ c .before .if2 .left
+
+  few : c .place .result ≤ 767
+  few = rw (c .place .ensures) (few-words (answered .words .ensures) zero)
+
+  inside : c .place .result ≤ length (answered .words .last .1 .1 .1 .1 .1 .0)
+  inside = omega (arith, few, buffer-length (answered .words .ensures) zero)
+
+lengths-fit-requires : tie.Need-lengths-fit-requires
+lengths-fit-requires c κs = search needs
+
+numbers-requires : tie.Need-numbers-requires
+numbers-requires c κs = search needs
+
+returns : tie.Need-returns
+returns c =
+    let tested = c .before .before in
+    rw (c .numbers .ensures) (
+    compile-limit _ _ _ _ _ _ (λ place. tested .before .slice-known .given place .fits) (sym (tested .lengths-fit .ensures) ∙ not-true _ (c .before .if1 .taken))
+    )
+
+pattern-rows-requires : tie.Need-pattern-rows-requires
+pattern-rows-requires c κs = fits c .few-rows
+
+cells-requires : tie.Need-cells-requires
+cells-requires c κs = fits (c .before) .object-bytes
+
+cells-requires-2 : tie.Need-cells-requires-2
+cells-requires-2 c κs = fits (c .before .before) .named-bytes
+
+no-words-requires : tie.Need-no-words-requires
+no-words-requires c κs = search needs
+
+array-share-prefix-rows : tie.Need-array-share-prefix-rows
+array-share-prefix-rows c = omega (arith, fits (c .before .before .before .before) .few-rows)
+
+slice-aggregate-words : tie.Need-slice-aggregate-words
+slice-aggregate-words c = sym (length-take-le _ _ (array-share-prefix-rows (c .before)))
+
+slice-aggregate-words-2 : tie.Need-slice-aggregate-words-2
+slice-aggregate-words-2 c = search needs
+
+slice-aggregate-words-3 : tie.Need-slice-aggregate-words-3
+slice-aggregate-words-3 c = search needs
+
+words-requires : tie.Need-words-requires
+words-requires c κs = search needs
+
+number-requires : tie.Need-number-requires
+number-requires c κs = search needs
+
+numbers-requires-2 : tie.Need-numbers-requires-2
+numbers-requires-2 c κs = search needs
+
+returns-2 : tie.Need-returns-2
+returns-2 c =
+    let answered = c .before .before .before in
+    let tested = here answered .before in
+    rw (c .numbers2 .ensures) (
+    entry-refused _ _ _ _ _ _ (fits (here answered)) (compiles answered) (λ place. tested .before .slice-known .given place .fits)
+    (λ e. c .before .if2 .taken (c .before .before .number .ensures .0 ∙ e))
+    )
+
+place-requires : tie.Need-place-requires
+place-requires c κs = search needs
+
+cast-count : tie.Need-cast-count
+cast-count c = search needs
+
+array-share-prefix-buffer : tie.Need-array-share-prefix-buffer
+array-share-prefix-buffer c = inside c
+
+slice-aggregate-deliver : tie.Need-slice-aggregate-deliver
+slice-aggregate-deliver c = sym (length-take-le _ _ (inside (c .before)))
+
+deliver-requires : tie.Need-deliver-requires
+deliver-requires c κs = (rw (length-take-le (c .before .before .place .result) _ (inside (c .before .before))) (omega (arith, few (c .before .before))), fits (here (answered (c .before .before))) .code-bytes)
+
+same-length : tie.Need-same-length
+same-length c = search needs
+
+returns-3 : tie.Need-returns-3
+returns-3 c =
+    let placed = c .before .before .before .before .before in
+    let words = answered placed in
+    entry-done _ _ _ _ _ _ (fits (here words)) (compiles words) (zero placed) (c .before .before .deliver .ensures ∙ rw (placed .place .ensures))
+
+pub cram-compile-spec : {M : Type 1} → statement M
+cram-compile-spec =
+    tie.close
+    (tie.spec
+    lengths-fit-requires
+    numbers-requires
+    returns
+    pattern-rows-requires
+    cells-requires
+    cells-requires-2
+    no-words-requires
+    array-share-prefix-rows
+    slice-aggregate-words
+    slice-aggregate-words-2
+    slice-aggregate-words-3
+    words-requires
+    number-requires
+    numbers-requires-2
+    returns-2
+    place-requires
+    cast-count
+    array-share-prefix-buffer
+    slice-aggregate-deliver
+    deliver-requires
+    same-length
+    returns-3)

@@ -1,0 +1,116 @@
+-- What fits is unpacked and run; what does not is 1.
+use mathlib.Core.Path.{sym, _∙_}
+use native.Mathlib.Omega.{arith}
+use borrow.Author.Needs.{needs}
+use borrow.Author.Tests.{not-true, not-false}
+use lib.Seq.{length-take-le}
+use Rattle.theory.specs.Run.{Lent}
+use Rattle.cram.proofs.RunLaws.{Fitting, fitting, run-limit, run-fits}
+use Rattle.cram.proofs.cram_run.Statement.{statement}
+use Rattle.cram.proofs.cram_run.Tie as tie
+
+abbrev lent : tie.Start → Lent
+lent s = record {
+  kinds = s .args .kinds .now;
+  objects = s .args .objects .now;
+  messages = s .args .messages .now;
+  certificates = s .args .certificates .now;
+  accumulator = s .args .accumulator;
+  terms = s .args .terms .now;
+  counter = s .args .counter;
+}
+
+module _ (c : tie.Else1) where
+  abbrev start : tie.Start
+  start = c .before .before .before .before .before .before .before .before
+
+  fits : Fitting (lent start) (start .args .code .now)
+  fits = fitting (lent start) (start .args .code .now) (sym (c .before .lengths-fit .ensures) ∙ not-false _ (c .if1 .left))
+
+lengths-fit-requires : tie.Need-lengths-fit-requires
+lengths-fit-requires c κs = search needs
+
+numbers-requires : tie.Need-numbers-requires
+numbers-requires c κs = search needs
+
+returns : tie.Need-returns
+returns c =
+    let tested = c .before .before in
+    let s = tested .before .before .before .before .before .before .before in
+    rw (c .numbers .ensures) (
+    run-limit (lent s) (s .args .code .now) (λ place. tested .before .before .before .before .before .slice-known .given place .fits)
+    (λ place. tested .before .before .before .before .slice-known2 .given place .fits) (λ place. tested .before .before .slice-known3 .given place .fits)
+    (sym (tested .lengths-fit .ensures) ∙ not-true _ (c .before .if1 .taken))
+    )
+
+certificates-requires : tie.Need-certificates-requires
+certificates-requires c κs = fits c .few-certificates
+
+code-words-requires : tie.Need-code-words-requires
+code-words-requires c κs = fits (c .before) .few-words
+
+no-rows-requires : tie.Need-no-rows-requires
+no-rows-requires c κs = search needs
+
+array-share-prefix-pairs : tie.Need-array-share-prefix-pairs
+array-share-prefix-pairs c = omega (arith, fits (c .before .before .before .before .before) .few-certificates)
+
+slice-aggregate-over-rows : tie.Need-slice-aggregate-over-rows
+slice-aggregate-over-rows c = sym (length-take-le _ _ (array-share-prefix-pairs (c .before)))
+
+array-borrow-prefix-rows : tie.Need-array-borrow-prefix-rows
+array-borrow-prefix-rows c = omega (arith, fits (c .before .before .before .before .before .before .before) .few-rows)
+
+slice-aggregate-over-rows-2 : tie.Need-slice-aggregate-over-rows-2
+slice-aggregate-over-rows-2 c = sym (length-take-le _ _ (array-borrow-prefix-rows (c .before)))
+
+array-share-prefix-words : tie.Need-array-share-prefix-words
+array-share-prefix-words c = omega (arith, fits (c .before .before .before .before .before .before .before .before) .few-words)
+
+slice-aggregate-over-rows-3 : tie.Need-slice-aggregate-over-rows-3
+slice-aggregate-over-rows-3 c = sym (length-take-le _ _ (array-share-prefix-words (c .before)))
+
+over-rows-requires : tie.Need-over-rows-requires
+over-rows-requires c κs =
+    let f = fits (c .before .before .before .before .before .before .before .before .before) in
+    let room = array-borrow-prefix-rows (c .before .before) in
+    ((f .object-bytes, f .message-bytes), (rw length-take-le (f .row-bytes), rw length-take-le (f .few-rows)))
+
+same-length : tie.Need-same-length
+same-length c = search needs
+
+same-length-2 : tie.Need-same-length-2
+same-length-2 c = search needs
+
+same-length-3 : tie.Need-same-length-3
+same-length-3 c = search needs
+
+returns-2 : tie.Need-returns-2
+returns-2 c =
+    let ran = c .before .before .before .before .before .before .before in
+    let words = ran .before .before .before .before .before .before .before .before in
+    let here = words .before .before in
+    run-fits (lent (start here)) (start here .args .code .now) (fits here .all-whole) (words .before .certificates .ensures)
+    (words .code-words .ensures) (ran .over-rows .ensures)
+
+pub cram-run-spec : {M : Type 1} → statement M
+cram-run-spec =
+    tie.close
+    (tie.spec
+    lengths-fit-requires
+    numbers-requires
+    returns
+    certificates-requires
+    code-words-requires
+    no-rows-requires
+    array-share-prefix-pairs
+    slice-aggregate-over-rows
+    array-borrow-prefix-rows
+    slice-aggregate-over-rows-2
+    array-share-prefix-words
+    slice-aggregate-over-rows-3
+    over-rows-requires
+    same-length
+    same-length-2
+    same-length-3
+    returns-2)

@@ -1,0 +1,2 @@
+-- The entries for C.
+pub mod Entries

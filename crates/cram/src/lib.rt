@@ -1,0 +1,110 @@
+// The entries for C: plain numbers and byte slices, fields high byte first.
+ghost use mathlib.Core.Path.{_≡_};
+ghost use Rattle.cram.specs.Entries.{compileEntry, runEntry};
+use answers::Compiled;
+use answers::Ran;
+
+mod arrays;
+mod compiles;
+mod runs;
+
+#[repr(C)]
+pub struct CompileAnswer {
+    pub number: u32,
+    pub place: u32,
+}
+
+#[repr(C)]
+pub struct RunAnswer {
+    pub number: u32,
+    pub place: u32,
+    pub reason: u32,
+    pub used: u32,
+    pub counter: u32,
+    pub accumulator: u32,
+}
+
+// The code of a pattern; create is 0 for matching, 1 for creating.
+#[no_mangle]
+pub extern "C" fn cram_compile(
+    create: u8,
+    pattern: &[u8],
+    kinds: &[u8],
+    objects: &[u8],
+    named: &[u8],
+    code: &mut [u8],
+) -> CompileAnswer
+    ensures { λ r. ⌜ record { answer = r; code = now (code .exit) }
+        ≡ compileEntry create (now (pattern .entry)) (now (kinds .entry)) (now (objects .entry)) (now (named .entry)) (now (code .entry)) ⌝ }
+{
+    if !compiles::lengths_fit(
+        create,
+        pattern.len(),
+        objects.len(),
+        named.len(),
+        code.len(),
+    ) {
+        return compiles::numbers(Compiled::Limit);
+    }
+    let rows = arrays::pattern_rows(pattern);
+    let object_cells = arrays::cells(objects);
+    let named_cells = arrays::cells(named);
+    let mut buffer = arrays::no_words();
+    let lent = pattern.len() / 8;
+    let answer = compiler::words(
+        create == 1,
+        &rows[..lent],
+        kinds,
+        &object_cells,
+        &named_cells,
+        &mut buffer,
+    );
+    if answer.number() != 0 {
+        return compiles::numbers(answer);
+    }
+    let count = answer.place() as usize;
+    compiles::deliver(&buffer[..count], code)
+}
+
+// Code over stores and a table of terms.
+#[no_mangle]
+pub extern "C" fn cram_run(
+    kinds: &[u8],
+    objects: &mut [u8],
+    messages: &mut [u8],
+    certificates: &[u8],
+    accumulator: u32,
+    terms: &mut [u8],
+    counter: u32,
+    code: &[u8],
+) -> RunAnswer
+    ensures { λ r. ⌜ record { answer = r; objects = now (objects .exit); messages = now (messages .exit); terms = now (terms .exit) }
+        ≡ runEntry (record { kinds = now (kinds .entry); objects = now (objects .entry); messages = now (messages .entry); certificates = now (certificates .entry); accumulator = accumulator; terms = now (terms .entry); counter = counter }) (now (code .entry)) ⌝ }
+{
+    if !runs::lengths_fit(
+        objects.len(),
+        messages.len(),
+        certificates.len(),
+        terms.len(),
+        code.len(),
+    ) {
+        return runs::numbers(Ran::Limit, 0, counter, accumulator);
+    }
+    let certified = certificates.len() / 8;
+    let count = code.len() / 4;
+    let lent = terms.len() / 8;
+    let pairs = arrays::certificates(certificates);
+    let words = arrays::code_words(code);
+    let mut rows = arrays::no_rows();
+    runs::over_rows(
+        kinds,
+        objects,
+        messages,
+        &pairs[..certified],
+        accumulator,
+        terms,
+        &mut rows[..lent],
+        counter,
+        &words[..count],
+    )
+}
