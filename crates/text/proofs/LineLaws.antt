@@ -87,3 +87,9 @@ module _ (k : ℕ) (numbers : List ℕ) (below : All (λ n. n < 10 ^ suc k) numb
   pub word-line-below : (word : List ℕ) → length (wordLine word numbers) ≤ length word + suc (suc k) * length numbers + 2
   unfolding wordLine
   word-line-below word = rw length-append (omega (arith, line-below))
+
+-- a line that begins with a word, whatever its numbers
+pub word-line-most : (word numbers : List ℕ) → length (wordLine word numbers) ≤ length word + 21 * length numbers + 2
+unfolding line wordLine
+word-line-most word numbers =
+    simp length-append (omega (arith, spaced-length 20 numbers (at-all _ numbers 0 λ i l. decimal-most (getD numbers i 0))))

@@ -1,0 +1,61 @@
+-- The arrays that hold the parts of a bundle that opened.
+use Prim.Native.Nat.{ℕ, _-_, _≤_}
+use mathlib.Core.Path.{_≡_, sym, _∙_, ap}
+use mathlib.Core.List.{List, [], _++_, append-nil}
+use native.Mathlib.Omega.{arith}
+use lib.ListN.{length, take, replicate, length-take}
+use lib.Seq.{take-at}
+use Rattle.bundles.specs.Opening.{bundleIn, opened}
+use Rattle.bundles.specs.declared.Header.{Header}
+use Rattle.bundles.specs.declared.Opened.the-variants.{Is}
+use Rattle.bundles.proofs.BundleLaws.{fields, lengths}
+use Rattle.stores.specs.Cells.{unset}
+use Rattle.theory.specs.Compile.{CompileOutcome, compile}
+use Rattle.theory.specs.Run.{RunOutcome, run}
+use Rattle.theory.specs.Listing.{lentTo}
+
+module _ (bytes : List ℕ) {header : Header} (opens : opened bytes ≡ Is header) where
+  pub pattern-front : {rows : List ℕ} (rest : List ℕ) → rows ≡ bundleIn bytes .pattern ++ rest → take (header .«pattern_rows») rows ≡ bundleIn bytes .pattern
+  pattern-front rest is = rw is (take-at (bundleIn bytes .pattern) rest (header .«pattern_rows») (lengths bytes header opens .pattern))
+
+  pub certificates-front : {pairs : List ℕ} (rest : List ℕ) → pairs ≡ bundleIn bytes .certificates ++ rest
+      → take (header .certificates) pairs ≡ bundleIn bytes .certificates
+  certificates-front rest is = rw is (take-at (bundleIn bytes .certificates) rest (header .certificates) (lengths bytes header opens .certificates))
+
+  -- zero rows after the bundle's
+  pub terms-lent : {rows : List ℕ} → rows ≡ bundleIn bytes .terms ++ replicate (4096 - header .«term_rows») 0 → rows ≡ lentTo (bundleIn bytes) .terms
+  terms-lent is = rw (lengths bytes header opens .terms) is
+
+  pub named-front : {cells : List ℕ} → cells ≡ lentTo (bundleIn bytes) .messages → take 64 cells ≡ bundleIn bytes .named
+  named-front {cells} is = rw is (take-at (bundleIn bytes .named) (replicate 192 unset) 64 (lengths bytes header opens .named))
+
+  -- what compile is given is what the bundle holds
+  pub compile-given : (code : List ℕ) {pattern kinds objects messages : List ℕ} {outcome : CompileOutcome} → pattern ≡ bundleIn bytes .pattern
+      → kinds ≡ lentTo (bundleIn bytes) .kinds → objects ≡ lentTo (bundleIn bytes) .objects → messages ≡ lentTo (bundleIn bytes) .messages
+      → outcome ≡ compile (header .create) pattern kinds objects (take 64 messages) code
+      → outcome ≡ compile (bundleIn bytes .create) (bundleIn bytes .pattern) (bundleIn bytes .kinds) (bundleIn bytes .objects) (bundleIn bytes .named) code
+  compile-given code pattern-is kinds-are objects-are messages-are compiles =
+      compiles ∙ rw (pattern-is, kinds-are, objects-are, named-front messages-are, ← (fields bytes header opens .create))
+
+  -- what run is lent is what the bundle holds
+  pub run-lent : (code : List ℕ) {kinds objects messages certificates terms : List ℕ} {outcome : RunOutcome} → kinds ≡ lentTo (bundleIn bytes) .kinds
+      → objects ≡ lentTo (bundleIn bytes) .objects → messages ≡ lentTo (bundleIn bytes) .messages → certificates ≡ bundleIn bytes .certificates
+      → terms ≡ lentTo (bundleIn bytes) .terms
+      → outcome
+      ≡ run (record { kinds = kinds; objects = objects; messages = messages; certificates = certificates; accumulator = header .accumulator; terms = terms; counter = header .counter }) code
+      → outcome ≡ run (lentTo (bundleIn bytes)) code
+  run-lent code kinds-are objects-are messages-are certificates-are terms-are ran =
+      let f = fields bytes header opens in
+      ran ∙ rw (kinds-are, objects-are, messages-are, certificates-are, terms-are, ← (f .accumulator), ← (f .counter))
+
+-- a front that is a part lies within its array
+module _ (count : ℕ) (array : List ℕ) {part : List ℕ} (is : take count array ≡ part) (long : length part ≡ count) where
+  pub front-length : count ≡ length (take count array)
+  front-length = sym (ap length is ∙ long)
+
+  pub front-inside : count ≤ length array
+  front-inside = omega (arith, front-length, length-take count array)
+
+-- a part that fills its array
+pub whole : {array part : List ℕ} → array ≡ part ++ [] → array ≡ part
+whole is = rw append-nil at is
