@@ -2,4 +2,6 @@
 pub mod Answers
 pub mod Reading
 pub mod Conditions
+pub mod Steps
 pub mod Demand3
+pub mod Demand2
