@@ -3,10 +3,8 @@ use Prim.Native.Nat.{ℕ}
 use mathlib.Core.Path.{_≡_, refl, sym, _∙_, ap, subst}
 use mathlib.Core.Bool.{Bool}
 use mathlib.Core.List.{List}
-use native.Mathlib.Omega.{arith}
 use lib.ListN.{length, take, length-map}
-use Rattle.answers.specs.Numbers.{compiledNumber, compiledPlace}
-use Rattle.answers.specs.declared.Compiled.{Compiled}
+use Rattle.answers.specs.Numbers.{compiledPlace}
 use Rattle.answers.specs.declared.Compiled.the-variants as Compiled
 use Rattle.code.specs.Instruction.{wordOf}
 use Rattle.patterns.specs.Kinds.{RightKinds}
@@ -19,17 +17,7 @@ use Rattle.theory.proofs.CompileLaws.{Compiles}
 use Rattle.theory.proofs.Product.{Written, compile-writes}
 use Rattle.promises.specs.Answers.{compileNumber}
 use Rattle.promises.specs.Demand3.{usedPart, CodeFor}
-
--- 0 is done
-pub number-done : (answer : Compiled) → compiledNumber answer ≡ 0 → answer ≡ Compiled.Done (compiledPlace answer)
-number-done (Compiled.Done words) e = refl
-number-done Compiled.Limit e = absurd (omega arith)
-number-done Compiled.BadStore e = absurd (omega arith)
-number-done (Compiled.BadPattern row) e = absurd (omega arith)
-number-done (Compiled.WrongKind row) e = absurd (omega arith)
-number-done (Compiled.WrittenWhileSet row) e = absurd (omega arith)
-number-done (Compiled.ReadWhileUnset row) e = absurd (omega arith)
-number-done (Compiled.CodeTooShort words) e = absurd (omega arith)
+use Rattle.promises.proofs.CompileLaws.{number-done}
 
 -- the same code as from the cells that run is lent
 module _ {create : Bool} {pattern : List ℕ} {x : Lent} {code : List ℕ} (c : CodeFor create pattern x code) (long : length (x .kinds) ≡ variables) where

@@ -29,18 +29,8 @@ use Rattle.promises.specs.Reading.{termIn, before, after, messageBefore,
 use Rattle.promises.specs.Conditions.{Valid, Room}
 use Rattle.promises.specs.Demand3.{CodeFor, Prepared, MatchesTo, CreatesTo, DecidesMatch, DecidesCreation}
 use Rattle.promises.proofs.CodeLaws.{right-kinds, own-answer, own-words}
-use Rattle.promises.proofs.RunLaws.{Passed, RunCase, limit, bad-term, bad-store, bad-word, sticks, no-room, finishes, run-case}
+use Rattle.promises.proofs.RunLaws.{Finished, finished}
 use Rattle.promises.proofs.ValidLaws.{accepted, after-finish, message-finish}
-
--- a finished run has passed the checks
-finished-passed : {x : Lent} {code : List ℕ} {o : RunOutcome} → RunCase x code o → runNumber o ≡ 0 → Passed x code
-finished-passed (limit h) e = absurd (omega arith)
-finished-passed (bad-term a row h) e = absurd (omega arith)
-finished-passed (bad-store a b h) e = absurd (omega arith)
-finished-passed (bad-word a b c word h) e = absurd (omega arith)
-finished-passed (sticks p word why h) e = absurd (omega arith)
-finished-passed (no-room p word h) e = absurd (omega arith)
-finished-passed (finishes p t h) e = p
 
 enough : {x : Lent} {count : ℕ} → Room x count → Free count count (stateOf x .stores .memory)
 unfolding stateOver
@@ -57,7 +47,7 @@ module _ (pattern : List ℕ) (x : Lent) (m : Term) (code : List ℕ) (right : R
   match-decides : {o : RunOutcome} → run x code ≡ o → MatchEnds x (patternOf pattern) m (length code) code o → DecidesMatch pattern x code m
   unfolding stateOver storeOf leftBy
   match-decides e (MatchEnds.finishes t steps v h) =
-      let left : after x (run x code) ≡ termsOf t .stores = ap (after x) e ∙ after-finish (finished-passed (run-case x code) (rw e)) t steps (Ran.Done (length code)) in
+      let left : after x (run x code) ≡ termsOf t .stores = ap (after x) e ∙ after-finish (finished x code (rw e) .passed) t steps (Ran.Done (length code)) in
       record {
         finishes = λ n. (λ g. (rw e (refl, refl, refl), left ∙ match-once (termsOf t .stores) n h g), λ q. subst (MatchesTo pattern x m) (sym left ∙ q .1) h);
         stuck = (λ q. absurd (omega (arith, rw e at q)), λ never. absurd (never (termsOf t .stores) h));
@@ -85,7 +75,7 @@ module _ (pattern : List ℕ) (x : Lent) (code : List ℕ) (right : RightKinds t
   create-decides : {o : RunOutcome} → run x code ≡ o → CreateEnds x (patternOf pattern) (length code) code o → DecidesCreation pattern x code
   unfolding stateOver storeOf leftBy
   create-decides e (CreateEnds.finishes t m steps v message h) =
-      let p = finished-passed (run-case x code) (rw e) in
+      let p = finished x code (rw e) .passed in
       let left : after x (run x code) ≡ termsOf t .stores = ap (after x) e ∙ after-finish p t steps (Ran.Done (length code)) in
       let held : messageAfter (run x code) ≡ some m = ap messageAfter e ∙ message-finish p t steps (Ran.Done (length code)) ∙ message in
       record {

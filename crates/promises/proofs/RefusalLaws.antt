@@ -25,23 +25,21 @@ use Rattle.theory.proofs.CompileLaws.{Checked}
 use Rattle.theory.proofs.Product.{checked-right}
 use Rattle.theory.proofs.Theorems.{figure2-then-match, figure3-then-create, refused-matching, refused-creating}
 use Rattle.promises.specs.Demand3.{SetAs, Refused}
-use Rattle.promises.proofs.CompileLaws.{CompileCase, limit, bad-store, bad-pattern, wrong-kind, refuses, too-short, writes, compile-case, lengths-fit}
+use Rattle.promises.proofs.CompileLaws.{compile-answered, kinds-long}
 
 -- emission refused
-record Emission (create : Bool) (pattern kinds objects named : List ℕ) : Type 0 where
-  checks : Checked create pattern kinds objects named
-  answer : Compiled
-  refused : emitted create pattern kinds objects named ≡ refuse answer
+pub record Emission (create : Bool) (pattern kinds objects named : List ℕ) : Type 0 where
+  pub checks : Checked create pattern kinds objects named
+  pub answer : Compiled
+  pub refused : emitted create pattern kinds objects named ≡ refuse answer
 
-emission-refused : (create : Bool) (pattern kinds objects named slice : List ℕ) {o : CompileOutcome} → CompileCase create pattern kinds objects named slice o
-    → Refused o → Emission create pattern kinds objects named
-emission-refused create pattern kinds objects named slice (refuses c answer q) r = record { checks = c; answer = answer; refused = q }
-emission-refused create pattern kinds objects named slice (limit h) r = elim r [ inl e ↦ absurd (omega arith) | inr e ↦ absurd (omega arith) ]
-emission-refused create pattern kinds objects named slice (bad-store a h) r = elim r [ inl e ↦ absurd (omega arith) | inr e ↦ absurd (omega arith) ]
-emission-refused create pattern kinds objects named slice (bad-pattern a b row h) r = elim r [ inl e ↦ absurd (omega arith) | inr e ↦ absurd (omega arith) ]
-emission-refused create pattern kinds objects named slice (wrong-kind a b d row h) r = elim r [ inl e ↦ absurd (omega arith) | inr e ↦ absurd (omega arith) ]
-emission-refused create pattern kinds objects named slice (too-short c lines e q h) r = elim r [ inl e ↦ absurd (omega arith) | inr e ↦ absurd (omega arith) ]
-emission-refused create pattern kinds objects named slice (writes c lines e q h) r = elim r [ inl e ↦ absurd (omega arith) | inr e ↦ absurd (omega arith) ]
+emission-refused : (create : Bool) (pattern kinds objects named slice : List ℕ) → Refused (compile create pattern kinds objects named slice) → Emission create pattern kinds objects named
+emission-refused create pattern kinds objects named slice (inl e) =
+    let (c, q) = compile-answered create pattern kinds objects named slice (e, refl) in
+    record { checks = c; answer = _; refused = q }
+emission-refused create pattern kinds objects named slice (inr e) =
+    let (c, q) = compile-answered create pattern kinds objects named slice (e, refl) in
+    record { checks = c; answer = _; refused = q }
 
 -- compile sees of the cells what the rules see of the terms
 set-known : (cell : ℕ) (o : Option Term) → (o ≡ none) ↔ (cell ≡ unset) → isSet cell ≡ isSome o
@@ -61,17 +59,14 @@ entry-known objects named n s = λ i. record {
 }
 
 module _ (pattern kinds objects named slice : List ℕ) where
-  kinds-long : {create : Bool} → Checked create pattern kinds objects named → length kinds ≡ variables
-  kinds-long {create} c = lengths-fit create pattern kinds objects named .0 (c .lengths) .0 .0 .1
-
   pub no-match : Refused (compile false pattern kinds objects named slice) → {n n′ : TermStores} {m : Term} → SetAs objects named n → Matches (kindIn kinds) n (patternOf pattern) m n′ → ⊥
   no-match r {n} {n′} {m} s h =
-      let E = emission-refused false pattern kinds objects named slice (compile-case false pattern kinds objects named slice) r in
+      let E = emission-refused false pattern kinds objects named slice r in
       refused-matching termWorld (kindIn kinds) (patternOf pattern) (raws-below pattern) n (ap (compile↓ (patternOf pattern)) (sym (entry-known objects named n s)) ∙ E .refused) (some m) n′
-      (figure2-then-match (kindIn kinds) (checked-right false pattern kinds objects named (kinds-long (E .checks)) (E .checks)) h)
+      (figure2-then-match (kindIn kinds) (checked-right false pattern kinds objects named (kinds-long false pattern kinds objects named slice (E .checks)) (E .checks)) h)
 
   pub no-creation : Refused (compile true pattern kinds objects named slice) → {n n′ : TermStores} {m : Term} → SetAs objects named n → Creates (kindIn kinds) n (patternOf pattern) m n′ → ⊥
   no-creation r {n} {n′} {m} s h =
-      let E = emission-refused true pattern kinds objects named slice (compile-case true pattern kinds objects named slice) r in
+      let E = emission-refused true pattern kinds objects named slice r in
       refused-creating termWorld (kindIn kinds) (patternOf pattern) (raws-below pattern) n (ap (compile↑ (kindIn kinds) (patternOf pattern)) (sym (entry-known objects named n s)) ∙ E .refused) (m, n′)
-      (figure3-then-create (kindIn kinds) (checked-right true pattern kinds objects named (kinds-long (E .checks)) (E .checks)) h)
+      (figure3-then-create (kindIn kinds) (checked-right true pattern kinds objects named (kinds-long true pattern kinds objects named slice (E .checks)) (E .checks)) h)

@@ -7,6 +7,9 @@ use native.Mathlib.Omega.{arith}
 use native.Mathlib.Decide.{decLt}
 use lib.Dec.{ltb, leb}
 use Rattle.word.proofs.TestLaws.{both, is-below, at-most}
+use Rattle.answers.specs.Numbers.{reasonNumber, reasonOf}
+use Rattle.answers.specs.declared.Reason.{Reason}
+use Rattle.answers.specs.declared.Reason.the-variants.{Unset, OtherKind, Differs, PartCount, NoCertificate, NotOpened, NotVerified}
 use Rattle.code.specs.declared.Instruction.{Instruction}
 use Rattle.code.specs.declared.Instruction.the-variants.{Load, Store, StoreConst, Decode, Encode, Create, AnalyzeTuple, CreateTuple, Opposite, KeyOf, Match, Encrypt, Decrypt, Sign, Verify, Hash}
 use Rattle.theory.specs.Outcome.{Outcome, done, stuck, room, bind, Answer, at, need}
@@ -26,6 +29,27 @@ own-reasoned why own =
     let h = both (ltb 1 why) (leb why 7) .0 own in
     let above = is-below 1 why .0 (h .0) in
     (omega arith, at-most why 7 .0 (h .1))
+
+-- a reason and its number
+pub reason-back : (why : ℕ) → Reasoned why → reasonNumber (reasonOf why) ≡ why
+reason-back zero r = absurd (omega arith)
+reason-back (suc zero) r = refl
+reason-back (suc (suc zero)) r = refl
+reason-back (suc (suc (suc zero))) r = refl
+reason-back (suc (suc (suc (suc zero)))) r = refl
+reason-back (suc (suc (suc (suc (suc zero))))) r = refl
+reason-back (suc (suc (suc (suc (suc (suc zero)))))) r = refl
+reason-back (suc (suc (suc (suc (suc (suc (suc zero))))))) r = refl
+reason-back (suc (suc (suc (suc (suc (suc (suc (suc why)))))))) r = absurd (omega arith)
+
+pub number-back : (reason : Reason) → reasonOf (reasonNumber reason) ≡ reason
+number-back Unset = refl
+number-back OtherKind = refl
+number-back Differs = refl
+number-back PartCount = refl
+number-back NoCertificate = refl
+number-back NotOpened = refl
+number-back NotVerified = refl
 
 module _ {A : Type 0} (place : ℕ) (P : A → Type 0) where
   pub data Ends : Outcome A → Type 0 where

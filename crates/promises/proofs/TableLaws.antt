@@ -21,62 +21,42 @@ use Rattle.theory.specs.Machine.{Line, State}
 use Rattle.theory.specs.Emission.{Env, ok}
 use Rattle.theory.specs.Compile.{CompileOutcome, kindIn, variables, codeWords, emitted, compile}
 use Rattle.theory.specs.Run.{Lent, RunOutcome, linesOf, stateOf, leftBy, run}
-use Rattle.theory.proofs.InLimits.{AllInRange, Refusal, written, read}
+use Rattle.theory.proofs.InLimits.{AllInRange}
 use Rattle.theory.proofs.SetCells as SetCells
 use Rattle.theory.proofs.SetCells.{SameSet, left, wrote, same-cells, same-slices}
 use Rattle.theory.proofs.CompileLaws.{Checked}
 use Rattle.theory.proofs.CompiledWords.{compiled-words-good}
-use Rattle.theory.proofs.Product.{compile-writes, checked-refuses}
-use Rattle.theory.proofs.Models.{calm-rows}
+use Rattle.theory.proofs.Product.{compile-writes}
 use Rattle.promises.specs.Answers.{CompileAnswers, RunAnswers, compileNumber}
 use Rattle.promises.specs.Steps.{After, At}
 use Rattle.promises.specs.Demand3.{usedPart}
 use Rattle.promises.specs.Demand2.{WritesTable, SameCode, StepByStep}
-use Rattle.promises.proofs.StepLaws.{exec-reasoned}
-use Rattle.promises.proofs.RunLaws.{Passed, stepsOf, RunCase, limit, bad-term, bad-store, bad-word, sticks, no-room, finishes, run-case}
+use Rattle.promises.proofs.RunLaws.{Passed, stepsOf, Finished, finished, answered, answered-stuck}
 use Rattle.promises.proofs.WalkLaws.{Walked, all-done, stuck-at, room-at, walked}
-use Rattle.promises.proofs.CompileLaws.{CompileCase, refuses, too-short, writes, compile-case, lengths-fit}
-use Rattle.promises.proofs.CompileLaws as Compile
-use Rattle.promises.proofs.CodeLaws.{number-done}
-use Rattle.promises.proofs.ReadLaws.{reason-back}
+use Rattle.promises.proofs.CompileLaws.{compile-answered, compile-left, kinds-long, number-done}
 
-pub refusal-number : {answer : Compiled} → Refusal answer → compiledNumber answer ≢ 0
-refusal-number written e = omega arith
-refusal-number read e = omega arith
-
-module _ (create : Bool) (pattern kinds objects named slice : List ℕ) where
-  abbrev outcome : CompileOutcome
-  outcome = compile create pattern kinds objects named slice
-
-  pub kinds-long : Checked create pattern kinds objects named → length kinds ≡ variables
-  kinds-long c = lengths-fit create pattern kinds objects named .0 (c .lengths) .0 .0 .1
-
-  by-case : {o : CompileOutcome} → outcome ≡ o → CompileCase create pattern kinds objects named slice o → compileNumber o ≡ 0 → WritesTable create pattern kinds objects named slice o
-  by-case same (Compile.limit h) e = absurd (omega arith)
-  by-case same (Compile.bad-store a h) e = absurd (omega arith)
-  by-case same (Compile.bad-pattern a b row h) e = absurd (omega arith)
-  by-case same (Compile.wrong-kind a b c row h) e = absurd (omega arith)
-  by-case same (refuses c answer q) e = absurd (refusal-number (checked-refuses create pattern kinds objects named (kinds-long c) c answer q) e)
-  by-case same (too-short c lines env q h) e = absurd (omega arith)
-  by-case same (writes c lines env q h) e =
-      let w = compile-writes create pattern kinds objects named (kinds-long c) slice (length (codeWords lines)) (ap (λ o. o .answer) same) in
-      let emits = w .compiles .emits in
-      let agree : w .compiles .lines ≡ lines = cc in
-      let range : AllInRange (kindIn kinds) lines = subst (AllInRange (kindIn kinds)) agree (w .limits .lines) in
-      let long : length (codeWords lines) ≡ length lines = length-map lines (λ l. wordOf (l .instruction)) in
-      record {
-        lines = lines;
-        env = env;
-        table = q;
-        count = (refl, long);
-        code = ap (λ n. codeWords lines ++ drop n slice) long;
-        words = subst (λ l. length l ≤ 767) agree (w .limits .words);
-        cells = all-map lines (λ l f. f .cells) range;
-        good = no-bad-word-iff (kindIn kinds) (codeWords lines) .0 (compiled-words-good (kindIn kinds) lines range);
-      }
-
-  pub table-written : compileNumber outcome ≡ 0 → WritesTable create pattern kinds objects named slice outcome
-  table-written = by-case refl (compile-case create pattern kinds objects named slice)
+-- a done compile
+pub table-written : (create : Bool) (pattern kinds objects named slice : List ℕ) → compileNumber (compile create pattern kinds objects named slice) ≡ 0
+    → WritesTable create pattern kinds objects named slice (compile create pattern kinds objects named slice)
+table-written create pattern kinds objects named slice e =
+    let (c, E, _) = compile-answered create pattern kinds objects named slice (e, refl) in
+    let lines = E .lines in
+    let q = E .emits in
+    let outcome = compile create pattern kinds objects named slice in
+    let w = compile-writes create pattern kinds objects named (kinds-long create pattern kinds objects named slice c) slice (compiledPlace (outcome .answer)) (number-done (outcome .answer) e) in
+    let emits = w .compiles .emits in
+    let agree : w .compiles .lines ≡ lines = cc in
+    let range : AllInRange (kindIn kinds) lines = subst (AllInRange (kindIn kinds)) agree (w .limits .lines) in
+    record {
+      lines = lines;
+      env = E .env;
+      table = q;
+      count = (e, sym (E .count));
+      code = compile-left create pattern kinds objects named slice lines (E .env) q e;
+      words = subst (λ l. length l ≤ 767) agree (w .limits .words);
+      cells = all-map lines (λ l f. f .cells) range;
+      good = no-bad-word-iff (kindIn kinds) (codeWords lines) .0 (compiled-words-good (kindIn kinds) lines range);
+    }
 
 -- the used part is the lines' words
 used-words : {create : Bool} {pattern kinds objects named slice : List ℕ} {o : CompileOutcome} (w : WritesTable create pattern kinds objects named slice o) → usedPart o ≡ codeWords (w .lines)
@@ -129,23 +109,9 @@ module _ (x : Lent) (code : List ℕ) where
       go : Walked x code (room place) → At x code place (room place)
       go (room-at a) = a
 
-  step-case : {o : RunOutcome} → RunCase x code o → StepByStep x code o
-  unfolding leftBy
-  step-case (limit h) = record { done = λ a. absurd (omega arith); stuck = λ a. absurd (omega arith); full = λ a. absurd (omega arith) }
-  step-case (bad-term a row h) = record { done = λ a. absurd (omega arith); stuck = λ a. absurd (omega arith); full = λ a. absurd (omega arith) }
-  step-case (bad-store a b h) = record { done = λ a. absurd (omega arith); stuck = λ a. absurd (omega arith); full = λ a. absurd (omega arith) }
-  step-case (bad-word a b c word h) = record { done = λ a. absurd (omega arith); stuck = λ a. absurd (omega arith); full = λ a. absurd (omega arith) }
-  step-case (sticks p word why h) =
-      record {
-        done = λ a. absurd (omega arith);
-        stuck = λ {place} {reason} a.
-            let same : why ≡ reason = sym (reason-back why (exec-reasoned calm-rows (kindIn (x .kinds)) (linesOf code) (stateOf x) h)) ∙ a .2 in
-            stuck-there p (h ∙ (λ i. stuck (a .1 i) (same i)));
-        full = λ a. absurd (omega arith);
-      }
-  step-case (no-room p word h) =
-      record { done = λ a. absurd (omega arith); stuck = λ a. absurd (omega arith); full = λ {place} a. room-there p (h ∙ ap room (a .1)) }
-  step-case (finishes p t h) = record { done = λ a. (t, done-after p h, refl); stuck = λ a. absurd (omega arith); full = λ a. absurd (omega arith) }
-
   pub step-by-step : StepByStep x code (run x code)
-  step-by-step = step-case (run-case x code)
+  step-by-step = record {
+    done = λ a. let f = finished x code (a .0) in (f .state, done-after (f .passed) (f .steps), f .left);
+    stuck = λ a. let g = answered-stuck x code a in stuck-there (g .0) (g .1);
+    full = λ a. let g = answered x code a in room-there (g .0) (g .1);
+  }

@@ -35,7 +35,8 @@ use Rattle.promises.specs.Conditions.{LentWithin, Valid}
 use Rattle.promises.specs.Demand3.{lentAfter}
 use Rattle.promises.proofs.StepLaws.{named-past}
 use Rattle.promises.proofs.ReadingLaws.{after-read, message-read}
-use Rattle.promises.proofs.RunLaws.{Passed, RunCase, limit, bad-term, bad-store, bad-word, sticks, no-room, finishes, run-case, stepsOf, lengths-fit}
+use Rattle.promises.proofs.RunLaws.{Passed, Finished, finished, stepsOf}
+use Rattle.promises.proofs.ConditionLaws.{run-within, stores-valid}
 
 pub accepted : {x : Lent} → Valid x → Accepted x
 accepted {x} v = record {
@@ -46,36 +47,25 @@ accepted {x} v = record {
   few-rows = v .within .terms;
   few-names = v .within .counter;
   good-rows = valid-table (x .terms) (x .counter) .1 (v .table);
-  good-stores = v .stores;
+  good-stores = stores-valid x (v .within) .1 (v .stores);
 }
 
 pub valid-accepted : {x : Lent} → Accepted x → Valid x
-valid-accepted {x} a = record {
-  within = record {
-    kinds = a .kinds-length;
-    objects = a .objects-length;
-    messages = a .messages-length;
-    certificates = a .few-certificates;
-    terms = a .few-rows;
-    counter = a .few-names;
-  };
-  table = valid-table (x .terms) (x .counter) .0 (a .good-rows);
-  stores = a .good-stores;
-}
+valid-accepted {x} a =
+    let within : LentWithin x = record {
+      kinds = a .kinds-length;
+      objects = a .objects-length;
+      messages = a .messages-length;
+      certificates = a .few-certificates;
+      terms = a .few-rows;
+      counter = a .few-names;
+    } in
+    record { within = within; table = valid-table (x .terms) (x .counter) .0 (a .good-rows); stores = stores-valid x within .0 (a .good-stores) }
 
-pub passed-accepted : {x : Lent} {code : List ℕ} → Passed x code → Accepted x
-passed-accepted {x} {code} p =
-    let h = lengths-fit x code .0 (p .lengths) in
-    record {
-      kinds-length = h .0 .0 .0 .0 .0 .0;
-      objects-length = h .0 .0 .0 .0 .0 .1;
-      messages-length = h .0 .0 .0 .0 .1;
-      few-certificates = h .0 .0 .0 .1;
-      few-rows = h .0 .0 .1;
-      few-names = h .0 .1;
-      good-rows = p .rows;
-      good-stores = p .stores;
-    }
+pub passed-valid : {x : Lent} {code : List ℕ} → Passed x code → Valid x
+passed-valid {x} {code} p =
+    let within = run-within x code .0 (p .lengths) .0 in
+    record { within = within; table = valid-table (x .terms) (x .counter) .0 (p .rows); stores = stores-valid x within .0 (p .stores) }
 
 -- the instructions of good words fit
 module _ (kind : ℕ → ℕ) where
@@ -103,7 +93,7 @@ module _ {x : Lent} {code : List ℕ} (p : Passed x code) (t : State rowWorld) (
   pub state-valid : ValidState (kindIn (x .kinds)) t
   state-valid =
       done-valid (rw steps at (rows-run-as-terms (kindIn (x .kinds)) (linesOf code) (stateOf x) (termsOf (stateOf x))
-      (good-lines (kindIn (x .kinds)) zero code (no-bad-word-iff (kindIn (x .kinds)) code .0 (p .words))) (accepted-state x (passed-accepted p), refl)))
+      (good-lines (kindIn (x .kinds)) zero code (no-bad-word-iff (kindIn (x .kinds)) code .0 (p .words))) (accepted-state x (accepted (passed-valid p)), refl)))
     where
       done-valid : {o : Outcome (State termWorld)} → OutcomeR (Reads (kindIn (x .kinds))) (done t) o → ValidState (kindIn (x .kinds)) t
       done-valid (dones r) = r .0
@@ -120,28 +110,20 @@ module _ {x : Lent} {code : List ℕ} (p : Passed x code) (t : State rowWorld) (
   none-past : (r : ℕ) → namedCells ≤ r → t .stores .ρ r ≡ none
   unfolding stateOver storeOf held
   none-past r past =
-      let long : length (take namedCells (x .messages)) ≤ r = omega (arith, length-take-le namedCells (x .messages) (omega (arith, passed-accepted p .messages-length))) in
+      let long : length (take namedCells (x .messages)) ≤ r = omega (arith, length-take-le namedCells (x .messages) (omega (arith, passed-valid p .within .messages))) in
       named-past calm-rows (kindIn (x .kinds)) (linesOf code) (stateOf x) t steps r past ∙ rw (List·getD-eq-default (take namedCells (x .messages)) unset long)
 
   pub after-finish : (answer : Ran) → after x (leftBy answer t) ≡ termsOf t .stores
-  after-finish answer = after-read x (passed-accepted p .kinds-length) answer t state-valid certificates-kept none-past
+  after-finish answer = after-read x (passed-valid p .within .kinds) answer t state-valid certificates-kept none-past
 
   pub message-finish : (answer : Ran) → messageAfter (leftBy answer t) ≡ termsOf t .accumulator
-  message-finish answer = message-read x (passed-accepted p .kinds-length) answer t state-valid certificates-kept none-past
+  message-finish answer = message-read x (passed-valid p .within .kinds) answer t state-valid certificates-kept none-past
 
   pub finish-valid : Valid (lentAfter x (leftBy (Ran.Done (length code)) t))
   unfolding leftBy
-  finish-valid = valid-accepted (accepted-again x (passed-accepted p) t state-valid rows-appended)
+  finish-valid = valid-accepted (accepted-again x (accepted (passed-valid p)) t state-valid rows-appended)
 
-module _ (x : Lent) (code : List ℕ) where
-  by-case : {o : RunOutcome} → RunCase x code o → runNumber o ≡ 0 → Valid (lentAfter x o)
-  by-case (limit h) e = absurd (omega arith)
-  by-case (bad-term a row h) e = absurd (omega arith)
-  by-case (bad-store a b h) e = absurd (omega arith)
-  by-case (bad-word a b c word h) e = absurd (omega arith)
-  by-case (sticks p word why h) e = absurd (omega arith)
-  by-case (no-room p word h) e = absurd (omega arith)
-  by-case (finishes p t h) e = finish-valid p t h
-
-  pub run-valid-again : runNumber (run x code) ≡ 0 → Valid (lentAfter x (run x code))
-  run-valid-again = by-case (run-case x code)
+pub run-valid-again : (x : Lent) (code : List ℕ) → runNumber (run x code) ≡ 0 → Valid (lentAfter x (run x code))
+run-valid-again x code e =
+    let f = finished x code e in
+    rw (f .left) (finish-valid (f .passed) (f .state) (f .steps))

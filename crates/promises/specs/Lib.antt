@@ -5,3 +5,4 @@ pub mod Conditions
 pub mod Steps
 pub mod Demand3
 pub mod Demand2
+pub mod Demand1
