@@ -15,3 +15,5 @@ pub mod Demand3
 pub mod Demand2
 pub mod NumberLaws
 pub mod Demand1
+pub mod ListingLaws
+pub mod Promises

@@ -6,3 +6,5 @@ pub mod Steps
 pub mod Demand3
 pub mod Demand2
 pub mod Demand1
+pub mod Listing
+pub mod Promises
