@@ -10,7 +10,7 @@ use lib.Pow.{pow-add}
 use lib.Seq.{sets-eq, take-at, take-suc, take-add, drop-drop, drop-append-add, getD-drop, length-take-le}
 use Rattle.word.specs.Bytes.{number, words, elements}
 use Rattle.word.specs.Fields.{total, split, join}
-use Rattle.word.proofs.ByteLaws.{Below}
+use Rattle.word.proofs.ByteLaws.{Below, below-take}
 use Rattle.word.proofs.FieldLaws.{Fit, split-join}
 use Rattle.theory.specs.Bundle.{kindsOf}
 use Rattle.bundles.proofs.WordLaws.{below-drop, the-words}
@@ -40,12 +40,6 @@ nibbles-fit (byte ∷ rest) below = rw (twice (length rest)) (omega (arith, belo
 length-nibbles : (bytes : List ℕ) → length (nibbles bytes) ≡ 2 * length bytes
 length-nibbles [] = refl
 length-nibbles (byte ∷ rest) = rw (twice (length rest), length-nibbles rest)
-
-below-take : (limit count : ℕ) (bytes : List ℕ) → Below limit bytes → Below limit (take count bytes)
-below-take limit zero bytes below place = omega (arith, below place)
-below-take limit (suc count) [] below place = below place
-below-take limit (suc count) (byte ∷ rest) below zero = below zero
-below-take limit (suc count) (byte ∷ rest) below (suc place) = below-take limit count rest (λ p. below (suc p)) place
 
 bytes-kinds : (bytes : List ℕ) → Below 256 bytes → split (replicate (2 * length bytes) 4) (number bytes) ≡ nibbles bytes
 bytes-kinds bytes below =

@@ -13,7 +13,7 @@ use lib.Arith.{lt-of-le-ne}
 use Rattle.word.specs.Fields.{join}
 use Rattle.word.specs.Lowest.{placeOf}
 use Rattle.word.specs.declared.Place.{Place}
-use Rattle.word.proofs.SearchLaws.{NoneBefore, none-yet, not-here, place-at, place-nowhere}
+use Rattle.word.proofs.ScanLaws.{Left, scan-hit, scan-miss, scan-end}
 use Rattle.code.specs.Instruction.{wordWidths, fieldsOf, wordOf, instructionBy, instructionOf, readOf}
 use Rattle.code.specs.Words.{operandsFit, goodWord, badWord}
 use Rattle.code.specs.declared.Instruction.{Instruction}
@@ -95,24 +95,24 @@ abbrev pub bad : (ℕ → ℕ) → ℕ → ℕ → Bool
 bad kind at word = not (goodWord kind word)
 
 -- every word before a place is good
-abbrev pub GoodBefore : (ℕ → ℕ) → List ℕ → ℕ → Type 0
-GoodBefore kind code place = NoneBefore 0 (bad kind) code place
+pub record GoodBefore (kind : ℕ → ℕ) (code : List ℕ) (place : ℕ) : Type 0 where
+  pub left : Left (bad kind) code place
 
 module _ (kind : ℕ → ℕ) (code : List ℕ) where
   pub good-yet : GoodBefore kind code 0
-  good-yet = none-yet 0 (bad kind) code
+  good-yet = record { left = refl }
 
   module _ (place : ℕ) (so-far : GoodBefore kind code place) where
     pub good-more : (answer : Bool) → place < length code → answer ≡ goodWord kind (getD code place 0) → not answer ≡ false → GoodBefore kind code (place + 1)
-    good-more answer more is good = not-here 0 (bad kind) code place so-far more (rw (← is) good)
+    good-more answer more is good = record { left = scan-miss (bad kind) code 0 place (so-far .left) more (rw (← is) good) }
 
     pub bad-here : (answer : Bool) → place < length code → answer ≡ goodWord kind (getD code place 0) → not answer ≡ true
         → Place.At place ≡ placeOf (badWord kind code)
     unfolding badWord
-    bad-here answer more is fails = place-at 0 (bad kind) code place so-far more (rw (← is) fails)
+    bad-here answer more is fails = ap placeOf (sym (scan-hit (bad kind) code 0 place (so-far .left) more (rw (← is) fails)))
 
     pub bad-nowhere : length code ≤ place → Place.Nowhere ≡ placeOf (badWord kind code)
     unfolding badWord
-    bad-nowhere end = place-nowhere 0 (bad kind) code place so-far end
+    bad-nowhere end = ap placeOf (sym (scan-end (bad kind) code 0 place (so-far .left) end))
 
 pub ruleset checking = (good-yet, good-more, bad-here, bad-nowhere)

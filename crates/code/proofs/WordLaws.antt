@@ -9,7 +9,8 @@ use native.Mathlib.Omega.{arith}
 use borrow.Author.Tests.{eq-eqb}
 use lib.Dec.{T, eqb, eqb→eq}
 use Rattle.word.specs.Fields.{join, at}
-use Rattle.word.proofs.SearchLaws.{LowestBad, AllGood, lowest-bad-iff, none-bad-iff}
+use Rattle.word.proofs.TestLaws.{both}
+use Rattle.word.proofs.LowestLaws.{LowestBad, AllGood, lowest-bad-iff, none-bad-iff}
 use Rattle.code.specs.Instruction.{wordWidths, fieldsOf, wordOf, instructionBy, instructionOf}
 use Rattle.code.specs.Words.{operandsFit, wordFits, goodWord, badWord}
 use Rattle.code.specs.declared.Instruction.{Instruction}
@@ -59,10 +60,6 @@ pub record GoodWord (kind : ℕ → ℕ) (word : ℕ) : Type 0 where
   pub own : wordOf instruction ≡ word
   pub operands : T (operandsFit kind instruction)
 
-both : (first second : Bool) → T (first && second) → T first × T second
-both true second holds = (tt, holds)
-both false second holds = absurd holds
-
 pub good-iff : (kind : ℕ → ℕ) (word : ℕ) → T (goodWord kind word) ↔ GoodWord kind word
 unfolding goodWord
 good-iff kind word = (is-good (instructionOf word) refl, tests-good)
@@ -70,7 +67,7 @@ good-iff kind word = (is-good (instructionOf word) refl, tests-good)
     is-good : (said : Option Instruction) → instructionOf word ≡ said → T (wordFits kind word said) → GoodWord kind word
     is-good none e good = absurd good
     is-good (some instruction) e good =
-        let parts = both (eqb (wordOf instruction) word) (operandsFit kind instruction) good in
+        let parts = both (eqb (wordOf instruction) word) (operandsFit kind instruction) .0 good in
         record { instruction = instruction; says = e; own = eqb→eq (wordOf instruction) word (parts .0); operands = parts .1 }
 
     tests-good : GoodWord kind word → T (wordFits kind word (instructionOf word))

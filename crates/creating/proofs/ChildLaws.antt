@@ -1,4 +1,4 @@
--- Rows with children of their own: an encryption and a let. Assumes nothing.
+-- Rows with children of their own: an encryption and a let.
 use Prim.Native.Nat.{ℕ, _+_, _-_, _*_, _≤_, _<_}
 use mathlib.Core.Path.{_≡_, sym, ap, subst, _∙_}
 use mathlib.Core.List.{List}

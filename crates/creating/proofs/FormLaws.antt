@@ -1,4 +1,4 @@
--- The forms with no part, instruction after instruction. Assumes nothing.
+-- The forms with no part, instruction after instruction.
 use Prim.Native.Nat.{ℕ}
 use mathlib.Core.List.{List}
 use lib.Dec.{lit≤}

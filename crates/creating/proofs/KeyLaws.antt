@@ -1,4 +1,4 @@
--- Variables and keys, instruction after instruction. Assumes nothing.
+-- Variables and keys, instruction after instruction.
 use Prim.Native.Nat.{ℕ, zero, suc, _+_, _*_, _≤_, _<_}
 use mathlib.Core.Path.{_≡_, refl, sym, subst, _∙_}
 use mathlib.Core.Bool.{Bool, true, false, cond, _||_}

@@ -1,4 +1,4 @@
--- Rows with no children, by their tags. Assumes nothing.
+-- Rows with no children, by their tags.
 use Prim.Native.Nat.{ℕ, _-_, _≤_, _<_}
 use mathlib.Core.Path.{_≡_, sym, _∙_}
 use mathlib.Core.List.{List}

@@ -1,4 +1,4 @@
--- A tuple, part by part. Assumes nothing.
+-- A tuple, part by part.
 use Prim.Native.Nat.{ℕ, suc, _+_, _-_, _*_, _≤_, _<_}
 use mathlib.Core.Path.{_≡_, refl, sym, ap, subst, _∙_}
 use mathlib.Core.List.{List, [], _∷_}

@@ -1,4 +1,4 @@
--- The room that a pattern asks, and its parts. Assumes nothing.
+-- The room that a pattern asks, and its parts.
 use Prim.Native.Nat.{ℕ, _+_, _≤_, _<_}
 use mathlib.Core.Path.{_≡_, _∙_}
 use mathlib.Core.List.{List}

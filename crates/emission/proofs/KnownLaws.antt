@@ -1,4 +1,4 @@
--- A variable is added to a set of 64 bits by adding its bit. Assumes nothing.
+-- A variable is added to a set of 64 bits by adding its bit.
 use Prim.Native.Nat.{ℕ, suc, _+_, _-_, _*_, _/_, _%_, _^_, _<_}
 use mathlib.Core.Path.{_≡_, refl, subst, fun-ext}
 use mathlib.Core.Bool.{true, false}

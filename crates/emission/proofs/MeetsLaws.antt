@@ -1,4 +1,4 @@
--- How steps of emission are joined. Assumes nothing.
+-- How steps of emission are joined.
 use Prim.Native.Nat.{ℕ, suc, _+_, _≤_}
 use mathlib.Core.Path.{_≡_, refl, sym, ap, subst, fun-ext, _∙_}
 use mathlib.Core.Bool.{Bool, true, false, cond}

@@ -1,4 +1,4 @@
--- The pattern of a good row, by the row's tag. Assumes nothing.
+-- The pattern of a good row, by the row's tag.
 use Prim.Native.Nat.{ℕ, _≤_, _<_}
 use mathlib.Core.Path.{_≡_, refl, ap, _∙_}
 use mathlib.Core.List.{List, [], _∷_}

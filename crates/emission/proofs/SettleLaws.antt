@@ -1,4 +1,4 @@
--- What an instruction reads and writes, an instruction at a time. Assumes nothing.
+-- What an instruction reads and writes, an instruction at a time.
 use Prim.Native.Nat.{ℕ}
 use mathlib.Core.Path.{_≡_, refl, sym, subst, fun-ext, _∙_}
 use mathlib.Core.Bool.{Bool, true, false}

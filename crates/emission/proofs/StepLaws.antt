@@ -1,4 +1,4 @@
--- What one look at a variable, one mark and one word do, a way out at a time. Assumes nothing.
+-- What one look at a variable, one mark and one word do, a way out at a time.
 use Prim.Native.Nat.{ℕ, _+_, _*_, _/_, _%_, _≤_, _<_}
 use mathlib.Core.Path.{_≡_, refl, sym, _∙_}
 use mathlib.Core.Bool.{Bool, true, false}

@@ -1,4 +1,4 @@
--- The forms with no part, instruction after instruction. Assumes nothing.
+-- The forms with no part, instruction after instruction.
 use Prim.Native.Nat.{ℕ}
 use mathlib.Core.Path.{_≡_, sym, ap, _∙_}
 use mathlib.Core.Bool.{Bool, true, false}

@@ -1,4 +1,4 @@
--- Numbers told apart one by one, as a match does. Assumes nothing.
+-- Numbers told apart one by one, as a match does.
 use Prim.Native.Nat.{ℕ, zero, suc, _<_, _≤_}
 use mathlib.Core.Path.{_≡_}
 use native.Mathlib.Omega.{arith}

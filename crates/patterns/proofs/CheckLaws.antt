@@ -1,4 +1,4 @@
--- How the check of a pattern goes through its rows. Assumes nothing.
+-- How the check of a pattern goes through its rows.
 use Prim.Native.Nat.{ℕ, suc, _+_, _-_, _<_, _≤_}
 use mathlib.Core.Path.{_≡_, refl, _∙_}
 use mathlib.Core.Bool.{Bool, true, false, not, _||_}

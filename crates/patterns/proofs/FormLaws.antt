@@ -1,4 +1,4 @@
--- Rows and the patterns that are built from them. Assumes nothing.
+-- Rows and the patterns that are built from them.
 use Prim.Native.Nat.{ℕ, zero, suc, _+_, _-_, _<_, _≤_}
 use mathlib.Core.Path.{_≡_, refl, sym, _∙_}
 use mathlib.Core.List.{List, [], _∷_, _++_}

@@ -1,4 +1,4 @@
--- A row that is good in itself, by document 01's table of the forms. Assumes nothing.
+-- A row that is good in itself, by document 01's table of the forms.
 use Prim.Native.Nat.{ℕ, _<_, _≤_}
 use mathlib.Core.Path.{_≡_, refl, sym, subst}
 use mathlib.Core.Logic.{_↔_}

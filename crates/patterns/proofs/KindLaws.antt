@@ -1,4 +1,4 @@
--- Kinds of a row and of its pattern. Assumes nothing.
+-- Kinds of a row and of its pattern.
 use Prim.Native.Nat.{ℕ, zero, suc, _-_, _≤_}
 use mathlib.Core.Path.{_≡_, refl, sym, ap, _∙_}
 use mathlib.Core.Bool.{Bool, true, false, not, _&&_, _||_, or-false}

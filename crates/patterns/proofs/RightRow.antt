@@ -1,4 +1,4 @@
--- Refusal 5 in the words of document 01. Assumes nothing.
+-- Refusal 5 in the words of document 01.
 use Prim.Native.Nat.{ℕ, zero, suc, _<_, _≤_}
 use mathlib.Core.Path.{_≡_, refl, sym, subst, _∙_}
 use mathlib.Core.Logic.{_↔_, _⊎_, Iff·rfl}

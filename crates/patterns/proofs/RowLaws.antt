@@ -1,4 +1,4 @@
--- The fields of any word. Assumes nothing.
+-- The fields of any word.
 use Prim.Native.Nat.{ℕ, zero, suc, _<_, min}
 use mathlib.Core.Path.{_≡_, refl}
 use native.Mathlib.Omega.{arith}

@@ -1,4 +1,4 @@
--- Tests of the four slots of a row, slot by slot. Assumes nothing.
+-- Tests of the four slots of a row, slot by slot.
 use Prim.Native.Nat.{ℕ, zero, suc}
 use mathlib.Core.Path.{_≡_, refl, sym, ap, _∙_}
 use mathlib.Core.Bool.{Bool, true, false, _&&_, _||_}

@@ -1,4 +1,4 @@
--- Sums over numbers that each stand in a list once. Assumes nothing.
+-- Sums over numbers that each stand in a list once.
 use Prim.Native.Nat.{ℕ, zero, suc, _+_, _*_, _<_, _≤_}
 use mathlib.Core.Path.{_≡_, refl, sym, _∙_, ap}
 use mathlib.Core.Logic.{⊎-elim}

@@ -1,4 +1,4 @@
--- The tree of a pattern that passes. Assumes nothing.
+-- The tree of a pattern that passes.
 use Prim.Native.Nat.{ℕ, zero, suc, _+_, _-_, _<_, _≤_}
 use mathlib.Core.Path.{_≡_, refl, _∙_, ap, ap₂, subst}
 use mathlib.Core.Logic.{⊎-elim}

@@ -1,14 +1,14 @@
 -- What is found before the steps: each check in its order, and what their passing leaves true.
 use Prim.Native.Nat.{ℕ, _<_, _≤_}
 use mathlib.Core.Path.{_≡_, refl, sym, _∙_, ap, subst}
-use mathlib.Core.Logic.{_↔_}
+use mathlib.Core.Logic.{⊎-elim}
 use mathlib.Core.Bool.{Bool, true, false, not, _&&_, _||_}
 use mathlib.Core.Option.{Option, none, some}
 use mathlib.Core.List.{List, [], _∷_}
 use native.Mathlib.Omega.{arith}
 use lib.Dec.{T, eqb, leb, ltb}
 use lib.ListN.{length}
-use Rattle.word.proofs.TestLaws.{equals, is-below, at-most}
+use Rattle.word.proofs.TestLaws.{equals, at-most}
 use Rattle.answers.specs.declared.Ran.{Ran}
 use Rattle.answers.specs.declared.Ran.the-variants.{Limit, BadTerm, BadStore, BadWord}
 use Rattle.code.specs.Words.{badWord}
@@ -16,11 +16,11 @@ use Rattle.terms.specs.Rules.{usedRows, badTerm, checkedBy}
 use Rattle.terms.specs.declared.Checked.{Checked}
 use Rattle.terms.specs.declared.Checked.the-variants.{Bad, Used}
 use Rattle.terms.proofs.TableLaws.{valid-table, used-rows}
-use Rattle.stores.specs.Valid.{cellFits, valid}
+use Rattle.stores.specs.Valid.{valid}
+use Rattle.stores.proofs.ValidLaws.{valid-stores}
 use Rattle.theory.specs.Compile.{first, kindIn}
 use Rattle.theory.specs.Run.{Lent, RunOutcome, unchanged, lengthsFit, refusals, runBy, run}
 use Rattle.theory.proofs.CompileLaws.{first-none, when-none, map-none}
-use Rattle.theory.proofs.ValidLent.{stores-parts}
 use Rattle.running.specs.Steps.{Ready, findingOf}
 use Rattle.running.specs.declared.Finding.{Finding}
 use Rattle.running.specs.declared.Finding.the-variants.{Refused, Accepted}
@@ -140,16 +140,11 @@ module _ (x : Lent) (code : List ℕ) where
       holds false h = h
 
 module _ {x : Lent} {code : List ℕ} (p : Passed x code) where
-  -- a cell that fits is unset or a used row
+  -- unset, or a used row
   pub accumulator-small : x .accumulator < 65536
-  accumulator-small = go (eqb (x .accumulator) 65535) (equals (x .accumulator) 65535) cell
-    where
-      cell : T (cellFits (usedRows (x .terms)) (x .accumulator))
-      cell = stores-parts (x .terms) (usedRows (x .terms)) (x .kinds) (x .objects) (x .messages) (x .certificates) (x .accumulator) .0 (p .stores) .2
-
-      go : (b : Bool) → T b ↔ (x .accumulator ≡ 65535) → T (not (not b) || ltb (x .accumulator) (usedRows (x .terms))) → x .accumulator < 65536
-      go true e h = let q = e .0 tt in omega arith
-      go false e h = let l = is-below (x .accumulator) (usedRows (x .terms)) .0 h in omega (arith, used-rows (x .terms) .inside, p .long .few-rows)
+  accumulator-small =
+      ⊎-elim (λ e. omega (arith, e)) (λ l. omega (arith, l, used-rows (x .terms) .inside, p .long .few-rows))
+      (valid-stores (x .terms) (usedRows (x .terms)) (x .kinds) (x .objects) (x .messages) (x .certificates) (x .accumulator) .0 (p .stores) .held)
 
   pub ready : {used : ℕ} → used ≡ usedRows (x .terms) → Ready x used code
   ready {used} counted = record {

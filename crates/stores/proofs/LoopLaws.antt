@@ -1,4 +1,4 @@
--- How loops go through variables and certificates: what is left gives the answer. Assumes nothing.
+-- How loops go through variables and certificates: what is left gives the answer.
 use Prim.Native.Nat.{ℕ, suc, _+_, _<_, _≤_, min}
 use mathlib.Core.Path.{_≡_, refl, _∙_}
 use mathlib.Core.Logic.{⊎-elim}

@@ -13,13 +13,13 @@ use lib.Dec.{T, T-not, not-T, eqb}
 use borrow.Author.Tests.{eq-eqb, ne-eqb, lt-ltb, le-ltb}
 use Rattle.word.proofs.TestLaws.{equals}
 use Rattle.word.proofs.LowestLaws.{lowest-none, lowest-some}
+use Rattle.word.proofs.ScanLaws.{placed-at, placed-nowhere, Left, scan-hit, scan-miss, scan-end}
 use Rattle.word.specs.Lowest.{placeOf}
 use Rattle.word.specs.declared.Place.{Place}
 use Rattle.word.specs.declared.Place.the-variants as places
 use Rattle.terms.specs.declared.Found.{Found}
 use Rattle.terms.specs.declared.Found.the-variants.{At, Full}
 use Rattle.terms.specs.Finder.{Located, asTermRow, located, equalRow, locate}
-use Rattle.terms.proofs.ScanLaws.{placed-at, placed-nowhere, Passed, passed-hit, passed-miss, passed-end}
 
 -- no used row equals the term
 abbrev pub Absent : List ℕ → ℕ → ℕ → Type 0
@@ -42,7 +42,7 @@ first-of-distinct rows used word row distinct h e =
 
 -- so many rows were passed by a loop
 abbrev pub Sought : List ℕ → ℕ → ℕ → ℕ → Type 0
-Sought rows used word i = Passed (λ row other. eqb other word) (take used rows) i
+Sought rows used word i = Left (λ row other. eqb other word) (take used rows) i
 
 module _ (rows : List ℕ) (used word : ℕ) (fits : used ≤ length rows) where
   length-used : length (take used rows) ≡ used
@@ -51,16 +51,16 @@ module _ (rows : List ℕ) (used word : ℕ) (fits : used ≤ length rows) where
   pub sought-hit : (i : ℕ) → i < used → Sought rows used word i → getD rows i 0 ≡ word → equalRow rows used word ≡ some i
   unfolding equalRow
   sought-hit i h sought e =
-      passed-hit _ (take used rows) i (omega (arith, length-used)) sought (eq-eqb _ _ (getD-take used rows i 0 h ∙ e))
+      scan-hit _ (take used rows) 0 i sought (omega (arith, length-used)) (eq-eqb _ _ (getD-take used rows i 0 h ∙ e))
 
   pub sought-miss : (i : ℕ) → i < used → Sought rows used word i → (getD rows i 0 ≡ word → ⊥) → Sought rows used word (i + 1)
   sought-miss i h sought e =
-      passed-miss _ (take used rows) i (omega (arith, length-used)) sought (ne-eqb _ _ (λ q. e (sym (getD-take used rows i 0 h) ∙ q)))
+      scan-miss _ (take used rows) 0 i sought (omega (arith, length-used)) (ne-eqb _ _ (λ q. e (sym (getD-take used rows i 0 h) ∙ q)))
 
   pub sought-end : (i : ℕ) → used ≤ i → Sought rows used word i → equalRow rows used word ≡ none
   unfolding equalRow
   sought-end i h sought =
-      passed-end _ (take used rows) i (omega (arith, length-used)) sought
+      scan-end _ (take used rows) 0 i sought (omega (arith, length-used))
 
   abbrev same : ℕ → ℕ → Bool
   same row other = eqb other word

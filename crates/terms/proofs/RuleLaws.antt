@@ -6,21 +6,21 @@ use mathlib.Core.Option.{Option, none, some}
 use mathlib.Core.List.{List, [], _∷_}
 use native.Mathlib.Decide.{ℕ-discrete}
 use native.Mathlib.Omega.{arith}
-use lib.ListN.{length, getD, take}
+use lib.ListN.{length, getD, take, drop}
 use lib.Seq.{length-take-le, take-all}
 use lib.Dec.{eqb, leb, ltb}
 use borrow.Author.Tests.{eq-eqb, ne-eqb, le-leb, lt-leb, lt-ltb, le-ltb}
 use Rattle.word.specs.Fields.{at}
-use Rattle.word.specs.Lowest.{oneOf, lowestFrom, placeOf}
+use Rattle.word.specs.Lowest.{each, oneOf, lowestFrom, placeOf}
 use Rattle.word.specs.declared.Place.{Place}
 use Rattle.word.specs.declared.Place.the-variants.{At, Nowhere}
+use Rattle.word.proofs.ScanLaws.{placed-at, placed-nowhere, Left, scan-hit, scan-miss, scan-end, each-stop, each-next, each-end}
 use Rattle.terms.specs.declared.Checked.the-variants.{Bad, Used}
 use Rattle.terms.specs.Shape.{Shape, atom, encrypted, signed, hashed, tupled, partsOf}
 use Rattle.terms.specs.Row.{wordOf, tagOf, shapeOf}
 use Rattle.terms.specs.Finder.{equalRow}
 use Rattle.terms.specs.Rules.{knownTag, unusedZero, numberFits, partsBelow, keyFits, earlierEqual, usedRows, fits, badRow, badTerm, checkedBy, checked}
 use Rattle.terms.proofs.ShapeLaws.{field, slotsOf, numberOf, Plain, shape-encrypted, shape-signed, shape-hashed, shape-tupled, shape-atom, by-tag, parts-taken, parts-at}
-use Rattle.terms.proofs.ScanLaws.{placed-at, placed-nowhere, Passed, passed-hit, passed-miss, passed-end, Held, held-stop, held-more, held-end}
 
 -- a flag that goes through `&&`: the next rule was looked at, or the flag was false already
 pub and-more : {flag all next rule : Bool} → flag ≡ all → flag ≡ true → next ≡ rule → next ≡ all && rule
@@ -117,20 +117,20 @@ pub ruleset number-ways = (number-byte, number-agent, number-none)
 
 -- the rule of the parts: a loop over the slots
 abbrev pub Below : ℕ → ℕ → ℕ → Type 0
-Below row word slot = Held (λ part. ltb part row) (partsOf (shapeOf word)) slot
+Below row word slot = each (λ part. ltb part row) (partsOf (shapeOf word)) ≡ each (λ part. ltb part row) (drop slot (partsOf (shapeOf word)))
 
 module _ (row word slot part : ℕ) (inside : slot < length (partsOf (shapeOf word)))
     (below : Below row word slot) (is : part ≡ field (3 + slot) word) where
   pub below-stop : row ≤ part → false ≡ partsBelow row (shapeOf word)
   unfolding partsBelow
-  below-stop h = sym (held-stop (λ part. ltb part row) (partsOf (shapeOf word)) slot inside below (rw (parts-at word slot inside, ← is, le-ltb part row h)))
+  below-stop h = sym (each-stop (λ part. ltb part row) _ (partsOf (shapeOf word)) 0 slot below inside (rw (parts-at word slot inside, ← is, le-ltb part row h)))
 
   pub below-more : part < row → Below row word (slot + 1)
-  below-more h = held-more (λ part. ltb part row) (partsOf (shapeOf word)) slot inside below (rw (parts-at word slot inside, ← is, lt-ltb part row h))
+  below-more h = each-next (λ part. ltb part row) _ (partsOf (shapeOf word)) 0 slot below inside (rw (parts-at word slot inside, ← is, lt-ltb part row h))
 
 pub below-end : (row word slot : ℕ) → length (partsOf (shapeOf word)) ≤ slot → Below row word slot → true ≡ partsBelow row (shapeOf word)
 unfolding partsBelow
-below-end row word slot h below = sym (held-end _ _ slot h below)
+below-end row word slot h below = sym (each-end _ _ (partsOf (shapeOf word)) 0 slot below h)
 
 -- the rule of a key
 module _ (rows : List ℕ) (word tag : ℕ) (is : tag ≡ tagOf word) where
@@ -212,15 +212,15 @@ module _ (rows : List ℕ) (counter used row : ℕ) (is : used ≡ usedRows rows
 pub ruleset bad-ways = (bad-used, bad-unused)
 
 -- the check of a table: a loop over its rows
-module _ (rows : List ℕ) (counter row : ℕ) (passed : Passed (badRow rows counter) rows row) where
+module _ (rows : List ℕ) (counter row : ℕ) (passed : Left (badRow rows counter) rows row) where
   module _ (bad : Bool) (is : bad ≡ badRow rows counter row (getD rows row 0)) (inside : row < length rows) where
     pub checked-bad : bad ≡ true → Bad row ≡ checked rows counter
     unfolding badTerm
-    checked-bad e = ap (λ (answer : Option ℕ). checkedBy answer rows) (sym (passed-hit (badRow rows counter) rows row inside passed (sym is ∙ e)))
+    checked-bad e = ap (λ (answer : Option ℕ). checkedBy answer rows) (sym (scan-hit (badRow rows counter) rows 0 row passed inside (sym is ∙ e)))
 
-    pub checked-more : bad ≡ false → Passed (badRow rows counter) rows (row + 1)
-    checked-more e = passed-miss (badRow rows counter) rows row inside passed (sym is ∙ e)
+    pub checked-more : bad ≡ false → Left (badRow rows counter) rows (row + 1)
+    checked-more e = scan-miss (badRow rows counter) rows 0 row passed inside (sym is ∙ e)
 
   pub checked-good : (used : ℕ) → used ≡ usedRows rows → length rows ≤ row → Used used ≡ checked rows counter
   unfolding badTerm
-  checked-good used is h = ap Used is ∙ ap (λ (answer : Option ℕ). checkedBy answer rows) (sym (passed-end (badRow rows counter) rows row h passed))
+  checked-good used is h = ap Used is ∙ ap (λ (answer : Option ℕ). checkedBy answer rows) (sym (scan-end (badRow rows counter) rows 0 row passed h))

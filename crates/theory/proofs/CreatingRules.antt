@@ -6,6 +6,7 @@ use mathlib.Core.Bool.{Bool, true, false, cond, _&&_}
 use mathlib.Core.Option.{Option, none, some}
 use mathlib.Core.List.{List}
 use lib.Dec.{T, eqb}
+use Rattle.word.proofs.TestLaws.{both}
 use Rattle.answers.specs.Numbers.{reasonNumber}
 use Rattle.answers.specs.declared.Reason.the-variants.{Unset}
 use Rattle.patterns.specs.Pattern.{Key, plainKey, opKey, certifiedKey, Pattern, object, raw, constant, opposite, keyOf, encryption, signature, hash, tuple, letIn, Parts, end, part}
@@ -19,7 +20,7 @@ use Rattle.theory.specs.TermModel.{Term, encrypted, signed, hashed, term
 use Rattle.theory.specs.Figure2.{TermStores, setObject, setRaw, _∉_, Decodes}
 use Rattle.theory.specs.Figure3.{CreatesNew, KeyCreates, Creates, CreatesParts, new, key-set, key-new, key-op, key-keyOf, object-set, object-new, raw-set, constant-rule, op-rule, op-new, keyOf-rule, encryption-rule, signature-rule, hash-rule, tuple-rule, let-rule, no-more, one-more}
 use Rattle.theory.proofs.StoreLaws.{put-same, put-other}
-use Rattle.theory.proofs.FigureLaws.{stuck-not-done, done-inj, bind-then, at-then, need-then, free-then, got-message, gives-then, decodes-then, both, apart}
+use Rattle.theory.proofs.FigureLaws.{stuck-not-done, done-inj, bind-then, at-then, need-then, free-then, got-message, gives-then, decodes-then, apart}
 
 -- a relation between a message and stores is carried along an outcome
 carried : {A B : Type 0} {r q : A × B} (R : A → B → Type 0) → done r ≡ done q → R (r .0) (r .1) → R (q .0) (q .1)
@@ -88,10 +89,10 @@ module _ (kind : ℕ → ℕ) where
     creates-is-done right (op-new unset created again) = rw (new-is-done _ created) (rw (new-is-set created) at (creates-is-done right again))
     creates-is-done right (keyOf-rule unset set gives fits after) = rw (set, gives, unset, fits, after)
     creates-is-done right (encryption-rule {e = e} {key = key} k body unset gives fits after) =
-        let distinct = public-distinct key (both (eqb (kind e) 7) _ (right .0) .1) in
+        let distinct = public-distinct key (both (eqb (kind e) 7) _ .0 (right .0) .1) in
         rw (key-is-done _ distinct k, creates-is-done (right .1) body) (decoded-is-done _ _ _ (got-message gives) unset fits after)
     creates-is-done right (signature-rule {s = s} {r = r} {key = key} k unset set gives fits after) =
-        let distinct = private-distinct key (both (eqb (kind s) 8) _ right .1) in
+        let distinct = private-distinct key (both (eqb (kind s) 8) _ .0 right .1) in
         rw (key-is-done _ distinct k, ap (λ ρ. ρ r) (key-ρ k), set) (decoded-is-done _ _ _ (got-message gives) unset fits after)
     creates-is-done right (hash-rule unset set gives fits after) = rw set (decoded-is-done _ _ _ (got-message gives) unset fits after)
     creates-is-done right (tuple-rule parts unset gives after) = rw (parts-are-done (right .1) parts, unset, got-message gives, after)
@@ -163,14 +164,14 @@ module _ (kind : ℕ → ℕ) where
         op-of-key row distinct (done-is-key row (opKey k K) n (m, n′) distinct e)
     done-is-creates (keyOf row k a) n n′ m right e = keyOf-of-key row (done-is-key row (certifiedKey k a) n (m, n′) tt e)
     done-is-creates (encryption row v key p) n n′ m right e =
-        let distinct = public-distinct key (both (eqb (kind v) 7) _ (right .0) .1) in
+        let distinct = public-distinct key (both (eqb (kind v) 7) _ .0 (right .0) .1) in
         let (k, read, e) = bind-then (createKey termWorld kind row key n) _ _ e in
         let (b, body, e) = bind-then (create termWorld kind p (k .1)) _ _ e in
         let (unset, fits, e) = decodes-then kind row v (encrypted (k .0) (b .0)) (b .1) _ (m, n′) e in
         carried (Creates kind n (encryption row v key p)) e
         (encryption-rule (done-is-key row key n k distinct read) (done-is-creates p (k .1) (b .1) (b .0) (right .1) body) unset refl fits refl)
     done-is-creates (signature row s key r) n n′ m right e =
-        let distinct = private-distinct key (both (eqb (kind s) 8) _ right .1) in
+        let distinct = private-distinct key (both (eqb (kind s) 8) _ .0 right .1) in
         let (k, read, e) = bind-then (createKey termWorld kind row key n) _ _ e in
         let signer = done-is-key row key n k distinct read in
         let (b, set, e) = need-then row (k .1 .ρ r) _ _ e in

@@ -6,6 +6,7 @@ use mathlib.Core.Bool.{Bool, true, false, _&&_}
 use mathlib.Core.Option.{Option, none, some}
 use native.Mathlib.Omega.{arith}
 use lib.Dec.{T, eqb, eqb→eq}
+use Rattle.word.proofs.TestLaws.{both}
 use Rattle.answers.specs.Numbers.{reasonNumber}
 use Rattle.answers.specs.declared.Reason.the-variants.{OtherKind, Differs, NotOpened}
 use Rattle.terms.specs.Shape.{Shape, kindOf}
@@ -131,13 +132,8 @@ module _ {B : Type 0} where
       let (_, fits, e) = at-then row (termWorld .test (Voc.is (kind v) m) (n .memory)) _ b e in
       (unset, fits, e)
 
--- a conjunction of tests
-pub both : (a b : Bool) → T (a && b) → T a × T b
-both true b t = (tt, t)
-both false b t = absurd t
-
 -- variables of different kinds are different
 pub apart : (kind : ℕ → ℕ) (v w k : ℕ) (fits : ℕ → Bool) → T (eqb (kind v) k && fits (kind w)) → (T (fits k) → ⊥) → v ≢ w
 apart kind v w k fits t unfit e =
-    let (p, q) = both (eqb (kind v) k) (fits (kind w)) t in
+    let (p, q) = both (eqb (kind v) k) (fits (kind w)) .0 t in
     unfit (subst (λ x. T (fits x)) (sym (ap kind e) ∙ eqb→eq (kind v) k p) q)

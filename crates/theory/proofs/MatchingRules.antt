@@ -9,6 +9,7 @@ use native.Mathlib.Omega.{arith}
 use borrow.Author.Tests.{eqb-true, eq-eqb}
 use lib.Dec.{T, eqb}
 use lib.ListN.{length, getD}
+use Rattle.word.proofs.TestLaws.{both}
 use Rattle.word.specs.Lowest.{oneOf}
 use Rattle.answers.specs.Numbers.{reasonNumber}
 use Rattle.answers.specs.declared.Reason.the-variants.{PartCount}
@@ -21,7 +22,7 @@ use Rattle.theory.specs.Rules.{match, matchParts, matchKey, matchObject,
 use Rattle.theory.specs.TermModel.{Term, atom, encrypted, signed, hashed, tupled, Terms, nil, cons, Names, collected, listed, termWorld}
 use Rattle.theory.specs.Figure2.{TermStores, setObject, Gives, KeyMatches, Matches, MatchesParts, key-variable, key-op, key-keyOf, no-more, one-more, object-set, raw-set, object-new, raw-new, constant-rule, op-rule, keyOf-rule, signature-rule, hash-rule, tuple-rule, let-rule, encryption-rule}
 use Rattle.theory.proofs.StoreLaws.{put-other, put-back, put-comm}
-use Rattle.theory.proofs.FigureLaws.{stuck-not-done, done-inj, bind-then, at-then, need-then, free-then, got-message, same-self, same-then, gives-then, decodes-then, both, apart}
+use Rattle.theory.proofs.FigureLaws.{stuck-not-done, done-inj, bind-then, at-then, need-then, free-then, got-message, same-self, same-then, gives-then, decodes-then, apart}
 
 -- a list of terms and the parts of a tuple
 listed-collected : (ms : List Term) → listed (collected ms) ≡ ms
@@ -73,9 +74,9 @@ module _ (kind : ℕ → ℕ) where
   unfolding oneOf
   beside s (plainKey v) t = apart kind s v 8 (oneOf (4 ∷ 6 ∷ [])) t (λ u. u)
   beside s (opKey k K) t =
-      (apart kind s k 8 (λ x. eqb x 4 && eqb (kind K) 5) t (λ u. u), apart kind s K 8 (λ x. eqb (kind k) 4 && eqb x 5) t (λ u. both (eqb (kind k) 4) false u .1))
+      (apart kind s k 8 (λ x. eqb x 4 && eqb (kind K) 5) t (λ u. u), apart kind s K 8 (λ x. eqb (kind k) 4 && eqb x 5) t (λ u. both (eqb (kind k) 4) false .0 u .1))
   beside s (certifiedKey k a) t =
-      (apart kind s k 8 (λ x. eqb x 4 && eqb (kind a) 3) t (λ u. u), apart kind s a 8 (λ x. eqb (kind k) 4 && eqb x 3) t (λ u. both (eqb (kind k) 4) false u .1))
+      (apart kind s k 8 (λ x. eqb x 4 && eqb (kind a) 3) t (λ u. u), apart kind s a 8 (λ x. eqb (kind k) 4 && eqb x 3) t (λ u. both (eqb (kind k) 4) false .0 u .1))
 
   -- a matched key writes σ only
   key-ρ : {n n′ : TermStores} {key : Key} {o : Term} → KeyMatches kind n key o n′ → n′ .ρ ≡ n .ρ
@@ -146,8 +147,8 @@ module _ (kind : ℕ → ℕ) where
     matches-is-done right (encryption-rule {e = e} (key-variable {v = v} set) unset fits gives body) =
         let e≢v = apart kind e v 7 (oneOf (5 ∷ 6 ∷ [])) (right .0) (λ u. u) in
         rw (unset, fits, put-other, set, gives) (matches-is-done (right .1) body)
-    matches-is-done right (encryption-rule {e = e} (key-op _ _ _ _) unset fits gives body) = absurd (both (eqb (kind e) 7) false (right .0) .1)
-    matches-is-done right (encryption-rule {e = e} (key-keyOf _ _ _ _ _) unset fits gives body) = absurd (both (eqb (kind e) 7) false (right .0) .1)
+    matches-is-done right (encryption-rule {e = e} (key-op _ _ _ _) unset fits gives body) = absurd (both (eqb (kind e) 7) false .0 (right .0) .1)
+    matches-is-done right (encryption-rule {e = e} (key-keyOf _ _ _ _ _) unset fits gives body) = absurd (both (eqb (kind e) 7) false .0 (right .0) .1)
 
     parts-are-done : {n n′ : TermStores} {ps : Parts} {ms : List Term} (g : ℕ → Term) (i : ℕ) → RightParts false kind ps → Shows g i ms → MatchesParts kind n ps ms n′
         → matchParts termWorld kind ps i g n ≡ done n′

@@ -1,6 +1,5 @@
 -- After a finished run the stores and the table pass run's checks again.
 use mathlib.Core.Path.{_≡_, refl, sym, _∙_, ap, subst}
-use mathlib.Core.Logic.{Iff·rfl}
 use mathlib.Core.Option.{Option, none, some}
 use mathlib.Core.List.{List, [], _∷_, _++_}
 use Prim.Native.Nat.{ℕ, zero, suc, _+_, _<_, _≤_}
@@ -9,15 +8,13 @@ use native.Mathlib.Omega.{arith}
 use borrow.Author.Tests.{ne-eqb}
 use lib.Dec.{T, eqb}
 use lib.ListN.{length, getD, length-append}
-use Rattle.word.specs.Lowest.{each}
 use Rattle.word.proofs.All.{All}
-use Rattle.word.proofs.LowestLaws.{each-all}
 use Rattle.terms.specs.Row.{tagOf}
 use Rattle.terms.specs.Rules.{usedRows}
 use Rattle.terms.proofs.TableLaws.{ValidTable, valid-table}
 use Rattle.stores.specs.Cells.{unset, held, cellOf, cellsFrom}
-use Rattle.stores.specs.Valid.{cellFits, objectFits, eachVariable}
-use Rattle.stores.proofs.CertificateLaws.{ValidCertificates, valid-certificates}
+use Rattle.stores.proofs.CertificateLaws.{ValidCertificates}
+use Rattle.stores.proofs.ValidLaws.{UndeclaredUnset, HoldsKind, UnsetOrUsed, valid-stores}
 use Rattle.theory.specs.RowModel.{Table, rowWorld}
 use Rattle.theory.specs.Machine.{State, namedCells, scratchCells}
 use Rattle.theory.specs.Compile.{kindIn, variables}
@@ -25,7 +22,7 @@ use Rattle.theory.specs.Run.{Lent, stateOver, stateOf}
 use Rattle.theory.proofs.ValidMemory.{ValidMemory, used-inside}
 use Rattle.theory.proofs.RowsRunAsTerms.{Held, IsUsed, HasTag, ValidState}
 use Rattle.theory.proofs.RowsKept.{Appended}
-use Rattle.theory.proofs.ValidLent.{Accepted, cell-held, object-held, each-variable, stores-parts, tagged}
+use Rattle.theory.proofs.ValidLent.{Accepted, cell-held, object-held, tagged}
 
 -- the cells of a store
 pub length-cells : (n count : ℕ) (store : ℕ → Option ℕ) → length (cellsFrom n count store) ≡ count
@@ -46,10 +43,10 @@ held-cell P small none h = tt
 held-cell P small (some row) h = rw (ne-eqb row 65535 (λ e. omega (arith, small row h))) h
 
 module _ (used : ℕ) (few : used ≤ 4096) where
-  fits-cell : (cell : Option ℕ) → Held (λ row. row < used) cell → T (cellFits used (cellOf cell))
+  fits-cell : (cell : Option ℕ) → Held (λ row. row < used) cell → UnsetOrUsed used (cellOf cell)
   fits-cell cell h = cell-held used (cellOf cell) .1 (held-cell (λ row. row < used) (λ row l. omega arith) cell h)
 
-  all-fit : (n count : ℕ) (store : ℕ → Option ℕ) → ((i : ℕ) → Held (λ row. row < used) (store i)) → All (λ cell. T (cellFits used cell)) (cellsFrom n count store)
+  all-fit : (n count : ℕ) (store : ℕ → Option ℕ) → ((i : ℕ) → Held (λ row. row < used) (store i)) → All (UnsetOrUsed used) (cellsFrom n count store)
   unfolding cellsFrom
   all-fit n zero store h = tt
   all-fit n (suc count) store h = (fits-cell (store n) (h n), all-fit (suc n) count store h)
@@ -87,20 +84,20 @@ module _ (x : Lent) (a : Accepted x) (t : State rowWorld) (v : ValidState (kindI
   tags : (kind : ℕ) (cell : Option ℕ) → Held (HasTag (t .stores .memory) kind) cell → Held (λ row. (row < used) × (tagOf (getD rows row 0) ≡ kind)) cell
   tags kind cell h = subst (λ n. Held (λ row. (row < n) × (tagOf (getD rows row 0) ≡ kind)) cell) (v .table .counted) h
 
-  objects-fit : T (eachVariable (objectFits rows used) (x .kinds) (cellsFrom 0 variables (t .stores .σ)))
-  objects-fit =
-      each-variable (objectFits rows used) (x .kinds) (cellsFrom 0 variables (t .stores .σ)) (a .kinds-length ∙ sym (length-cells 0 variables (t .stores .σ))) .1 λ o h.
+  objects-fit : (o : ℕ) → o < length (x .kinds) → o < length (cellsFrom 0 variables (t .stores .σ))
+      → UndeclaredUnset (kindIn (x .kinds) o) (getD (cellsFrom 0 variables (t .stores .σ)) o unset)
+      × HoldsKind rows used (kindIn (x .kinds) o) (getD (cellsFrom 0 variables (t .stores .σ)) o unset)
+  objects-fit o k h =
       let inside : o < variables = omega (arith, length-cells 0 variables (t .stores .σ)) in
       rw (getD-cells 0 variables (t .stores .σ) o inside, zero-add o)
       (object-held rows used (kindIn (x .kinds) o) (cellOf (t .stores .σ o)) (tagged (v .table .table)) .1
       (held-cell (λ row. (row < used) × (tagOf (getD rows row 0) ≡ kindIn (x .kinds) o)) (λ row p. omega (arith, p .0, few)) (t .stores .σ o) (tags (kindIn (x .kinds) o) (t .stores .σ o) (v .objects o))))
 
-  messages-fit : T (each (cellFits used) (cellsFrom 0 namedCells (t .stores .ρ) ++ cellsFrom 0 scratchCells (t .scratches)))
+  messages-fit : All (UnsetOrUsed used) (cellsFrom 0 namedCells (t .stores .ρ) ++ cellsFrom 0 scratchCells (t .scratches))
   messages-fit =
-      each-all (cellFits used) (λ cell. T (cellFits used cell)) (λ cell. Iff·rfl) _ .1
-      (all-append (λ cell. T (cellFits used cell)) (cellsFrom 0 namedCells (t .stores .ρ)) (cellsFrom 0 scratchCells (t .scratches))
+      all-append (UnsetOrUsed used) (cellsFrom 0 namedCells (t .stores .ρ)) (cellsFrom 0 scratchCells (t .scratches))
       (all-fit used few 0 namedCells (t .stores .ρ) λ i. counts (t .stores .ρ i) (v .raws i))
-      (all-fit used few 0 scratchCells (t .scratches) λ i. counts (t .scratches i) (v .scratches i)))
+      (all-fit used few 0 scratchCells (t .scratches) λ i. counts (t .scratches i) (v .scratches i))
 
   certificates-fit : ValidCertificates rows used (x .certificates)
   unfolding stateOver
@@ -108,7 +105,7 @@ module _ (x : Lent) (a : Accepted x) (t : State rowWorld) (v : ValidState (kindI
 
   pub accepted-again : Accepted (lentAfter x t)
   accepted-again =
-      let ((kinds, _, _), _, _) = stores-parts (x .terms) (usedRows (x .terms)) (x .kinds) (x .objects) (x .messages) (x .certificates) (x .accumulator) .0 (a .good-stores) in
+      let before = valid-stores (x .terms) (usedRows (x .terms)) (x .kinds) (x .objects) (x .messages) (x .certificates) (x .accumulator) .0 (a .good-stores) in
       record {
         kinds-length = a .kinds-length;
         objects-length = length-cells 0 variables (t .stores .σ);
@@ -117,6 +114,14 @@ module _ (x : Lent) (a : Accepted x) (t : State rowWorld) (v : ValidState (kindI
         few-rows = v .table .rowsFew;
         few-names = v .table .namesFew;
         good-rows = valid-table rows (t .stores .memory .counter) .1 (v .table .table);
-        good-stores = stores-parts rows used (x .kinds) (cellsFrom 0 variables (t .stores .σ)) (cellsFrom 0 namedCells (t .stores .ρ) ++ cellsFrom 0 scratchCells (t .scratches)) (x .certificates) (cellOf (t .accumulator)) .1
-            ((kinds, objects-fit, messages-fit), valid-certificates rows used (x .certificates) .1 certificates-fit, fits-cell used few (t .accumulator) (counts (t .accumulator) (v .accumulator)));
+        good-stores =
+            valid-stores rows used (x .kinds) (cellsFrom 0 variables (t .stores .σ)) (cellsFrom 0 namedCells (t .stores .ρ) ++ cellsFrom 0 scratchCells (t .scratches)) (x .certificates) (cellOf (t .accumulator)) .1
+            (record {
+              known = before .known;
+              undeclared = λ o k c. objects-fit o k c .0;
+              typed = λ o k c. objects-fit o k c .1;
+              cells = messages-fit;
+              certified = certificates-fit;
+              held = fits-cell used few (t .accumulator) (counts (t .accumulator) (v .accumulator));
+            });
       }

@@ -16,7 +16,7 @@ use Rattle.word.specs.Bytes.{number, bytesOf, words, spelled, whole, ele
 abbrev pub Below : ℕ → List ℕ → Type 0
 Below limit values = (place : ℕ) → getD values place 0 < limit
 
-below-take : (limit count : ℕ) (values : List ℕ) → Below limit values → Below limit (take count values)
+pub below-take : (limit count : ℕ) (values : List ℕ) → Below limit values → Below limit (take count values)
 below-take limit zero values below place = omega (arith, below place)
 below-take limit (suc count) [] below place = below place
 below-take limit (suc count) (value ∷ values) below zero = below zero

@@ -5,5 +5,4 @@ pub mod All
 pub mod TestLaws
 pub mod LowestLaws
 pub mod ScanLaws
-pub mod SearchLaws
 pub mod OneOfLaws

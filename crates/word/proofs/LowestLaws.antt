@@ -1,6 +1,6 @@
 -- Tests over lists, as propositions: of each element, of one of several numbers, and the lowest place at which one holds.
 use mathlib.Core.Path.{_≡_, refl, _∙_, ap}
-use mathlib.Core.Logic.{_↔_, _⊎_, inl, inr}
+use mathlib.Core.Logic.{_↔_, _⊎_, inl, inr, Iff·rfl, Iff·trans}
 use mathlib.Core.Bool.{Bool, true, false, not}
 use mathlib.Core.Option.{Option, none, some}
 use mathlib.Core.List.{List, [], _∷_}
@@ -8,9 +8,9 @@ use Prim.Native.Nat.{ℕ, zero, suc, _+_, _<_}
 use native.Mathlib.Nat.{zero-add, add-zero, add-suc, suc-add}
 use native.Mathlib.Omega.{arith}
 use lib.ListN.{length, getD}
-use lib.Dec.{T, T-not, eqb, eqb→eq, eqb-refl}
+use lib.Dec.{T, T-not, not-T, eqb, eqb→eq, eqb-refl}
 use Rattle.word.proofs.All.{All, at-all}
-use Rattle.word.proofs.TestLaws.{either}
+use Rattle.word.proofs.TestLaws.{either, twice}
 use Rattle.word.specs.Lowest.{lowestFrom, lowest, each, oneOf}
 
 -- a test of each element, where the test says a proposition
@@ -120,3 +120,41 @@ module _ {A : Type 0} (test : ℕ → A → Bool) (default : A) where
           let not-after : ¬ (i < j) = λ l. T-not (passes all i) (f .earlier i l) (h .holds) in
           let same : j ≡ i = omega arith in
           ap some same
+
+-- a test for what is not good: this place is bad and all before it are good
+pub record LowestBad {A : Type 0} (Good : ℕ → A → Type 0) (absent : A) (all : List A) (place : ℕ) : Type 0 where
+  pub within : place < length all
+  pub bad : Good place (getD all place absent) → ⊥
+  pub before : (k : ℕ) → k < place → Good k (getD all k absent)
+
+abbrev pub AllGood : {A : Type 0} → (ℕ → A → Type 0) → A → List A → Type 0
+AllGood Good absent all = (k : ℕ) → k < length all → Good k (getD all k absent)
+
+module _ {A : Type 0} (Good : ℕ → A → Type 0) (good : ℕ → A → Bool) (means : (k : ℕ) (a : A) → T (good k a) ↔ Good k a) (absent : A) (all : List A) where
+  abbrev bad : ℕ → A → Bool
+  bad k a = not (good k a)
+
+  abbrev element : ℕ → A
+  element k = getD all k absent
+
+  not-bad : (k : ℕ) → T (not (bad k (element k))) ↔ Good k (element k)
+  not-bad k = Iff·trans (twice (good k (element k))) (means k (element k))
+
+  pub none-bad-iff : (lowest bad all ≡ none) ↔ AllGood Good absent all
+  none-bad-iff = Iff·trans (lowest-none bad absent all) (λ h k l. not-bad k .0 (h k l), λ h k l. not-bad k .1 (h k l))
+
+  pub lowest-bad-iff : (place : ℕ) → (lowest bad all ≡ some place) ↔ LowestBad Good absent all place
+  lowest-bad-iff place = Iff·trans (lowest-some bad absent all place) (
+    λ h.
+        record {
+          within = h .inside;
+          bad = λ is. T-not (good place (element place)) (h .holds) (means place (element place) .1 is);
+          before = λ k l. not-bad k .0 (h .earlier k l);
+        },
+    λ h.
+        record {
+          inside = h .within;
+          holds = not-T (good place (element place)) λ t. h .bad (means place (element place) .0 t);
+          earlier = λ k l. not-bad k .1 (h .before k l);
+        },
+  )

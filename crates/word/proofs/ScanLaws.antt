@@ -1,4 +1,4 @@
--- How a loop goes through `lowest` and `each`, and which tests give the same answer. Assumes nothing.
+-- How a loop goes through `lowest` and `each`, and which tests give the same answer.
 use Prim.Native.Nat.{ℕ, suc, _+_, _<_, _≤_}
 use mathlib.Core.Path.{_≡_, refl, sym, _∙_}
 use mathlib.Core.Logic.{_↔_, _⊎_, inl, inr}
@@ -11,7 +11,9 @@ use borrow.Author.Tests.{ltb-true, ltb-false}
 use lib.ListN.{length, getD, drop, drop-of-length-le}
 use lib.Seq.{drop-cons}
 use lib.Dec.{T, T-not, not-T, ltb}
-use Rattle.word.specs.Lowest.{lowestFrom, lowest, each}
+use Rattle.word.specs.Lowest.{lowestFrom, lowest, each, placeOf}
+use Rattle.word.specs.declared.Place.{Place}
+use Rattle.word.specs.declared.Place.the-variants.{At, Nowhere}
 use Rattle.word.proofs.LowestLaws.{passes, lowest-none, lowest-some}
 
 pub lt-or-ge : (m n : ℕ) → (m < n) ⊎ (n ≤ m)
@@ -20,6 +22,15 @@ lt-or-ge m n = go (ltb m n) refl
     go : (b : Bool) → ltb m n ≡ b → (m < n) ⊎ (n ≤ m)
     go true e = inl (ltb-true m n e)
     go false e = inr (ltb-false m n e)
+
+-- an answer of the code, read back
+pub placed-at : (answer : Option ℕ) {found : Place} {place : ℕ} → found ≡ placeOf answer → found ≡ At place → answer ≡ some place
+placed-at none says e = let clash : _≡_ {A = ℕ} 0 1 = cc in absurd (omega arith)
+placed-at (some place) says e = cc
+
+pub placed-nowhere : (answer : Option ℕ) {found : Place} → found ≡ placeOf answer → found ≡ Nowhere → answer ≡ none
+placed-nowhere none says e = refl
+placed-nowhere (some place) says e = let clash : _≡_ {A = ℕ} 0 1 = cc in absurd (omega arith)
 
 module _ {A : Type 0} (test : ℕ → A → Bool) where
   lowest-hit : (i : ℕ) (a : A) (rest : List A) → test i a ≡ true → lowestFrom i test (a ∷ rest) ≡ some i

@@ -1,6 +1,6 @@
 -- Tests as propositions.
 use mathlib.Core.Path.{_≡_}
-use mathlib.Core.Logic.{_↔_, _⊎_, inl, inr}
+use mathlib.Core.Logic.{_↔_, _⊎_, inl, inr, Iff·rfl}
 use mathlib.Core.Bool.{Bool, true, false, cond, not, _&&_, _||_}
 use Prim.Native.Nat.{ℕ, _<_, _≤_}
 use lib.Dec.{T, T-not, not-T, eqb, leb, ltb, eqb→eq, eqb-refl, ltb→lt, lt→ltb, leb→le, le→leb, nltb→le}
@@ -15,6 +15,11 @@ pub either : (a b : Bool) → T (a || b) ↔ (T a ⊎ T b)
 either true b = (λ h. inl tt, λ h. tt)
 either false b = (λ h. inr h, elim [ inl n ↦ absurd n | inr h ↦ h ])
 
+-- a test that holds where another does
+pub implied : (a b : Bool) → T (not a || b) ↔ (T a → T b)
+implied true b = (λ h _. h, λ h. h tt)
+implied false b = (λ _ n. absurd n, λ _. tt)
+
 -- a test that is chosen by another
 pub chosen : (a b c : Bool) → T (cond a b c) ↔ ((T a → T b) × (T (not a) → T c))
 chosen true b c = (λ h. (λ _. h, λ n. absurd n), λ h. h .0 tt)
@@ -22,6 +27,10 @@ chosen false b c = (λ h. (λ n. absurd n, λ _. h), λ h. h .1 tt)
 
 pub fails : (a : Bool) → T (not a) ↔ (T a → ⊥)
 fails a = (T-not a, not-T a)
+
+pub twice : (a : Bool) → T (not (not a)) ↔ T a
+twice true = Iff·rfl
+twice false = Iff·rfl
 
 -- tests of numbers
 pub equals : (m n : ℕ) → T (eqb m n) ↔ (m ≡ n)

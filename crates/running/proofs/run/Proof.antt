@@ -1,4 +1,4 @@
--- A refusal leaves what is lent; otherwise the steps say what is left. Assumes nothing.
+-- A refusal leaves what is lent; otherwise the steps say what is left.
 use Prim.Native.Nat.{ℕ}
 use mathlib.Core.Path.{_≡_, sym, _∙_}
 use mathlib.Core.Option.{none}

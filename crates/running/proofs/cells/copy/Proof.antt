@@ -1,4 +1,4 @@
--- Up to the cell the two slices agree. Assumes nothing.
+-- Up to the cell the two slices agree.
 use Prim.Native.Nat.{ℕ, _≤_, _<_, _-_}
 use mathlib.Core.Path.{_≡_, refl, sym, _∙_}
 use native.Mathlib.Omega.{arith}

@@ -1,4 +1,4 @@
--- Each check's answer, in the checks' order. Assumes nothing.
+-- Each check's answer, in the checks' order.
 use Prim.Native.Nat.{ℕ, _≤_}
 use mathlib.Core.Path.{_≡_, sym, _∙_}
 use mathlib.Core.Bool.{true}
@@ -8,7 +8,7 @@ use native.Mathlib.Omega.{arith}
 use borrow.Author.Needs.{needs}
 use borrow.Author.Tests.{not-true, not-false}
 use Rattle.terms.specs.Rules.{usedRows, badTerm}
-use Rattle.terms.proofs.ScanLaws.{placed-at, placed-nowhere}
+use Rattle.word.proofs.ScanLaws.{placed-at, placed-nowhere}
 use Rattle.terms.proofs.TableLaws.{used-rows}
 use Rattle.theory.specs.Run.{Lent, lengthsFit}
 use Rattle.running.proofs.LookLaws.{checked-bad, checked-used, Lengths, lengths, true-holds, storesFit, found-limit, found-term, found-store, found-word, found-accepted}

@@ -1,4 +1,4 @@
--- Up to the row the rows are cleared. Assumes nothing.
+-- Up to the row the rows are cleared.
 use Prim.Native.Nat.{_≤_, _-_}
 use mathlib.Core.Path.{_≡_}
 use native.Mathlib.Omega.{arith}

@@ -1,4 +1,4 @@
--- The loop's invariant is a run that has come to a word. Assumes nothing.
+-- The loop's invariant is a run that has come to a word.
 use Prim.Native.Nat.{_≤_, _-_}
 use mathlib.Core.Path.{_≡_, refl, sym, _∙_}
 use native.Mathlib.Omega.{arith}

@@ -1,4 +1,4 @@
--- The invariant: none of the rows passed equals the term. Assumes nothing.
+-- The invariant: none of the rows passed equals the term.
 use Prim.Native.Nat.{_≤_, _-_}
 use mathlib.Core.Path.{refl, sym, ap}
 use native.Mathlib.Omega.{arith}

@@ -1,4 +1,4 @@
--- Each way out is a case of `locate`. Assumes nothing.
+-- Each way out is a case of `locate`.
 use native.Mathlib.Omega.{arith}
 use Rattle.terms.proofs.FinderLaws.{find-below, find-ways}
 use borrow.Author.Needs.{needs}

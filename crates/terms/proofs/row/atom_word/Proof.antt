@@ -1,4 +1,4 @@
--- The tag stands above 44 zero bits and the number. Assumes nothing.
+-- The tag stands above 44 zero bits and the number.
 use native.Mathlib.Omega.{arith}
 use Rattle.terms.specs.Row.{wordOf}
 use borrow.Author.Needs.{needs}

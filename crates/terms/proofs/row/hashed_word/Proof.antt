@@ -1,4 +1,4 @@
--- The body stands in the first of the four parts. Assumes nothing.
+-- The body stands in the first of the four parts.
 use native.Mathlib.Omega.{arith}
 use Rattle.terms.specs.Row.{wordOf}
 use borrow.Author.Needs.{needs}

@@ -1,4 +1,4 @@
--- Within the first n a part is the one of all, past them there is none. Assumes nothing.
+-- Within the first n a part is the one of all, past them there is none.
 use mathlib.Core.Path.{sym}
 use native.Mathlib.Omega.{arith}
 use mir.Syntax.{w16}

@@ -1,4 +1,4 @@
--- A part by its slot. Assumes nothing.
+-- A part by its slot.
 use Rattle.terms.proofs.FieldLaws.{part-at}
 use borrow.Author.Needs.{needs}
 use Rattle.terms.proofs.row.part.Statement.{statement}

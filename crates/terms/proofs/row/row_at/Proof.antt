@@ -1,4 +1,4 @@
--- Past the end a list reads as zero. Assumes nothing.
+-- Past the end a list reads as zero.
 use mathlib.Core.Path.{sym}
 use lib.ListN.{List·getD-eq-default}
 use borrow.Author.Needs.{needs}

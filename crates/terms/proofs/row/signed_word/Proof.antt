@@ -1,4 +1,4 @@
--- Key and body stand in the first two of the four parts. Assumes nothing.
+-- Key and body stand in the first two of the four parts.
 use native.Mathlib.Omega.{arith}
 use Rattle.terms.specs.Row.{wordOf}
 use borrow.Author.Needs.{needs}

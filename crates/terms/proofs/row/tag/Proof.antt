@@ -1,4 +1,4 @@
--- What stands above the other fields is below 16 by itself. Assumes nothing.
+-- What stands above the other fields is below 16 by itself.
 use native.Mathlib.Omega.{arith}
 use Rattle.terms.specs.Row.{tagOf}
 use Rattle.terms.proofs.row.tag.Statement.{statement}

@@ -1,4 +1,4 @@
--- The word of a tuple, part by part. Assumes nothing.
+-- The word of a tuple, part by part.
 use Prim.Native.Nat.{_≤_}
 use mathlib.Core.Path.{_≡_}
 use native.Mathlib.Omega.{arith}

@@ -1,4 +1,4 @@
--- A row among the used ones, or behind them. Assumes nothing.
+-- A row among the used ones, or behind them.
 use Rattle.terms.proofs.RuleLaws.{bad-ways}
 use borrow.Author.Needs.{needs}
 use Rattle.terms.proofs.rules.bad_row.Statement.{statement}

@@ -1,4 +1,4 @@
--- The first equal row among the earlier ones, or none. Assumes nothing.
+-- The first equal row among the earlier ones, or none.
 use Rattle.terms.proofs.RuleLaws.{earlier-ways}
 use borrow.Author.Needs.{needs}
 use Rattle.terms.proofs.rules.earlier_equal.Statement.{statement}

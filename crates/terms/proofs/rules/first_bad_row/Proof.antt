@@ -1,16 +1,17 @@
--- The invariant: none of the rows passed is bad. Assumes nothing.
+-- The invariant: none of the rows passed is bad.
 use Prim.Native.Nat.{_≤_, _-_}
 use mathlib.Core.Path.{refl}
 use native.Mathlib.Omega.{arith}
 use lib.ListN.{length}
 use Rattle.terms.specs.Rules.{badRow}
-use Rattle.terms.proofs.ScanLaws.{Passed, used-within}
+use Rattle.word.proofs.ScanLaws.{Left}
+use Rattle.terms.proofs.ScanLaws.{used-within}
 use Rattle.terms.proofs.RuleLaws.{checked-bad, checked-more, checked-good}
 use Rattle.terms.proofs.rules.first_bad_row.Statement.{statement}
 use Rattle.terms.proofs.rules.first_bad_row.Tie as tie
 
 abbrev Inv-loop : tie.InvT-loop
-Inv-loop rows counter used row₀ row = (row ≤ length rows) × Passed (badRow rows counter) rows row
+Inv-loop rows counter used row₀ row = (row ≤ length rows) × Left (badRow rows counter) rows row
 
 abbrev μ-loop : tie.MeasureT-loop
 μ-loop rows counter used row₀ row = length rows - row

@@ -1,4 +1,4 @@
--- An encryption, a signature, and what has no key. Assumes nothing.
+-- An encryption, a signature, and what has no key.
 use Rattle.terms.proofs.RuleLaws.{key-ways}
 use borrow.Author.Needs.{needs}
 use Rattle.terms.proofs.rules.key_fits.Statement.{statement}

@@ -1,4 +1,4 @@
--- The first kind, or the second. Assumes nothing.
+-- The first kind, or the second.
 use Rattle.terms.proofs.RuleLaws.{kind-ways}
 use borrow.Author.Needs.{needs}
 use Rattle.terms.proofs.rules.key_is.Statement.{statement}

@@ -1,4 +1,4 @@
--- Below 1, or not. Assumes nothing.
+-- Below 1, or not.
 use Rattle.terms.proofs.RuleLaws.{known-ways}
 use borrow.Author.Needs.{needs}
 use Rattle.terms.proofs.rules.known_tag.Statement.{statement}

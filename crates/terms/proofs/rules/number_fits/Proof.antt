@@ -1,4 +1,4 @@
--- A byte, an agent, a row with parts, and any other number. Assumes nothing.
+-- A byte, an agent, a row with parts, and any other number.
 use mathlib.Core.Logic.{⊎-elim}
 use native.Mathlib.Omega.{arith}
 use Rattle.terms.proofs.RuleLaws.{number-name, number-ways}

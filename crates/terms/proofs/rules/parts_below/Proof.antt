@@ -1,4 +1,4 @@
--- The invariant: each part passed is below the row. Assumes nothing.
+-- The invariant: each part passed is below the row.
 use Prim.Native.Nat.{_≤_, _-_}
 use mathlib.Core.Path.{refl}
 use native.Mathlib.Omega.{arith}

@@ -1,4 +1,4 @@
--- The rules one after another: each joins what was found so far. Assumes nothing.
+-- The rules one after another: each joins what was found so far.
 use Prim.Native.Nat.{ℕ}
 use mathlib.Core.Path.{_≡_, refl, _∙_, ap}
 use mathlib.Core.Logic.{⊎-elim}

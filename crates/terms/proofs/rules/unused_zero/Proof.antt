@@ -1,4 +1,4 @@
--- The word made of the fields by each shape. Assumes nothing.
+-- The word made of the fields by each shape.
 use native.Mathlib.Omega.{arith}
 use Rattle.terms.proofs.FieldLaws.{tag-below}
 use Rattle.terms.proofs.RuleLaws.{unused-ways}

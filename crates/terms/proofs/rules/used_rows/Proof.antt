@@ -1,4 +1,4 @@
--- The invariant: so many rows are used at least. Assumes nothing.
+-- The invariant: so many rows are used at least.
 use Prim.Native.Nat.{_≤_, _-_}
 use mathlib.Core.Path.{sym}
 use native.Mathlib.Nat.{zero-add}
