@@ -147,14 +147,14 @@ module _ (x : Lent) (code : List ℕ) where
           λ h. comes (Ran.BadTerm row) (gives (Ran.BadTerm row) (within .1 (h .0), bad-term-at (x .terms) (x .counter) row .1 (h .1))),
         );
         bad-store = (
-          λ a. let (t, e, n) = means a in let w = within .0 t in (w, table .0 e, λ s. n (stores-valid x (w .0) .1 s)),
-          λ h. comes Ran.BadStore (gives Ran.BadStore (within .1 (h .0), table .1 (h .1), λ t. h .2 (stores-valid x (h .0 .0) .0 t))),
+          λ a. let (t, e, n) = means a in let w = within .0 t in (w, table .0 e, λ s. n (stores-valid x .1 s)),
+          λ h. comes Ran.BadStore (gives Ran.BadStore (within .1 (h .0), table .1 (h .1), λ t. h .2 (stores-valid x .0 t))),
         );
         bad-word = λ word. (
           λ a.
               let (t, e, s, b) = means a in
               let w = within .0 t in
-              (w, record { within = w .0; table = table .0 e; stores = stores-valid x (w .0) .0 s }, bad-word-iff (kindIn (x .kinds)) code word .0 b),
+              (w, record { within = w .0; table = table .0 e; stores = stores-valid x .0 s }, bad-word-iff (kindIn (x .kinds)) code word .0 b),
           λ h.
               let v = accepted (h .1) in
               comes (Ran.BadWord word) (gives (Ran.BadWord word) (within .1 (h .0), v .good-rows, v .good-stores, bad-word-iff (kindIn (x .kinds)) code word .1 (h .2))),

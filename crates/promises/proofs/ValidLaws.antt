@@ -47,7 +47,7 @@ accepted {x} v = record {
   few-rows = v .within .terms;
   few-names = v .within .counter;
   good-rows = valid-table (x .terms) (x .counter) .1 (v .table);
-  good-stores = stores-valid x (v .within) .1 (v .stores);
+  good-stores = stores-valid x .1 (v .stores);
 }
 
 pub valid-accepted : {x : Lent} → Accepted x → Valid x
@@ -60,12 +60,12 @@ valid-accepted {x} a =
       terms = a .few-rows;
       counter = a .few-names;
     } in
-    record { within = within; table = valid-table (x .terms) (x .counter) .0 (a .good-rows); stores = stores-valid x within .0 (a .good-stores) }
+    record { within = within; table = valid-table (x .terms) (x .counter) .0 (a .good-rows); stores = stores-valid x .0 (a .good-stores) }
 
 pub passed-valid : {x : Lent} {code : List ℕ} → Passed x code → Valid x
 passed-valid {x} {code} p =
     let within = run-within x code .0 (p .lengths) .0 in
-    record { within = within; table = valid-table (x .terms) (x .counter) .0 (p .rows); stores = stores-valid x within .0 (p .stores) }
+    record { within = within; table = valid-table (x .terms) (x .counter) .0 (p .rows); stores = stores-valid x .0 (p .stores) }
 
 -- the instructions of good words fit
 module _ (kind : ℕ → ℕ) where

@@ -9,11 +9,10 @@ use Rattle.word.proofs.ScanLaws.{LowestWith, NoneWith}
 use Rattle.answers.specs.declared.Compiled.{Compiled}
 use Rattle.answers.specs.declared.Compiled.the-variants.{WrittenWhileSet, ReadWhileUnset}
 use Rattle.code.proofs.WordLaws.{LowestBadWord, AllGoodWords}
-use Rattle.terms.specs.Row.{tagOf}
 use Rattle.terms.specs.Rules.{usedRows}
 use Rattle.terms.proofs.TableLaws.{Sound, ValidTable}
 use Rattle.stores.specs.Cells.{unset}
-use Rattle.stores.proofs.CertificateLaws.{ValidCertificates}
+use Rattle.stores.proofs.ValidLaws as Stores
 use Rattle.patterns.specs.Tree.{patternOf}
 use Rattle.patterns.proofs.RuleLaws.{fieldsAt, BadRow, Unnamed}
 use Rattle.patterns.proofs.RightRow.{RightRow}
@@ -95,16 +94,8 @@ abbrev pub BadTermAt : Lent → ℕ → Type 0
 BadTermAt x row = LowestWith (λ row. Sound (x .terms) (x .counter) row (getD (x .terms) row 0) → ⊥) (length (x .terms)) row
 
 -- not 3: kinds, cells, certificates and accumulator
-pub record ValidStores (x : Lent) : Type 0 where
-  pub kinds : (v : ℕ) → v < variables → kindIn (x .kinds) v ≤ 10
-  -- kind 0 means undeclared; such a cell is unset
-  pub undeclared : (v : ℕ) → v < variables → kindIn (x .kinds) v ≡ 0 → cell (x .objects) v ≡ unset
-  -- a set object cell is a used row of the variable's kind
-  pub objects : (v : ℕ) → v < variables → cell (x .objects) v ≢ unset
-      → (cell (x .objects) v < usedRows (x .terms)) × (tagOf (getD (x .terms) (cell (x .objects) v) 0) ≡ kindIn (x .kinds) v)
-  pub messages : (i : ℕ) → i < messageCells → cell (x .messages) i ≢ unset → cell (x .messages) i < usedRows (x .terms)
-  pub certificates : ValidCertificates (x .terms) (usedRows (x .terms)) (x .certificates)
-  pub accumulator : x .accumulator ≢ unset → x .accumulator < usedRows (x .terms)
+abbrev pub ValidStores : Lent → Type 0
+ValidStores x = Stores.ValidStores (x .terms) (usedRows (x .terms)) (x .kinds) (x .objects) (x .messages) (x .certificates) (x .accumulator)
 
 -- what is lent to run is good: neither 1, 2 nor 3
 pub record Valid (x : Lent) : Type 0 where
