@@ -17,7 +17,7 @@ use Rattle.theory.specs.Rules.{match, create}
 use Rattle.theory.specs.Figure2.{TermStores}
 use Rattle.theory.specs.Compile.{kindIn}
 use Rattle.theory.specs.Run.{Lent, RunOutcome, stateOver, stateOf, leftBy, run}
-use Rattle.theory.proofs.Meaning.{meaning}
+use Rattle.theory.specs.Meaning.{meaning}
 use Rattle.theory.proofs.MatchingRules.{matches-is-done}
 use Rattle.theory.proofs.CreatingRules.{creates-is-done}
 use Rattle.theory.proofs.Room.{Free}

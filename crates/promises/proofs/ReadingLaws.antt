@@ -16,8 +16,7 @@ use Rattle.theory.specs.RowModel.{Table, rowWorld}
 use Rattle.theory.specs.Machine.{State, namedCells, scratchCells}
 use Rattle.theory.specs.Compile.{kindIn, variables}
 use Rattle.theory.specs.Run.{Lent, stateOver, stateOf, leftBy}
-use Rattle.theory.proofs.Meaning.{meaning}
-use Rattle.theory.proofs.RowsAreTerms.{certifiedTerm}
+use Rattle.theory.specs.Meaning.{meaning, certifiedTerm}
 use Rattle.theory.proofs.ValidMemory.{row-small}
 use Rattle.theory.proofs.RowsRunAsTerms.{Held, IsUsed, HasTag, ValidState, termsOf}
 use Rattle.theory.proofs.ValidLent.{tagged}

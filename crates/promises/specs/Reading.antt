@@ -8,8 +8,7 @@ use Rattle.theory.specs.TermModel.{Term}
 use Rattle.theory.specs.Machine.{namedCells}
 use Rattle.theory.specs.Figure2.{TermStores}
 use Rattle.theory.specs.Run.{Lent, RunOutcome}
-use Rattle.theory.proofs.Meaning.{meaning}
-use Rattle.theory.proofs.RowsAreTerms.{certifiedTerm}
+use Rattle.theory.specs.Meaning.{meaning, certifiedTerm}
 
 -- the term in a cell, where it is set
 abbrev pub termIn : List ℕ → ℕ → Option Term

@@ -39,7 +39,7 @@ use Rattle.theory.proofs.InLimits.{InRange, AllInRange, InLimits}
 use Rattle.theory.proofs.Fitting.{ByteFits}
 use Rattle.theory.proofs.Places.{movedTo, same-instructions}
 use Rattle.theory.proofs.Related.{SameEnd, both-done, both-stuck}
-use Rattle.theory.proofs.Meaning.{meaning}
+use Rattle.theory.specs.Meaning.{meaning}
 use Rattle.theory.proofs.RowsRunAsTerms.{ValidState, termsOf, Reads}
 use Rattle.theory.proofs.Room.{Free, rows-end-as-terms}
 use Rattle.theory.proofs.ValidLent.{Accepted, accepted-state}

@@ -37,7 +37,7 @@ use Rattle.theory.proofs.Fitting.{ByteFits}
 use Rattle.theory.proofs.Related.{OutcomeR}
 use Rattle.theory.proofs.RowsRunAsTerms.{ValidState, Reads, rows-run-as-terms}
 use Rattle.theory.proofs.Room.{Free, never-room}
-use Rattle.theory.proofs.Meaning.{meaning}
+use Rattle.theory.specs.Meaning.{meaning}
 use Rattle.theory.proofs.RowsKept.{Appended}
 use Rattle.theory.proofs.ValidLent.{Accepted}
 use Rattle.theory.proofs.ValidAgain.{lentAfter, accepted-again}
