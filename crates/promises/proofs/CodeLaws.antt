@@ -1,6 +1,6 @@
 -- Code that was compiled for cells with the same ones set is the code for the cells that run is lent.
 use Prim.Native.Nat.{ℕ}
-use mathlib.Core.Path.{_≡_, refl, sym, _∙_, ap, subst}
+use mathlib.Core.Path.{_≡_, sym, _∙_, ap, subst}
 use mathlib.Core.Bool.{Bool}
 use mathlib.Core.List.{List}
 use lib.ListN.{length, take, length-map}
@@ -13,7 +13,6 @@ use Rattle.theory.specs.Machine.{namedCells}
 use Rattle.theory.specs.Compile.{CompileOutcome, kindIn, variables, codeWords, compile}
 use Rattle.theory.specs.Run.{Lent}
 use Rattle.theory.proofs.SetCells.{same-cells}
-use Rattle.theory.proofs.CompileLaws.{Compiles}
 use Rattle.theory.proofs.Product.{Written, compile-writes}
 use Rattle.promises.specs.Answers.{compileNumber}
 use Rattle.promises.specs.Demand3.{usedPart, CodeFor}

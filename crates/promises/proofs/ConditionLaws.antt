@@ -1,11 +1,11 @@
 -- The conditions and the tests say the same.
 use Prim.Native.Nat.{ℕ, zero, suc, _<_, _≤_}
 use mathlib.Core.Path.{_≡_, refl, sym, _∙_}
-use mathlib.Core.Logic.{_↔_, _≢_, _⊎_, inl, inr, Iff·rfl}
+use mathlib.Core.Logic.{_↔_, _≢_, inl, inr}
 use mathlib.Core.Bool.{Bool, true, false, not, _&&_, _||_}
 use mathlib.Core.List.{List, [], _∷_}
 use native.Mathlib.Omega.{arith}
-use lib.Dec.{T, eqb, leb, ltb}
+use lib.Dec.{T, eqb, leb}
 use lib.ListN.{length, getD}
 use Rattle.word.specs.Lowest.{each}
 use Rattle.word.proofs.All.{all-at}
@@ -14,12 +14,11 @@ use Rattle.terms.specs.Rules.{usedRows}
 use Rattle.stores.specs.Cells.{unset}
 use Rattle.stores.specs.Valid.{kindsFit, eachVariable, undeclaredUnset, declared}
 use Rattle.stores.proofs.ValidLaws.{declared-stores, valid-stores}
-use Rattle.theory.specs.RowModel.{mostNames}
-use Rattle.theory.specs.Compile.{kindIn, variables, mostPatternRows}
+use Rattle.theory.specs.Compile.{kindIn, variables}
 use Rattle.theory.specs.Compile as Compile
-use Rattle.theory.specs.Run.{Lent, mostCodeWords, mostTermRows, mostCertificates, messageCells}
+use Rattle.theory.specs.Run.{Lent}
 use Rattle.theory.specs.Run as Run
-use Rattle.promises.specs.Conditions.{cell, CompileWithin, BadVariable, LentWithin, RunWithin, ValidStores}
+use Rattle.promises.specs.Conditions.{cell, CompileWithin, BadVariable, RunWithin, ValidStores}
 use Rattle.promises.proofs.RunLaws.{storesFit}
 
 -- 1

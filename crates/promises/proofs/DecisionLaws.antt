@@ -1,8 +1,7 @@
 -- From what theory says of a run of compiled code to: exactly when.
 use Prim.Native.Nat.{ℕ}
 use mathlib.Core.Path.{_≡_, refl, sym, _∙_, ap, subst}
-use mathlib.Core.Logic.{_↔_, _≢_}
-use mathlib.Core.Bool.{Bool, true, false}
+use mathlib.Core.Bool.{true, false}
 use mathlib.Core.Option.{Option, none, some, Option·map}
 use mathlib.Core.List.{List}
 use native.Mathlib.Omega.{arith}
@@ -11,9 +10,8 @@ use Rattle.answers.specs.declared.Ran.the-variants as Ran
 use Rattle.stores.specs.Cells.{held, storeOf}
 use Rattle.patterns.specs.Kinds.{RightKinds}
 use Rattle.patterns.specs.Tree.{patternOf}
-use Rattle.theory.specs.TermModel.{Term, termWorld}
+use Rattle.theory.specs.TermModel.{Term}
 use Rattle.theory.specs.Outcome.{Outcome, done, stuck, room}
-use Rattle.theory.specs.Rules.{match, create}
 use Rattle.theory.specs.Figure2.{TermStores}
 use Rattle.theory.specs.Compile.{kindIn}
 use Rattle.theory.specs.Run.{Lent, RunOutcome, stateOver, stateOf, leftBy, run}
@@ -24,12 +22,11 @@ use Rattle.theory.proofs.Room.{Free}
 use Rattle.theory.proofs.RowsRunAsTerms.{termsOf}
 use Rattle.theory.proofs.Demand3.{MatchEnds, CreateEnds}
 use Rattle.theory.proofs.Theorems.{demand-3-matching, demand-3-creating}
-use Rattle.promises.specs.Answers.{RunAnswers, runNumber}
-use Rattle.promises.specs.Reading.{termIn, before, after, messageBefore, messageAfter}
-use Rattle.promises.specs.Conditions.{Valid, Room}
-use Rattle.promises.specs.Demand3.{CodeFor, Prepared, MatchesTo, CreatesTo, DecidesMatch, DecidesCreation}
+use Rattle.promises.specs.Reading.{termIn, after, messageBefore, messageAfter}
+use Rattle.promises.specs.Conditions.{Room}
+use Rattle.promises.specs.Demand3.{Prepared, MatchesTo, CreatesTo, DecidesMatch, DecidesCreation}
 use Rattle.promises.proofs.CodeLaws.{right-kinds, own-answer, own-words}
-use Rattle.promises.proofs.RunLaws.{Finished, finished}
+use Rattle.promises.proofs.RunLaws.{finished}
 use Rattle.promises.proofs.ValidLaws.{accepted, after-finish, message-finish}
 
 enough : {x : Lent} {count : ℕ} → Room x count → Free count count (stateOf x .stores .memory)

@@ -16,4 +16,5 @@ pub mod Demand2
 pub mod NumberLaws
 pub mod Demand1
 pub mod ListingLaws
+pub mod Example
 pub mod Promises

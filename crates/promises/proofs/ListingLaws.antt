@@ -1,19 +1,18 @@
 -- The listing, answer by answer.
-use Prim.Native.Nat.{ℕ, zero, _*_}
-use mathlib.Core.Path.{_≡_, refl, sym, _∙_, ap}
+use Prim.Native.Nat.{ℕ}
+use mathlib.Core.Path.{_≡_, refl, _∙_, ap}
 use mathlib.Core.Logic.{_↔_, _≢_}
 use mathlib.Core.Bool.{Bool, true, false, _&&_}
-use mathlib.Core.Option.{Option, none, some}
+use mathlib.Core.Option.{none, some}
 use mathlib.Core.List.{List}
 use native.Mathlib.Omega.{arith}
 use borrow.Author.Tests.{eq-eqb, ne-eqb}
 use lib.Dec.{T, eqb}
-use lib.ListN.{drop}
 use Rattle.word.specs.Bytes.{elements}
 use Rattle.word.proofs.TestLaws.{both, equals, at-most}
 use Rattle.word.proofs.LowestLaws.{each-all}
 use Rattle.stores.specs.Certificates.{spareOf}
-use Rattle.theory.specs.Bundle.{Bundle, wordBytes, headerOf, headerFits, sizeFits, bundleBy, readBundle, certificatesClear}
+use Rattle.theory.specs.Bundle.{wordBytes, headerFits, sizeFits, bundleBy, readBundle, certificatesClear}
 use Rattle.theory.specs.Listing.{refusedLine, compiledLines, bundleLines, listing}
 use Rattle.promises.specs.Answers.{compileNumber}
 use Rattle.promises.specs.Listing.{headerIn, BundleWithin, bundleIn, CertificatesClear, compiledFrom, ListingTable}

@@ -1,12 +1,10 @@
 -- Each number exactly where its condition holds and no earlier one does.
 use Prim.Native.Nat.{ℕ}
-use mathlib.Core.Path.{_≡_, refl, sym, _∙_, ap, subst}
-use mathlib.Core.Logic.{_↔_, _≢_}
+use mathlib.Core.Path.{_≡_, sym, _∙_, ap, subst}
+use mathlib.Core.Logic.{_↔_}
 use mathlib.Core.Bool.{Bool, true, false}
-use mathlib.Core.Option.{none, some}
 use mathlib.Core.List.{List}
 use lib.Dec.{T}
-use lib.ListN.{length}
 use Rattle.answers.specs.Numbers.{compiledNumber, compiledPlace, reasonOf, ranNumber, ranPlace, ranReason}
 use Rattle.answers.specs.declared.Compiled.{Compiled}
 use Rattle.answers.specs.declared.Compiled.the-variants as Compiled
@@ -23,7 +21,7 @@ use Rattle.theory.specs.Run.{Lent, stateOf, linesOf, run}
 use Rattle.theory.proofs.CompileLaws.{Checked}
 use Rattle.theory.proofs.Models.{calm-rows}
 use Rattle.promises.specs.Answers.{CompileAnswers, RunAnswers}
-use Rattle.promises.specs.Conditions.{CompileWithin, BadVariable, CompileChecked, RunWithin, RunChecked}
+use Rattle.promises.specs.Conditions.{CompileWithin, BadVariable, CompileChecked, RunChecked}
 use Rattle.promises.specs.Steps.{After}
 use Rattle.promises.specs.Demand1.{CompileTable, RunTable}
 use Rattle.promises.proofs.StepLaws.{reason-back, exec-reasoned}

@@ -1,15 +1,14 @@
 -- Compiled code never reads what is unset.
-use Prim.Native.Nat.{ℕ, zero, suc, _≤_}
-use mathlib.Core.Path.{_≡_, refl, sym, _∙_, ap, subst}
+use Prim.Native.Nat.{ℕ}
+use mathlib.Core.Path.{_≡_, refl, sym, _∙_, ap}
 use mathlib.Core.Logic.{_≢_}
 use mathlib.Core.Bool.{Bool, true, false, cond, not}
-use mathlib.Core.Option.{Option, none, some}
+use mathlib.Core.Option.{none, some}
 use mathlib.Core.List.{List, map}
 use native.Mathlib.Omega.{arith}
 use lib.Dec.{eqb}
 use lib.ListN.{length, getD, take}
-use Rattle.answers.specs.Numbers.{reasonNumber, reasonOf, ranReason}
-use Rattle.answers.specs.declared.Reason.the-variants.{Unset}
+use Rattle.answers.specs.Numbers.{ranReason}
 use Rattle.answers.specs.declared.Ran.{Ran}
 use Rattle.answers.specs.declared.Ran.the-variants as Ran
 use Rattle.stores.specs.Cells.{unset, isSet, held, storeOf}
@@ -18,10 +17,10 @@ use Rattle.patterns.proofs.TreeLaws.{raws-below}
 use Rattle.theory.specs.Outcome.{Outcome, done, stuck, room, isSome}
 use Rattle.theory.specs.RowModel.{rowWorld}
 use Rattle.theory.specs.TermModel.{Term}
-use Rattle.theory.specs.Machine.{Line, State, namedCells, exec}
+use Rattle.theory.specs.Machine.{Line, namedCells, exec}
 use Rattle.theory.specs.Compilers.{compile↓, compile↑}
-use Rattle.theory.specs.Compile.{kindIn, variables, codeWords, entry, compile}
-use Rattle.theory.specs.Run.{Lent, RunOutcome, stateOver, stateOf, linesOf, leftBy, run}
+use Rattle.theory.specs.Compile.{kindIn, variables, entry, compile}
+use Rattle.theory.specs.Run.{Lent, stateOver, stateOf, linesOf, run}
 use Rattle.theory.proofs.Compiled.{known}
 use Rattle.theory.proofs.Places.{movedTo, same-instructions}
 use Rattle.theory.proofs.CompiledWords.{compiled-words-read}

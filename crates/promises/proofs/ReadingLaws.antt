@@ -1,5 +1,5 @@
 -- The cells that a run leaves mean what its last state means.
-use Prim.Native.Nat.{ℕ, _+_, _<_, _≤_}
+use Prim.Native.Nat.{ℕ, _<_, _≤_}
 use mathlib.Core.Path.{_≡_, refl, sym, _∙_, ap, fun-ext}
 use mathlib.Core.Option.{Option, none, some, Option·map}
 use mathlib.Core.List.{List}
@@ -11,8 +11,7 @@ use lib.ListN.{length, getD, take, List·getD-eq-default}
 use lib.Seq.{take-at}
 use Rattle.answers.specs.declared.Ran.{Ran}
 use Rattle.stores.specs.Cells.{unset, held, cellOf, storeOf, cellsFrom}
-use Rattle.theory.specs.TermModel.{Term}
-use Rattle.theory.specs.RowModel.{Table, rowWorld}
+use Rattle.theory.specs.RowModel.{rowWorld}
 use Rattle.theory.specs.Machine.{State, namedCells, scratchCells}
 use Rattle.theory.specs.Compile.{kindIn, variables}
 use Rattle.theory.specs.Run.{Lent, stateOver, stateOf, leftBy}

@@ -1,13 +1,13 @@
 -- A pattern refused with 6 or 7 has no match and no creation.
 use Prim.Native.Nat.{ℕ}
-use mathlib.Core.Path.{_≡_, refl, sym, _∙_, ap, fun-ext}
+use mathlib.Core.Path.{_≡_, refl, sym, _∙_, ap}
 use mathlib.Core.Logic.{_↔_, inl, inr}
 use mathlib.Core.Bool.{Bool, true, false, not}
 use mathlib.Core.Option.{Option, none, some}
 use mathlib.Core.List.{List}
 use native.Mathlib.Omega.{arith}
 use lib.Dec.{T, eqb}
-use lib.ListN.{length, getD}
+use lib.ListN.{getD}
 use Rattle.word.proofs.TestLaws.{equals}
 use Rattle.answers.specs.declared.Compiled.{Compiled}
 use Rattle.stores.specs.Cells.{unset, isSet}
@@ -15,11 +15,11 @@ use Rattle.patterns.specs.Tree.{patternOf}
 use Rattle.patterns.proofs.TreeLaws.{raws-below}
 use Rattle.theory.specs.Outcome.{isSome}
 use Rattle.theory.specs.TermModel.{Term, termWorld}
-use Rattle.theory.specs.Emission.{Env, refuse}
+use Rattle.theory.specs.Emission.{refuse}
 use Rattle.theory.specs.Compilers.{compile↓, compile↑}
 use Rattle.theory.specs.Figure2.{TermStores, Matches}
 use Rattle.theory.specs.Figure3.{Creates}
-use Rattle.theory.specs.Compile.{CompileOutcome, kindIn, variables, entry, emitted, compile}
+use Rattle.theory.specs.Compile.{kindIn, entry, emitted, compile}
 use Rattle.theory.proofs.Compiled.{known}
 use Rattle.theory.proofs.CompileLaws.{Checked}
 use Rattle.theory.proofs.Product.{checked-right}

@@ -1,7 +1,7 @@
 -- What run comes to, answer by answer: its checks in their order, then the steps.
-use Prim.Native.Nat.{ℕ, _≤_}
+use Prim.Native.Nat.{ℕ}
 use mathlib.Core.Path.{_≡_, refl, sym, _∙_, ap, subst}
-use mathlib.Core.Logic.{_↔_, _≢_}
+use mathlib.Core.Logic.{_≢_}
 use mathlib.Core.Bool.{Bool, true, false, not}
 use mathlib.Core.Option.{Option, none, some, Option·map}
 use mathlib.Core.List.{List, [], _∷_}
@@ -18,7 +18,7 @@ use Rattle.theory.specs.Outcome.{Outcome, done, stuck, room}
 use Rattle.theory.specs.RowModel.{rowWorld}
 use Rattle.theory.specs.Machine.{State, exec}
 use Rattle.theory.specs.Compile.{when, first, kindIn}
-use Rattle.theory.specs.Run.{Lent, RunOutcome, stateOf, linesOf, unchanged, leftBy, ended, lengthsFit, refusals, runBy, run}
+use Rattle.theory.specs.Run.{Lent, RunOutcome, stateOf, linesOf, unchanged, leftBy, ended, lengthsFit, runBy, run}
 use Rattle.theory.proofs.Models.{calm-rows}
 use Rattle.promises.specs.Answers.{RunAnswers, runNumber}
 use Rattle.promises.proofs.StepLaws.{exec-reasoned, reason-back, number-back}

@@ -1,37 +1,29 @@
 -- Compile's words are the words of the tables' lines, and run's answer is that of its steps.
 use Prim.Native.Nat.{ℕ, _≤_}
 use mathlib.Core.Path.{_≡_, refl, sym, _∙_, ap, subst}
-use mathlib.Core.Logic.{_≢_}
 use mathlib.Core.Bool.{Bool}
-use mathlib.Core.Option.{none}
-use mathlib.Core.List.{List, _++_}
-use native.Mathlib.Omega.{arith}
+use mathlib.Core.List.{List}
 use lib.ListN.{length, take, drop, length-map}
 use lib.Seq.{take-at}
 use Rattle.word.proofs.All.{all-map}
-use Rattle.answers.specs.Numbers.{compiledNumber, compiledPlace, reasonNumber, reasonOf}
-use Rattle.answers.specs.declared.Compiled.{Compiled}
-use Rattle.answers.specs.declared.Compiled.the-variants as Compiled
-use Rattle.answers.specs.declared.Ran.the-variants as Ran
+use Rattle.answers.specs.Numbers.{compiledNumber, compiledPlace}
 use Rattle.code.specs.Instruction.{wordOf}
-use Rattle.code.proofs.WordLaws.{AllGoodWords, no-bad-word-iff}
+use Rattle.code.proofs.WordLaws.{no-bad-word-iff}
 use Rattle.theory.specs.Outcome.{Outcome, done, stuck, room}
 use Rattle.theory.specs.RowModel.{rowWorld}
-use Rattle.theory.specs.Machine.{Line, State}
-use Rattle.theory.specs.Emission.{Env, ok}
-use Rattle.theory.specs.Compile.{CompileOutcome, kindIn, variables, codeWords, emitted, compile}
-use Rattle.theory.specs.Run.{Lent, RunOutcome, linesOf, stateOf, leftBy, run}
+use Rattle.theory.specs.Machine.{State}
+use Rattle.theory.specs.Compile.{CompileOutcome, kindIn, codeWords, compile}
+use Rattle.theory.specs.Run.{Lent, run}
 use Rattle.theory.proofs.InLimits.{AllInRange}
 use Rattle.theory.proofs.SetCells as SetCells
 use Rattle.theory.proofs.SetCells.{SameSet, left, wrote, same-cells, same-slices}
-use Rattle.theory.proofs.CompileLaws.{Checked}
 use Rattle.theory.proofs.CompiledWords.{compiled-words-good}
 use Rattle.theory.proofs.Product.{compile-writes}
-use Rattle.promises.specs.Answers.{CompileAnswers, RunAnswers, compileNumber}
+use Rattle.promises.specs.Answers.{compileNumber}
 use Rattle.promises.specs.Steps.{After, At}
 use Rattle.promises.specs.Demand3.{usedPart}
 use Rattle.promises.specs.Demand2.{WritesTable, SameCode, StepByStep}
-use Rattle.promises.proofs.RunLaws.{Passed, stepsOf, Finished, finished, answered, answered-stuck}
+use Rattle.promises.proofs.RunLaws.{Passed, stepsOf, finished, answered, answered-stuck}
 use Rattle.promises.proofs.WalkLaws.{Walked, all-done, stuck-at, room-at, walked}
 use Rattle.promises.proofs.CompileLaws.{compile-answered, compile-left, kinds-long, number-done}
 

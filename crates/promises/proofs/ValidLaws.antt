@@ -11,7 +11,7 @@ use Rattle.word.proofs.All.{All}
 use Rattle.answers.specs.declared.Ran.{Ran}
 use Rattle.answers.specs.declared.Ran.the-variants as Ran
 use Rattle.code.specs.Instruction.{instructionOf}
-use Rattle.code.specs.Words.{operandsFit, badWord}
+use Rattle.code.specs.Words.{operandsFit}
 use Rattle.code.specs.declared.Instruction.{Instruction}
 use Rattle.code.proofs.WordLaws.{GoodWord, good-iff, no-bad-word-iff}
 use Rattle.terms.proofs.TableLaws.{valid-table, used-rows}
@@ -19,12 +19,12 @@ use Rattle.stores.specs.Cells.{unset, held, storeOf}
 use Rattle.theory.specs.Outcome.{Outcome, done}
 use Rattle.theory.specs.RowModel.{rowWorld}
 use Rattle.theory.specs.TermModel.{termWorld}
-use Rattle.theory.specs.Machine.{Line, State, namedCells, exec}
+use Rattle.theory.specs.Machine.{Line, State, namedCells}
 use Rattle.theory.specs.Compile.{kindIn}
-use Rattle.theory.specs.Run.{Lent, RunOutcome, addLine, linesFrom, linesOf, stateOver, stateOf, leftBy, run}
+use Rattle.theory.specs.Run.{Lent, addLine, linesFrom, linesOf, stateOver, stateOf, leftBy, run}
 use Rattle.theory.proofs.Fitting.{ByteFits, good-word-fits}
 use Rattle.theory.proofs.Models.{calm-rows}
-use Rattle.theory.proofs.Related.{OutcomeR, dones, stucks, rooms}
+use Rattle.theory.proofs.Related.{OutcomeR, dones}
 use Rattle.theory.proofs.RowsRunAsTerms.{ValidState, Reads, termsOf, rows-run-as-terms}
 use Rattle.theory.proofs.RowsKept.{Appended, exec-appends}
 use Rattle.theory.proofs.ValidLent.{Accepted, accepted-state}
@@ -35,7 +35,7 @@ use Rattle.promises.specs.Conditions.{LentWithin, Valid}
 use Rattle.promises.specs.Demand3.{lentAfter}
 use Rattle.promises.proofs.StepLaws.{named-past}
 use Rattle.promises.proofs.ReadingLaws.{after-read, message-read}
-use Rattle.promises.proofs.RunLaws.{Passed, Finished, finished, stepsOf}
+use Rattle.promises.proofs.RunLaws.{Passed, finished, stepsOf}
 use Rattle.promises.proofs.ConditionLaws.{run-within, stores-valid}
 
 pub accepted : {x : Lent} → Valid x → Accepted x

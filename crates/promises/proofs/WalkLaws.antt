@@ -1,20 +1,19 @@
 -- The steps of a code are one word after another.
 use Prim.Native.Nat.{ℕ, zero, suc, _+_, _<_, _≤_}
 use mathlib.Core.Path.{_≡_, refl, sym, _∙_, ap, subst}
-use mathlib.Core.Logic.{_↔_}
-use mathlib.Core.Option.{Option, none, some}
+use mathlib.Core.Option.{some}
 use mathlib.Core.List.{List, [], _∷_}
 use native.Mathlib.Omega.{arith}
 use lib.ListN.{length, getD, drop, drop-of-length-le}
 use lib.Seq.{drop-cons}
 use Rattle.code.specs.Instruction.{instructionOf}
 use Rattle.code.specs.declared.Instruction.{Instruction}
-use Rattle.code.proofs.WordLaws.{GoodWord, AllGoodWords}
+use Rattle.code.proofs.WordLaws.{AllGoodWords}
 use Rattle.theory.specs.Outcome.{Outcome, done, stuck, room, bind}
 use Rattle.theory.specs.RowModel.{rowWorld}
 use Rattle.theory.specs.Machine.{Line, line, State, step, exec}
 use Rattle.theory.specs.Compile.{kindIn}
-use Rattle.theory.specs.Run.{Lent, stateOf, linesFrom, linesOf}
+use Rattle.theory.specs.Run.{Lent, stateOf, linesFrom}
 use Rattle.theory.proofs.Models.{calm-rows}
 use Rattle.promises.specs.Steps.{Word, After, start, next, At}
 use Rattle.promises.proofs.StepLaws.{Ends, goes, sticks, fills, KeptPast, step-ends}

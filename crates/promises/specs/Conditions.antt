@@ -6,8 +6,6 @@ use mathlib.Core.Bool.{Bool}
 use mathlib.Core.List.{List}
 use lib.ListN.{length, getD}
 use Rattle.word.proofs.ScanLaws.{LowestWith, NoneWith}
-use Rattle.answers.specs.declared.Compiled.{Compiled}
-use Rattle.answers.specs.declared.Compiled.the-variants.{WrittenWhileSet, ReadWhileUnset}
 use Rattle.code.proofs.WordLaws.{LowestBadWord, AllGoodWords}
 use Rattle.terms.specs.Rules.{usedRows}
 use Rattle.terms.proofs.TableLaws.{Sound, ValidTable}
@@ -18,7 +16,7 @@ use Rattle.patterns.proofs.RuleLaws.{fieldsAt, BadRow, Unnamed}
 use Rattle.patterns.proofs.RightRow.{RightRow}
 use Rattle.theory.specs.RowModel.{mostNames}
 use Rattle.theory.specs.Machine.{Line}
-use Rattle.theory.specs.Emission.{Env, Emitted, ok, refuse}
+use Rattle.theory.specs.Emission.{Env, Emitted, ok}
 use Rattle.theory.specs.Compile.{kindIn, variables, mostPatternRows, tables, entry}
 use Rattle.theory.specs.Run.{Lent, mostCodeWords, mostTermRows, mostCertificates, messageCells}
 

@@ -14,7 +14,7 @@ use Rattle.theory.specs.Emission.{refuse}
 use Rattle.theory.specs.Compile.{CompileOutcome, compile}
 use Rattle.theory.specs.Run.{Lent, RunOutcome, unchanged, run}
 use Rattle.promises.specs.Answers.{CompileAnswers, RunAnswers, compileNumber, runNumber}
-use Rattle.promises.specs.Conditions.{CompileWithin, BadVariable, BadPatternAt, GoodPattern, WrongKindAt, CompileChecked, emission, Emits, LentWithin, RunWithin, BadTermAt, ValidStores, Valid, BadWordAt, RunChecked}
+use Rattle.promises.specs.Conditions.{CompileWithin, BadVariable, BadPatternAt, GoodPattern, WrongKindAt, CompileChecked, emission, Emits, RunWithin, BadTermAt, ValidStores, Valid, BadWordAt, RunChecked}
 use Rattle.promises.specs.Steps.{After, At}
 
 -- Compile looks in the order 1, 3, 4, 5, then 6 and 7 by emission, then 8.

@@ -1,5 +1,5 @@
 -- Demand 2: compile's words are the packed code of figures 5 and 6, and run is one step after another.
-use Prim.Native.Nat.{ℕ, _<_, _≤_}
+use Prim.Native.Nat.{ℕ, _≤_}
 use mathlib.Core.Path.{_≡_}
 use mathlib.Core.Bool.{Bool}
 use mathlib.Core.List.{List, _++_}

@@ -7,4 +7,5 @@ pub mod Demand3
 pub mod Demand2
 pub mod Demand1
 pub mod Listing
+pub mod Example
 pub mod Promises

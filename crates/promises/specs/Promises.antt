@@ -6,6 +6,7 @@ use Rattle.theory.specs.Orders.{Orders, Corners}
 use Rattle.promises.specs.Demand1.{Demand1}
 use Rattle.promises.specs.Demand2.{Demand2}
 use Rattle.promises.specs.Demand3.{Demand3}
+use Rattle.promises.specs.Example.{Example}
 use Rattle.promises.specs.Listing.{ListingTable}
 
 pub record Promises : Type 0 where
@@ -15,6 +16,8 @@ pub record Promises : Type 0 where
   pub demand-2 : Demand2
   -- finished exactly where figures 2 and 3 lead somewhere, with what they give
   pub demand-3 : Demand3
+  -- its premises met by P1 and P2
+  pub example : Example
   -- what a bundle's listing prints
   pub listings : (bytes : List ℕ) → ListingTable bytes
   -- P1 to P10

@@ -1,6 +1,6 @@
 -- What lent words mean: a row is a term, a cell is the term of its row, and the cells together are the stores of the figures.
 use Prim.Native.Nat.{ℕ}
-use mathlib.Core.Option.{Option, none, some, Option·map}
+use mathlib.Core.Option.{Option, Option·map}
 use mathlib.Core.List.{List}
 use lib.ListN.{getD, take}
 use Rattle.stores.specs.Cells.{unset, held}

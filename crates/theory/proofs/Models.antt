@@ -12,7 +12,7 @@ use Rattle.terms.specs.Row.{wordOf}
 use Rattle.terms.specs.Finder.{locate}
 use Rattle.terms.specs.declared.Found.{Found}
 use Rattle.terms.specs.declared.Found.the-variants.{At, Full}
-use Rattle.theory.specs.Outcome.{Answer, got, not, full, andThen, sure}
+use Rattle.theory.specs.Outcome.{Answer, got, full, andThen, sure}
 use Rattle.theory.specs.World.{Op, Test}
 use Rattle.theory.specs.World as Voc
 use Rattle.theory.specs.Model.{Model, world, goesWith, opened, certified, verified, taken, applyIn, testIn}
