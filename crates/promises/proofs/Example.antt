@@ -1,11 +1,10 @@
 -- The two cases by evaluation, and the figures by demand 3.
-use Prim.Native.Nat.{ℕ}
-use mathlib.Core.Path.{_≡_, refl, ap}
-use mathlib.Core.Bool.{Bool, true, false}
+use mathlib.Core.Path.{_≡_, refl}
+use mathlib.Core.Bool.{true, false}
 use mathlib.Core.Option.{some}
-use mathlib.Core.List.{List, []}
+use mathlib.Core.List.{[]}
 use native.Mathlib.Omega.{arith}
-use lib.ListN.{length, take}
+use lib.ListN.{take}
 use Rattle.word.specs.Lowest.{lowestFrom, each, oneOf}
 use Rattle.code.specs.Instruction as Code
 use Rattle.code.specs.Words.{goodWord, badWord}
@@ -18,14 +17,14 @@ use Rattle.stores.specs.Valid.{kindsFit, eachVariable, valid}
 use Rattle.theory.specs.Store.{put}
 use Rattle.theory.specs.Machine.{namedCells, message, setMessage, setMessages, messages}
 use Rattle.theory.specs.Meaning.{termAt}
-use Rattle.theory.specs.Compile.{first, compile}
-use Rattle.theory.specs.Run.{Lent, stateOver, leftBy, linesFrom, run}
+use Rattle.theory.specs.Compile.{first}
+use Rattle.theory.specs.Run.{stateOver, leftBy, linesFrom, run}
 use Rattle.theory.specs.Cases.{cells, slice, P1-code, P2-code}
 use Rattle.theory.proofs.SetCells.{SameSet}
 use Rattle.theory.proofs.Cases.{worked}
-use Rattle.promises.specs.Answers.{RunAnswers, compileNumber}
+use Rattle.promises.specs.Answers.{RunAnswers}
 use Rattle.promises.specs.Reading.{messageBefore, messageAfter}
-use Rattle.promises.specs.Demand3.{usedPart, CodeFor, Prepared}
+use Rattle.promises.specs.Demand3.{Prepared}
 use Rattle.promises.specs.Example.{P1-pattern, P1-lent, P1-message, P2-pattern, P2-lent, P2-message, Example}
 use Rattle.promises.proofs.NumberLaws.{run-table}
 use Rattle.promises.proofs.DecisionLaws.{decided-match, decided-creation}

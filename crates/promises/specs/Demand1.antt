@@ -5,6 +5,7 @@ use mathlib.Core.Logic.{_↔_, _≢_}
 use mathlib.Core.Bool.{Bool}
 use mathlib.Core.List.{List}
 use lib.ListN.{length}
+use Rattle.answers.specs.declared.Compiled.{Compiled}
 use Rattle.answers.specs.declared.Compiled.the-variants.{WrittenWhileSet, ReadWhileUnset}
 use Rattle.terms.proofs.TableLaws.{ValidTable}
 use Rattle.theory.specs.Outcome.{stuck, room}
@@ -22,26 +23,28 @@ module _ (create : Bool) (pattern kinds objects named slice : List ℕ) where
   abbrev compiled : CompileOutcome
   compiled = compile create pattern kinds objects named slice
 
+  abbrev Within : Type 0
+  Within = CompileWithin pattern kinds objects named
+
+  abbrev Checked : Type 0
+  Checked = CompileChecked create pattern kinds objects named
+
+  abbrev stops : Compiled → Type 0
+  stops answer = emission create pattern kinds objects named ≡ refuse answer
+
+  abbrev needs : ℕ → Type 0
+  needs words = Emits create pattern kinds objects named words
+
   pub record CompileTable : Type 0 where
-    pub limit : CompileAnswers compiled 1 0 ↔ (CompileWithin pattern kinds objects named → ⊥)
-    pub bad-store : CompileAnswers compiled 3 0 ↔ (CompileWithin pattern kinds objects named × BadVariable kinds objects)
-    pub bad-pattern : (row : ℕ)
-        → CompileAnswers compiled 4 row ↔ (CompileWithin pattern kinds objects named × (BadVariable kinds objects → ⊥) × BadPatternAt pattern row)
+    pub limit : CompileAnswers compiled 1 0 ↔ (Within → ⊥)
+    pub bad-store : CompileAnswers compiled 3 0 ↔ (Within × BadVariable kinds objects)
+    pub bad-pattern : (row : ℕ) → CompileAnswers compiled 4 row ↔ (Within × (BadVariable kinds objects → ⊥) × BadPatternAt pattern row)
     pub wrong-kind : (row : ℕ)
-        → CompileAnswers compiled 5 row
-        ↔ (CompileWithin pattern kinds objects named × (BadVariable kinds objects → ⊥) × GoodPattern pattern × WrongKindAt create kinds pattern row)
-    pub written-while-set : (row : ℕ)
-        → CompileAnswers compiled 6 row
-        ↔ (CompileChecked create pattern kinds objects named × (emission create pattern kinds objects named ≡ refuse (WrittenWhileSet row)))
-    pub read-while-unset : (row : ℕ)
-        → CompileAnswers compiled 7 row
-        ↔ (CompileChecked create pattern kinds objects named × (emission create pattern kinds objects named ≡ refuse (ReadWhileUnset row)))
-    pub too-short : (words : ℕ)
-        → CompileAnswers compiled 8 words
-        ↔ (CompileChecked create pattern kinds objects named × Emits create pattern kinds objects named words × (length slice < words))
-    pub done : (words : ℕ)
-        → CompileAnswers compiled 0 words
-        ↔ (CompileChecked create pattern kinds objects named × Emits create pattern kinds objects named words × (words ≤ length slice))
+        → CompileAnswers compiled 5 row ↔ (Within × (BadVariable kinds objects → ⊥) × GoodPattern pattern × WrongKindAt create kinds pattern row)
+    pub written-while-set : (row : ℕ) → CompileAnswers compiled 6 row ↔ (Checked × stops (WrittenWhileSet row))
+    pub read-while-unset : (row : ℕ) → CompileAnswers compiled 7 row ↔ (Checked × stops (ReadWhileUnset row))
+    pub too-short : (words : ℕ) → CompileAnswers compiled 8 words ↔ (Checked × needs words × (length slice < words))
+    pub done : (words : ℕ) → CompileAnswers compiled 0 words ↔ (Checked × needs words × (words ≤ length slice))
     pub left : compileNumber compiled ≢ 0 → compiled .code ≡ slice
 
 -- Run looks in the order 1, 2, 3, 9, then steps.
