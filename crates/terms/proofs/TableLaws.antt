@@ -2,17 +2,18 @@
 use mathlib.Core.Path.{_≡_, refl, sym, _∙_, ap}
 use mathlib.Core.Logic.{_↔_, _⊎_, _≢_, Iff·rfl}
 use mathlib.Core.Bool.{Bool, true, false, cond, not}
-use mathlib.Core.Option.{none}
+use mathlib.Core.Option.{none, some}
 use mathlib.Core.List.{List, [], _∷_}
 use Prim.Native.Nat.{ℕ, zero, suc, _<_, _≤_}
 use native.Mathlib.Omega.{arith}
 use native.Mathlib.Decide.{decLt, ℕ-discrete}
-use lib.Dec.{T, eqb, ltb}
+use lib.Dec.{T, T-not, eqb, ltb}
 use lib.ListN.{length, getD, set, length-set, List·getD-eq-default}
 use lib.Seq.{getD-take, getD-set-same, getD-set-other, length-take-le}
 use Rattle.word.proofs.All.{All}
 use Rattle.word.proofs.TestLaws.{both, chosen, fails, equals, is-below, not-below, at-most}
 use Rattle.word.proofs.LowestLaws.{each-all, one-of, one-of-two, lowest-none}
+use Rattle.word.proofs.ScanLaws.{LowestWith, lowest-with}
 use Rattle.terms.specs.Shape.{Shape, atom, encrypted, signed, hashed, tupled, partsOf}
 use Rattle.terms.specs.Row.{wordOf, tagOf, shapeOf}
 use Rattle.terms.specs.Rules.{usedRows, knownTag, unusedZero, numberFits, partsBelow, keyFits, earlierEqual, fits, badRow, badTerm}
@@ -127,7 +128,7 @@ used-once {rows} {count} u =
     omega arith
 
 -- what is asked of a row, used or not
-abbrev Sound : List ℕ → ℕ → ℕ → ℕ → Type 0
+abbrev pub Sound : List ℕ → ℕ → ℕ → ℕ → Type 0
 Sound rows counter row word = (row < usedRows rows → GoodRow rows counter row word) × (usedRows rows ≤ row → word ≡ 0)
 
 not-chosen : (a b c : Bool) → not (cond a (not b) (not c)) ≡ cond a b c
@@ -153,6 +154,21 @@ valid-table rows counter =
         → Sound rows counter row (getD rows row 0)
     sound h row (yes inside) = sound-row rows counter row (getD rows row 0) (omega arith) .0 (h row inside)
     sound h row (no outside) = (λ l. absurd (omega (arith, used-rows rows .inside)), λ l. List·getD-eq-default rows 0 (omega arith))
+
+-- 2, exactly: the lowest row that breaks a rule
+pub bad-term-at : (rows : List ℕ) (counter row : ℕ) → (badTerm rows counter ≡ some row) ↔ LowestWith (λ row. Sound rows counter row (getD rows row 0) → ⊥) (length rows) row
+unfolding badTerm
+bad-term-at rows counter = lowest-with (badRow rows counter) (λ row. Sound rows counter row (getD rows row 0) → ⊥) rows 0 says
+  where
+    twice : (b : Bool) → (T (not b) → ⊥) → T b
+    twice true h = tt
+    twice false h = absurd (h tt)
+
+    says : (row : ℕ) → row < length rows → T (badRow rows counter row (getD rows row 0)) ↔ (Sound rows counter row (getD rows row 0) → ⊥)
+    says row inside =
+        let bad = badRow rows counter row (getD rows row 0) in
+        let sound = sound-row rows counter row (getD rows row 0) (omega arith) in
+        (λ b s. T-not bad (sound .1 s) b, λ n. twice bad λ h. n (sound .0 h))
 
 -- a rule of a row looks at earlier rows only
 module _ (rows other : List ℕ) (row : ℕ) (same : (i : ℕ) → i < row → getD other i 0 ≡ getD rows i 0) where

@@ -24,7 +24,6 @@ abbrev pub NotDone : Compiled → Type 0
 NotDone answer = (words : ℕ) → answer ≡ Done words → ⊥
 
 pub refusal-not-done : {answer : Compiled} → Refusal answer → NotDone answer
-refusal-not-done Refusal.wrong words e = let z : _≡_ {A = ℕ} 0 1 = cc in omega arith
 refusal-not-done Refusal.written words e = let z : _≡_ {A = ℕ} 0 1 = cc in omega arith
 refusal-not-done Refusal.read words e = let z : _≡_ {A = ℕ} 0 1 = cc in omega arith
 

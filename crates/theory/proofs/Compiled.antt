@@ -90,7 +90,7 @@ module _ (W : World) (kind : ℕ → ℕ) (p : Pattern) (below : RawsBelow named
   -- so with a set accumulator it never reads an unset cell
   pub matching-reads-set : Calm W → (s : State W) (m : W .Msg) {c : List Line} {e : Env} → s .accumulator ≡ some m
       → compile↓ p (known W (s .stores)) ≡ ok c e → (place : ℕ) → exec W kind c s ≡ stuck place (reasonNumber Unset) → ⊥
-  matching-reads-set calm s m a q place r = matching-reasons calm s (rw a tt) q r refl
+  matching-reads-set calm s m a q place r = matching-reasons calm s (rw a tt) q r
 
   creating : {Allowed : ℕ → Type 0} (calm : WorldWithin Allowed W) (b : ℕ) (s : State W)
       → Simulates calm kind (here W s b) (With W (InAccumulator W)) s (compile↑ kind p (knownFrom W b (s .stores))) (create W kind p (s .stores))
@@ -121,4 +121,4 @@ module _ (W : World) (kind : ℕ → ℕ) (p : Pattern) (below : RawsBelow named
 
   pub creating-reads-set : Calm W → (s : State W) {c : List Line} {e : Env} → compile↑ kind p (known W (s .stores)) ≡ ok c e
       → (place : ℕ) → exec W kind c s ≡ stuck place (reasonNumber Unset) → ⊥
-  creating-reads-set calm s q place r = creating-reasons calm s q r refl
+  creating-reads-set calm s q place r = creating-reasons calm s q r

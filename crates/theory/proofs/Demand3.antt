@@ -39,7 +39,7 @@ use Rattle.theory.proofs.InLimits.{InRange, AllInRange, InLimits}
 use Rattle.theory.proofs.Fitting.{ByteFits}
 use Rattle.theory.proofs.Places.{movedTo, same-instructions}
 use Rattle.theory.proofs.Related.{SameEnd, both-done, both-stuck}
-use Rattle.theory.proofs.Meaning.{meaning}
+use Rattle.theory.specs.Meaning.{meaning}
 use Rattle.theory.proofs.RowsRunAsTerms.{ValidState, termsOf, Reads}
 use Rattle.theory.proofs.Room.{Free, rows-end-as-terms}
 use Rattle.theory.proofs.ValidLent.{Accepted, accepted-state}
@@ -73,43 +73,50 @@ module _ (x : Lent) where
     next = 0;
   }
 
+  -- the steps of code words end in a state
+  abbrev pub Steps : List ℕ → State rowWorld → Type 0
+  Steps code t = exec rowWorld kind (linesOf code) (stateOf x) ≡ done t
+
   -- what a run comes to, for a pattern and a message
-  pub data MatchEnds (p : Pattern) (m : Term) (words : ℕ) : RunOutcome → Type 0 where
-    finishes : (t : State rowWorld) → ValidState kind t → Matches kind before p m (termsOf t .stores) → MatchEnds p m words (leftBy (Ran.Done words) t)
-    sticks : (place : ℕ) (reason : Reason) → ((n : TermStores) → Matches kind before p m n → ⊥) → MatchEnds p m words (unchanged (Ran.Stuck place reason) x)
+  pub data MatchEnds (p : Pattern) (m : Term) (words : ℕ) (code : List ℕ) : RunOutcome → Type 0 where
+    finishes : (t : State rowWorld) → Steps code t → ValidState kind t → Matches kind before p m (termsOf t .stores) → MatchEnds p m words code (leftBy (Ran.Done words) t)
+    sticks : (place : ℕ) (reason : Reason) → ((n : TermStores) → Matches kind before p m n → ⊥) → MatchEnds p m words code (unchanged (Ran.Stuck place reason) x)
 
   -- and for a creation: the accumulator holds the message; the counter is among the stores
-  pub data CreateEnds (p : Pattern) (words : ℕ) : RunOutcome → Type 0 where
-    finishes : (t : State rowWorld) (m : Term) → ValidState kind t → termsOf t .accumulator ≡ some m → Creates kind before p m (termsOf t .stores) → CreateEnds p words (leftBy (Ran.Done words) t)
-    sticks : (place : ℕ) (reason : Reason) → ((m : Term) (n : TermStores) → Creates kind before p m n → ⊥) → CreateEnds p words (unchanged (Ran.Stuck place reason) x)
+  pub data CreateEnds (p : Pattern) (words : ℕ) (code : List ℕ) : RunOutcome → Type 0 where
+    finishes : (t : State rowWorld) (m : Term) → Steps code t → ValidState kind t → termsOf t .accumulator ≡ some m → Creates kind before p m (termsOf t .stores) → CreateEnds p words code (leftBy (Ran.Done words) t)
+    sticks : (place : ℕ) (reason : Reason) → ((m : Term) (n : TermStores) → Creates kind before p m n → ⊥) → CreateEnds p words code (unchanged (Ran.Stuck place reason) x)
 
-  module _ (p : Pattern) (words : ℕ) where
-    match-ends : (m : Term) → RightKinds false kind p → (o o′ : Outcome (State rowWorld)) (o″ : Outcome (State termWorld)) → movedTo 0 o ≡ movedTo 0 o′ → SameEnd (Reads kind) o′ o″
-        → bind o″ (storesOf termWorld) ≡ match termWorld kind p (some m) before → MatchEnds p m words (ended words x o)
-    match-ends m right (done s) o′ o″ moved (both-done {a = s′} {b = t′} r) e =
+  module _ (p : Pattern) (words : ℕ) (code : List ℕ) where
+    abbrev Comes : Outcome (State rowWorld) → Type 0
+    Comes o = exec rowWorld kind (linesOf code) (stateOf x) ≡ o
+
+    match-ends : (m : Term) → RightKinds false kind p → (o : Outcome (State rowWorld)) → Comes o → (o′ : Outcome (State rowWorld)) (o″ : Outcome (State termWorld)) → movedTo 0 o ≡ movedTo 0 o′ → SameEnd (Reads kind) o′ o″
+        → bind o″ (storesOf termWorld) ≡ match termWorld kind p (some m) before → MatchEnds p m words code (ended words x o)
+    match-ends m right (done s) comes o′ o″ moved (both-done {a = s′} {b = t′} r) e =
         let same : s ≡ s′ = cc in
-        finishes s (subst (ValidState kind) (sym same) (r .0)) (done-is-matches kind p before (termsOf s .stores) m right (sym e ∙ ap (λ t. done (t .stores)) (r .1 ∙ ap termsOf (sym same))))
-    match-ends m right (stuck place why) o′ o″ moved (both-done r) e = absurd (let z : _≡_ {A = ℕ} 0 1 = cc in omega arith)
-    match-ends m right (room place) o′ o″ moved (both-done r) e = absurd (let z : _≡_ {A = ℕ} 0 1 = cc in omega arith)
-    match-ends m right (done s) o′ o″ moved both-stuck e = absurd (let z : _≡_ {A = ℕ} 0 1 = cc in omega arith)
-    match-ends m right (stuck place why) o′ o″ moved both-stuck e =
+        finishes s comes (subst (ValidState kind) (sym same) (r .0)) (done-is-matches kind p before (termsOf s .stores) m right (sym e ∙ ap (λ t. done (t .stores)) (r .1 ∙ ap termsOf (sym same))))
+    match-ends m right (stuck place why) comes o′ o″ moved (both-done r) e = absurd (let z : _≡_ {A = ℕ} 0 1 = cc in omega arith)
+    match-ends m right (room place) comes o′ o″ moved (both-done r) e = absurd (let z : _≡_ {A = ℕ} 0 1 = cc in omega arith)
+    match-ends m right (done s) comes o′ o″ moved both-stuck e = absurd (let z : _≡_ {A = ℕ} 0 1 = cc in omega arith)
+    match-ends m right (stuck place why) comes o′ o″ moved both-stuck e =
         sticks place (reasonOf why) λ n h. let d = matches-is-done kind right h in let z : _≡_ {A = ℕ} 0 1 = cc in omega arith
-    match-ends m right (room place) o′ o″ moved both-stuck e = absurd (let z : _≡_ {A = ℕ} 0 1 = cc in omega arith)
+    match-ends m right (room place) comes o′ o″ moved both-stuck e = absurd (let z : _≡_ {A = ℕ} 0 1 = cc in omega arith)
 
-    create-ends : RightKinds true kind p → (o o′ : Outcome (State rowWorld)) (o″ : Outcome (State termWorld)) → movedTo 0 o ≡ movedTo 0 o′ → SameEnd (Reads kind) o′ o″
-        → bind o″ (messageOf termWorld) ≡ bind (create termWorld kind p before) (madeOf termWorld) → CreateEnds p words (ended words x o)
-    create-ends right (done s) o′ o″ moved (both-done {a = s′} {b = t′} r) e =
+    create-ends : RightKinds true kind p → (o : Outcome (State rowWorld)) → Comes o → (o′ : Outcome (State rowWorld)) (o″ : Outcome (State termWorld)) → movedTo 0 o ≡ movedTo 0 o′ → SameEnd (Reads kind) o′ o″
+        → bind o″ (messageOf termWorld) ≡ bind (create termWorld kind p before) (madeOf termWorld) → CreateEnds p words code (ended words x o)
+    create-ends right (done s) comes o′ o″ moved (both-done {a = s′} {b = t′} r) e =
         let same : s ≡ s′ = cc in
         made (create termWorld kind p before) refl (e′ (r .1 ∙ ap termsOf (sym same))) (subst (ValidState kind) (sym same) (r .0))
       where
         e′ : t′ ≡ termsOf s → done (termsOf s .accumulator, termsOf s .stores) ≡ bind (create termWorld kind p before) (madeOf termWorld)
         e′ q = sym (ap (λ t. done (t .accumulator, t .stores)) q) ∙ e
 
-        made : (y : Outcome (Term × TermStores)) → create termWorld kind p before ≡ y → done (termsOf s .accumulator, termsOf s .stores) ≡ bind y (madeOf termWorld) → ValidState kind s → CreateEnds p words (leftBy (Ran.Done words) s)
+        made : (y : Outcome (Term × TermStores)) → create termWorld kind p before ≡ y → done (termsOf s .accumulator, termsOf s .stores) ≡ bind y (madeOf termWorld) → ValidState kind s → CreateEnds p words code (leftBy (Ran.Done words) s)
         made (done b) q f v =
             let held-message : termsOf s .accumulator ≡ some (b .0) = ap (λ (o : Outcome (Option Term × TermStores)). first-of o) f in
             let stores : b .1 ≡ termsOf s .stores = sym (ap (λ (o : Outcome (Option Term × TermStores)). second-of o) f) in
-            finishes s (b .0) v held-message (done-is-creates kind p before (termsOf s .stores) (b .0) right (q ∙ ap (λ n. done (b .0, n)) stores))
+            finishes s (b .0) comes v held-message (done-is-creates kind p before (termsOf s .stores) (b .0) right (q ∙ ap (λ n. done (b .0, n)) stores))
           where
             first-of : Outcome (Option Term × TermStores) → Option Term
             first-of (done c) = c .0
@@ -122,12 +129,12 @@ module _ (x : Lent) where
             second-of (room place) = before
         made (stuck place why) q f v = absurd (let z : _≡_ {A = ℕ} 0 1 = cc in omega arith)
         made (room place) q f v = absurd (let z : _≡_ {A = ℕ} 0 1 = cc in omega arith)
-    create-ends right (stuck place why) o′ o″ moved (both-done r) e = absurd (let z : _≡_ {A = ℕ} 0 1 = cc in omega arith)
-    create-ends right (room place) o′ o″ moved (both-done r) e = absurd (let z : _≡_ {A = ℕ} 0 1 = cc in omega arith)
-    create-ends right (done s) o′ o″ moved both-stuck e = absurd (let z : _≡_ {A = ℕ} 0 1 = cc in omega arith)
-    create-ends right (stuck place why) o′ o″ moved both-stuck e =
+    create-ends right (stuck place why) comes o′ o″ moved (both-done r) e = absurd (let z : _≡_ {A = ℕ} 0 1 = cc in omega arith)
+    create-ends right (room place) comes o′ o″ moved (both-done r) e = absurd (let z : _≡_ {A = ℕ} 0 1 = cc in omega arith)
+    create-ends right (done s) comes o′ o″ moved both-stuck e = absurd (let z : _≡_ {A = ℕ} 0 1 = cc in omega arith)
+    create-ends right (stuck place why) comes o′ o″ moved both-stuck e =
         sticks place (reasonOf why) λ m n h. let d = creates-is-done kind right h in let z : _≡_ {A = ℕ} 0 1 = cc (ap (λ y. bind y (madeOf termWorld)) d) in omega arith
-    create-ends right (room place) o′ o″ moved both-stuck e = absurd (let z : _≡_ {A = ℕ} 0 1 = cc in omega arith)
+    create-ends right (room place) comes o′ o″ moved both-stuck e = absurd (let z : _≡_ {A = ℕ} 0 1 = cc in omega arith)
 
 -- an instruction in range has a byte that fits
 byte-fits : (kind : ℕ → ℕ) (i : Instruction) → InRange kind i → T (operandsFit kind i) × ByteFits i
@@ -187,21 +194,21 @@ module _ (create : Bool) (pattern slice : List ℕ) (x : Lent) (a : Accepted x) 
 -- Matching: the accumulator's term is the message.
 pub matching-demand : (pattern slice : List ℕ) (x : Lent) → Accepted x → (words : ℕ) (row : ℕ) → held (x .accumulator) ≡ some row
     → compile false pattern (x .kinds) (x .objects) (take namedCells (x .messages)) slice .answer ≡ Compiled.Done words → Free words words (stateOf x .stores .memory)
-    → MatchEnds x (patternOf pattern) (meaning (x .terms) row) words (run x (take words (compile false pattern (x .kinds) (x .objects) (take namedCells (x .messages)) slice .code)))
+    → MatchEnds x (patternOf pattern) (meaning (x .terms) row) words (take words (compile false pattern (x .kinds) (x .objects) (take namedCells (x .messages)) slice .code)) (run x (take words (compile false pattern (x .kinds) (x .objects) (take namedCells (x .messages)) slice .code)))
 unfolding stateOver
 matching-demand pattern slice x a words row set answer free =
     rw (steps false pattern slice x a words answer free)
-    (match-ends x (patternOf pattern) words (meaning (x .terms) row) (compiled false pattern slice x a words answer free .right)
-    (exec rowWorld (kindIn (x .kinds)) (linesOf (codeWords (lines false pattern slice x a words answer free))) (stateOf x)) _ _ (moved false pattern slice x a words answer free) (ends-same false pattern slice x a words answer free)
+    (match-ends x (patternOf pattern) words (code false pattern slice x a words answer free) (meaning (x .terms) row) (compiled false pattern slice x a words answer free .right)
+    (exec rowWorld (kindIn (x .kinds)) (linesOf (codeWords (lines false pattern slice x a words answer free))) (stateOf x)) (ap (λ c. exec rowWorld (kindIn (x .kinds)) (linesOf c) (stateOf x)) (code-words false pattern slice x a words answer free)) _ _ (moved false pattern slice x a words answer free) (ends-same false pattern slice x a words answer free)
     (matching-runs termWorld (kindIn (x .kinds)) (patternOf pattern) (raws-below pattern) (termsOf (stateOf x)) (ap (compile↓ (patternOf pattern)) (sym (entry-known x)) ∙ compiled false pattern slice x a words answer free .compiles .emits)
     ∙ ap (λ m. match termWorld (kindIn (x .kinds)) (patternOf pattern) m (before x)) (ap (Option·map (meaning (x .terms))) set)))
 
 -- Creating: the message is in the accumulator afterwards.
 pub creating-demand : (pattern slice : List ℕ) (x : Lent) → Accepted x → (words : ℕ)
     → compile true pattern (x .kinds) (x .objects) (take namedCells (x .messages)) slice .answer ≡ Compiled.Done words → Free words words (stateOf x .stores .memory)
-    → CreateEnds x (patternOf pattern) words (run x (take words (compile true pattern (x .kinds) (x .objects) (take namedCells (x .messages)) slice .code)))
+    → CreateEnds x (patternOf pattern) words (take words (compile true pattern (x .kinds) (x .objects) (take namedCells (x .messages)) slice .code)) (run x (take words (compile true pattern (x .kinds) (x .objects) (take namedCells (x .messages)) slice .code)))
 creating-demand pattern slice x a words answer free =
     rw (steps true pattern slice x a words answer free)
-    (create-ends x (patternOf pattern) words (compiled true pattern slice x a words answer free .right)
-    (exec rowWorld (kindIn (x .kinds)) (linesOf (codeWords (lines true pattern slice x a words answer free))) (stateOf x)) _ _ (moved true pattern slice x a words answer free) (ends-same true pattern slice x a words answer free)
+    (create-ends x (patternOf pattern) words (code true pattern slice x a words answer free) (compiled true pattern slice x a words answer free .right)
+    (exec rowWorld (kindIn (x .kinds)) (linesOf (codeWords (lines true pattern slice x a words answer free))) (stateOf x)) (ap (λ c. exec rowWorld (kindIn (x .kinds)) (linesOf c) (stateOf x)) (code-words true pattern slice x a words answer free)) _ _ (moved true pattern slice x a words answer free) (ends-same true pattern slice x a words answer free)
     (creating-runs termWorld (kindIn (x .kinds)) (patternOf pattern) (raws-below pattern) (termsOf (stateOf x)) (ap (compile↑ (kindIn (x .kinds)) (patternOf pattern)) (sym (entry-known x)) ∙ compiled true pattern slice x a words answer free .compiles .emits)))

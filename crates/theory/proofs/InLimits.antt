@@ -12,7 +12,7 @@ use Rattle.word.proofs.All.{All}
 use Rattle.word.proofs.TestLaws.{both, at-most}
 use Rattle.word.proofs.LowestLaws.{one-of-two}
 use Rattle.answers.specs.declared.Compiled.{Compiled}
-use Rattle.answers.specs.declared.Compiled.the-variants.{WrongKind, WrittenWhileSet, ReadWhileUnset}
+use Rattle.answers.specs.declared.Compiled.the-variants.{WrittenWhileSet, ReadWhileUnset}
 use Rattle.code.specs.Instruction.{asObject}
 use Rattle.code.specs.Words.{hasKind, operandsFit}
 use Rattle.code.specs.declared.Instruction.{Instruction}
@@ -53,9 +53,8 @@ pub record InRange (kind : ℕ → ℕ) (i : Instruction) : Type 0 where
 abbrev pub AllInRange : (ℕ → ℕ) → List Line → Type 0
 AllInRange kind c = All (λ l. InRange kind (l .instruction)) c
 
--- what emission refuses with
+-- what emission refuses with, where kinds are right: 6 or 7
 pub data Refusal : Compiled → Type 0 where
-  wrong : {row : ℕ} → Refusal (WrongKind row)
   written : {row : ℕ} → Refusal (WrittenWhileSet row)
   read : {row : ℕ} → Refusal (ReadWhileUnset row)
 
@@ -309,8 +308,8 @@ module _ (kind : ℕ → ℕ) (declared : (v : ℕ) → 64 ≤ v → kind v ≡ 
         first kind row _ (decode-fits v 6 (eqb→eq _ _ q) tt) (e .next) w n _ e (omega arith) (omega arith) λ e₁ h₁.
         first kind row _ (record { operands = has-either dk 4 5 (5 ∷ 6 ∷ []) t tt tt; cells = tt }) (e .next) (w - 1) n _ e₁ (omega arith) h₁ λ e₂ h₂.
         takes↓ p (w - 1 - 1) n e₂ (k .1) r b m (omega arith) (omega arith)
-    takes↓ (encryption row v (opKey x y) p) w n e k r b m l h = refused kind w n wrong
-    takes↓ (encryption row v (certifiedKey x y) p) w n e k r b m l h = refused kind w n wrong
+    takes↓ (encryption row v (opKey x y) p) w n e k r b m l h = absurd (both (eqb (kind v) 7) false .0 (k .0) .1)
+    takes↓ (encryption row v (certifiedKey x y) p) w n e k r b m l h = absurd (both (eqb (kind v) 7) false .0 (k .0) .1)
     takes↓ (signature row s key r) w n e k d b m l h =
         let (q, t) = both (eqb (kind s) 8) (publicSide kind key) .0 k in
         first kind row _ (decode-fits s 7 (eqb→eq _ _ q) tt) (e .next) w n _ e (omega arith) (omega arith) λ e₁ h₁.
@@ -454,7 +453,7 @@ module _ (kind : ℕ → ℕ) (declared : (v : ℕ) → 64 ≤ v → kind v ≡ 
   pub creating-in-limits : (p : Pattern) (e e′ : Env) (c : List Line) → RightKinds true kind p → RawsBelow 64 p → Packed p → size p ≤ 96 → e .next ≡ 0 → compile↑ kind p e ≡ ok c e′ → InLimits kind c e′
   creating-in-limits p e e′ c k r b s z q = within _ c e′ (takes↑ p 767 191 e k r b (omega arith) (omega arith) (omega arith)) q
 
-  -- and where it refuses, that is with 5, 6 or 7
+  -- and where it refuses, that is with 6 or 7
   refusal : (E : Emitted) (answer : Compiled) → Takes kind 767 191 E → E ≡ refuse answer → Refusal answer
   unfolding TakesT
   refusal E answer t p = (rw p at t) .taken

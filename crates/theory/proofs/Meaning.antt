@@ -1,4 +1,4 @@
--- The meaning of a row: the term that its shape makes of the meanings of its parts. Different rows mean different terms.
+-- Laws of what rows mean: in a valid table different rows mean different terms, and rows that are kept keep their meanings.
 use mathlib.Core.Path.{_≡_, refl, sym, _∙_, ap, ap₂}
 use mathlib.Core.List.{List, [], _∷_, map}
 use Prim.Native.Nat.{ℕ, zero, suc, _<_}
@@ -11,24 +11,8 @@ use Rattle.terms.specs.Rules.{usedRows}
 use Rattle.terms.proofs.TableLaws.{ValidTable}
 use Rattle.theory.specs.TermModel.{Term, listed, collected, termOf}
 use Rattle.theory.specs.TermModel as Term
+use Rattle.theory.specs.Meaning.{reshaped, termAt, meaning}
 use Rattle.theory.proofs.Related.{EachR, nil, cons, ShapeR, atomR, encryptedR, signedR, hashedR, tupledR}
-
--- a shape over other parts
-module _ {A B : Type 0} (g : A → B) where
-  abbrev pub reshaped : Shape A → Shape B
-  reshaped (atom tag number) = atom tag number
-  reshaped (encrypted key body) = encrypted (g key) (g body)
-  reshaped (signed key body) = signed (g key) (g body)
-  reshaped (hashed body) = hashed (g body)
-  reshaped (tupled parts) = tupled (map g parts)
-
--- the term of a row, to a depth; the parts of a row have smaller numbers, so its own is deep enough
-unfoldable pub termAt : List ℕ → ℕ → ℕ → Term
-termAt rows zero row = Term.atom 0 0
-termAt rows (suc depth) row = termOf (reshaped (termAt rows depth) (shapeOf (getD rows row 0)))
-
-abbrev pub meaning : List ℕ → ℕ → Term
-meaning rows row = termAt rows (suc row) row
 
 -- a term and its shape
 pub shape-listed : (parts : List Term) → listed (collected parts) ≡ parts

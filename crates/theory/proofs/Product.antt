@@ -63,6 +63,15 @@ module _ (create : Bool) (pattern kinds objects named : List ℕ) (kinds-length 
         fields = packed pattern;
       }
 
+  -- once the checks have passed, kinds are right and emission refuses with 6 or 7 alone
+  pub checked-right : Checked create pattern kinds objects named → RightKinds create (kindIn kinds) (patternOf pattern)
+  checked-right c = given c .right
+
+  pub checked-refuses : Checked create pattern kinds objects named → (answer : Compiled) → tables create (kindIn kinds) (patternOf pattern) (entry objects named) ≡ refuse answer → Refusal answer
+  checked-refuses c answer =
+      let g = given c in
+      tables-refuse (kindIn kinds) declared-kinds create (patternOf pattern) (entry objects named) answer (g .right) (g .raws) (g .fields) (g .few) refl
+
   -- a done compile: the checks have passed, and its words are those of lines within limits
   pub record Written (words : ℕ) (after : List ℕ) : Type 0 where
     pub compiles : Compiles create pattern kinds objects named words after
@@ -71,8 +80,7 @@ module _ (create : Bool) (pattern kinds objects named : List ℕ) (kinds-length 
 
   pub compile-writes : (slice : List ℕ) (words : ℕ) → compile create pattern kinds objects named slice .answer ≡ Done words → Written words (compile create pattern kinds objects named slice .code)
   compile-writes slice words e =
-      let c = done-compiles create pattern kinds objects named slice words
-      (λ checks answer q. let g = given checks in tables-refuse (kindIn kinds) declared-kinds create (patternOf pattern) (entry objects named) answer (g .right) (g .raws) (g .fields) (g .few) refl q) e in
+      let c = done-compiles create pattern kinds objects named slice words checked-refuses e in
       let g = given (c .checks) in
       record {
         compiles = c;

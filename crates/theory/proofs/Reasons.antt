@@ -1,9 +1,10 @@
 -- The reasons for which a world may say no.
 use Prim.Native.Nat.{ℕ}
-use mathlib.Core.Path.{_≡_}
+use mathlib.Core.Bool.{_&&_}
 use mathlib.Core.Option.{Option, none, some}
+use lib.Dec.{T, ltb, leb}
 use Rattle.answers.specs.Numbers.{reasonNumber}
-use Rattle.answers.specs.declared.Reason.the-variants.{Unset}
+use Rattle.answers.specs.declared.Reason.the-variants.{Unset, NotVerified}
 use Rattle.theory.specs.Outcome.{Outcome, done, stuck, room, Answer, got, not, full, at}
 use Rattle.theory.specs.World.{World, Op, Test}
 
@@ -50,10 +51,10 @@ module _ {A : Type 0} where
 pub any-world : (W : World) → WorldWithin AnyReason W
 any-world W = record { apply = λ o x. any-answer _; test = λ t x. any-answer _; parts = λ m n x. any-answer _ }
 
--- any reason but that of an unset cell
-abbrev pub NotUnset : ℕ → Type 0
-NotUnset why = why ≡ reasonNumber Unset → ⊥
+-- one of document 01's reasons but that of an unset cell
+abbrev pub OwnReason : ℕ → Type 0
+OwnReason why = T (ltb (reasonNumber Unset) why && leb why (reasonNumber NotVerified))
 
 -- a world that never says of its own that a cell is unset
 abbrev pub Calm : World → Type 0
-Calm W = WorldWithin NotUnset W
+Calm W = WorldWithin OwnReason W

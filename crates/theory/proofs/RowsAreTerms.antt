@@ -2,7 +2,7 @@
 use mathlib.Core.Path.{_≡_, refl, sym, _∙_, ap, fun-ext}
 use mathlib.Core.Logic.{_↔_, inl, inr, _≢_}
 use mathlib.Core.Bool.{Bool, true, false, cond}
-use mathlib.Core.Option.{Option, none, some}
+use mathlib.Core.Option.{some}
 use mathlib.Core.List.{List, [], _∷_}
 use Prim.Native.Nat.{ℕ, suc, _+_, _<_}
 use native.Mathlib.Omega.{arith}
@@ -25,18 +25,13 @@ use Rattle.theory.specs.Model.{numberOf}
 use Rattle.theory.specs.RowModel.{Table, withRows, withCounter, mostNames, name, placed, rowModel, rowWorld}
 use Rattle.theory.specs.TermModel.{Term, Names, sameTerm, isYes, termOf, termModel, termWorld}
 use Rattle.theory.specs.TermModel as Term
+use Rattle.theory.specs.Meaning.{reshaped, meaning, certifiedTerm}
 use Rattle.theory.proofs.Related.{EachR, nil, cons, CellR, unset, AnswerR, gots, fulls, ShapeR, atomR, encryptedR, signedR, hashedR, tupledR, each-length, same-kind, shape-map}
 use Rattle.theory.proofs.Related as Related
 use Rattle.theory.proofs.Refinement.{Reading, Kept, Made}
 use Rattle.theory.proofs.ModelRefinement.{Makeable, Fresh, ModelRefines}
 use Rattle.theory.proofs.ValidMemory.{ValidMemory, used-inside, row-small, name-taken, row-kept, row-added}
-use Rattle.theory.proofs.Meaning.{reshaped, meaning, shape-term, meaning-of, shape-related, meaning-once, meaning-kept, related-reshaped}
-
--- the public key term of an agent term
-unfoldable pub certifiedTerm : List ℕ → List ℕ → Term → Option Term
-certifiedTerm rows [] t = none
-certifiedTerm rows (word ∷ rest) t =
-    cond (isYes (sameTerm (meaning rows (agentOf word)) t)) (some (meaning rows (keyOf word))) (certifiedTerm rows rest t)
+use Rattle.theory.proofs.Meaning.{shape-term, meaning-of, shape-related, meaning-once, meaning-kept, related-reshaped}
 
 -- what a table is in the world of terms
 abbrev pub namesOf : Table → Names

@@ -15,7 +15,7 @@ use Rattle.theory.proofs.Fitting.{ByteFits, fits}
 use Rattle.theory.proofs.Related.{CellR, unset, set, OutcomeR, outcome-map}
 use Rattle.theory.proofs.Refinement.{ObjectR, StateR, exec-related}
 use Rattle.theory.proofs.ModelRefinement.{worlds-refine}
-use Rattle.theory.proofs.Meaning.{meaning}
+use Rattle.theory.specs.Meaning.{meaning}
 use Rattle.theory.proofs.ValidMemory.{ValidMemory}
 use Rattle.theory.proofs.RowsAreTerms.{namesOf, Means, rowsRead, rows-are-terms, tag-means}
 

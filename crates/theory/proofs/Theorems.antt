@@ -37,7 +37,7 @@ use Rattle.theory.proofs.Fitting.{ByteFits}
 use Rattle.theory.proofs.Related.{OutcomeR}
 use Rattle.theory.proofs.RowsRunAsTerms.{ValidState, Reads, rows-run-as-terms}
 use Rattle.theory.proofs.Room.{Free, never-room}
-use Rattle.theory.proofs.Meaning.{meaning}
+use Rattle.theory.specs.Meaning.{meaning}
 use Rattle.theory.proofs.RowsKept.{Appended}
 use Rattle.theory.proofs.ValidLent.{Accepted}
 use Rattle.theory.proofs.ValidAgain.{lentAfter, accepted-again}
@@ -125,12 +125,12 @@ sees-slice-length create pattern kinds = same-slices create pattern kinds
 -- finishes with stores (and message and counter) that the figures give, and gets stuck only where they give nothing. It is never out of room.
 pub demand-3-matching : (pattern slice : List ℕ) (x : Lent) → Accepted x → (words row : ℕ) → held (x .accumulator) ≡ some row
     → compile false pattern (x .kinds) (x .objects) (take namedCells (x .messages)) slice .answer ≡ Done words → Free words words (stateOf x .stores .memory)
-    → MatchEnds x (patternOf pattern) (meaning (x .terms) row) words (run x (take words (compile false pattern (x .kinds) (x .objects) (take namedCells (x .messages)) slice .code)))
+    → MatchEnds x (patternOf pattern) (meaning (x .terms) row) words (take words (compile false pattern (x .kinds) (x .objects) (take namedCells (x .messages)) slice .code)) (run x (take words (compile false pattern (x .kinds) (x .objects) (take namedCells (x .messages)) slice .code)))
 demand-3-matching = matching-demand
 
 pub demand-3-creating : (pattern slice : List ℕ) (x : Lent) → Accepted x → (words : ℕ)
     → compile true pattern (x .kinds) (x .objects) (take namedCells (x .messages)) slice .answer ≡ Done words → Free words words (stateOf x .stores .memory)
-    → CreateEnds x (patternOf pattern) words (run x (take words (compile true pattern (x .kinds) (x .objects) (take namedCells (x .messages)) slice .code)))
+    → CreateEnds x (patternOf pattern) words (take words (compile true pattern (x .kinds) (x .objects) (take namedCells (x .messages)) slice .code)) (run x (take words (compile true pattern (x .kinds) (x .objects) (take namedCells (x .messages)) slice .code)))
 demand-3-creating = creating-demand
 
 -- After a finished run the stores and the table pass run's checks again.

@@ -30,7 +30,7 @@ unfolding cellsFrom
 length-cells n zero store = refl
 length-cells n (suc count) store = ap suc (length-cells (suc n) count store)
 
-getD-cells : (n count : ℕ) (store : ℕ → Option ℕ) (i : ℕ) → i < count → getD (cellsFrom n count store) i unset ≡ cellOf (store (n + i))
+pub getD-cells : (n count : ℕ) (store : ℕ → Option ℕ) (i : ℕ) → i < count → getD (cellsFrom n count store) i unset ≡ cellOf (store (n + i))
 unfolding cellsFrom
 getD-cells n zero store i h = absurd (omega arith)
 getD-cells n (suc count) store zero h = rw (add-zero n)

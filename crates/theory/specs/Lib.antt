@@ -5,6 +5,7 @@ pub mod World
 pub mod Model
 pub mod RowModel
 pub mod TermModel
+pub mod Meaning
 pub mod Machine
 pub mod Emission
 pub mod Compilers

@@ -1,0 +1,93 @@
+-- The two cases by evaluation, and the figures by demand 3.
+use mathlib.Core.Path.{_≡_, refl}
+use mathlib.Core.Bool.{true, false}
+use mathlib.Core.Option.{some}
+use mathlib.Core.List.{[]}
+use native.Mathlib.Omega.{arith}
+use lib.ListN.{take}
+use Rattle.word.specs.Lowest.{lowestFrom, each, oneOf}
+use Rattle.code.specs.Instruction as Code
+use Rattle.code.specs.Words.{goodWord, badWord}
+use Rattle.terms.specs.Row as Row
+use Rattle.terms.specs.Rules.{usedRows, knownTag, unusedZero, numberFits, partsBelow, keyFits, earlierEqual, badRow, badTerm}
+use Rattle.terms.specs.Finder.{equalRow, locate}
+use Rattle.stores.specs.Cells.{held, cellOf, storeOf, cellsFrom}
+use Rattle.stores.specs.Certificates.{agentOf, keyOf, spareOf, certified, pairFits, agentsOnce}
+use Rattle.stores.specs.Valid.{kindsFit, eachVariable, valid}
+use Rattle.theory.specs.Store.{put}
+use Rattle.theory.specs.Machine.{namedCells, message, setMessage, setMessages, messages}
+use Rattle.theory.specs.Meaning.{termAt}
+use Rattle.theory.specs.Compile.{first}
+use Rattle.theory.specs.Run.{stateOver, leftBy, linesFrom, run}
+use Rattle.theory.specs.Cases.{cells, slice, P1-code, P2-code}
+use Rattle.theory.proofs.SetCells.{SameSet}
+use Rattle.theory.proofs.Cases.{worked}
+use Rattle.promises.specs.Answers.{RunAnswers}
+use Rattle.promises.specs.Reading.{messageBefore, messageAfter}
+use Rattle.promises.specs.Demand3.{Prepared}
+use Rattle.promises.specs.Example.{P1-pattern, P1-lent, P1-message, P2-pattern, P2-lent, P2-message, Example}
+use Rattle.promises.proofs.NumberLaws.{run-table}
+use Rattle.promises.proofs.DecisionLaws.{decided-match, decided-creation}
+
+P1-run : RunAnswers (run P1-lent P1-code) 0 6 0
+unfolding lowestFrom each oneOf Code.wordOf Code.instructionOf goodWord badWord Row.wordOf Row.tagOf Row.shapeOf usedRows knownTag unusedZero numberFits partsBelow keyFits earlierEqual badRow badTerm equalRow locate held cellOf storeOf cellsFrom agentOf keyOf spareOf certified pairFits agentsOnce kindsFit eachVariable valid put message setMessage setMessages messages first stateOver leftBy linesFrom run
+P1-run = (refl, refl, refl)
+
+P2-run : RunAnswers (run P2-lent P2-code) 0 6 0
+P2-run = let e = worked .0 .P2-run in rw e (refl, refl, refl)
+
+P1-held : messageBefore P1-lent ≡ some P1-message
+unfolding termAt held Row.wordOf Row.tagOf Row.shapeOf
+P1-held = refl
+
+P2-held : messageAfter (run P2-lent P2-code) ≡ some P2-message
+unfolding termAt held Row.wordOf Row.tagOf Row.shapeOf
+P2-held = let e = worked .0 .P2-run in rw e refl
+
+-- all cells unset, as they are lent
+no-cells : SameSet (cells []) (take namedCells (P1-lent .messages))
+no-cells = record { same-length = refl; same-set = λ i. refl }
+
+same : SameSet (cells []) (cells [])
+same = record { same-length = refl; same-set = λ i. refl }
+
+P1-prepared : Prepared false P1-pattern P1-lent P1-code
+unfolding usedRows Row.wordOf
+P1-prepared = record {
+  compiled = let e = worked .0 .P1 in record {
+    objects = cells [];
+    named = cells [];
+    slice = slice;
+    done = rw e refl;
+    part = rw e refl;
+    same-objects = same;
+    same-named = no-cells;
+  };
+  valid = run-table P1-lent P1-code .done 6 .0 P1-run .0 .valid;
+  room = record { rows = omega arith; names = omega arith };
+}
+
+P2-prepared : Prepared true P2-pattern P2-lent P2-code
+unfolding usedRows
+P2-prepared = record {
+  compiled = let e = worked .0 .P2 in record {
+    objects = cells [];
+    named = cells [];
+    slice = slice;
+    done = rw e refl;
+    part = rw e refl;
+    same-objects = same;
+    same-named = no-cells;
+  };
+  valid = run-table P2-lent P2-code .done 6 .0 P2-run .0 .valid;
+  room = record { rows = omega arith; names = omega arith };
+}
+
+pub example : Example
+example = record {
+  P1-prepared = P1-prepared;
+  P1-message-held = P1-held;
+  P1-matches = decided-match P1-prepared P1-held .finishes _ .1 (P1-run, refl);
+  P2-prepared = P2-prepared;
+  P2-creates = decided-creation P2-prepared .finishes P2-message _ .1 (P2-run, P2-held, refl);
+}

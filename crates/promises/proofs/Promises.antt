@@ -1,0 +1,20 @@
+-- All promises, each by the page that proves it.
+use Rattle.theory.proofs.Cases.{worked}
+use Rattle.promises.specs.Promises.{Promises}
+use Rattle.promises.proofs.Demand1.{demand-1}
+use Rattle.promises.proofs.Demand2.{demand-2}
+use Rattle.promises.proofs.Demand3.{demand-3}
+use Rattle.promises.proofs.Example.{example}
+use Rattle.promises.proofs.ListingLaws.{listing-table}
+
+pub promises : Promises
+promises = record {
+  demand-1 = demand-1;
+  demand-2 = demand-2;
+  demand-3 = demand-3;
+  example = example;
+  listings = listing-table;
+  cases = worked .0;
+  orders = worked .1;
+  corners = worked .2;
+}

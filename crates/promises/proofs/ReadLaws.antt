@@ -1,0 +1,97 @@
+-- Compiled code never reads what is unset.
+use Prim.Native.Nat.{ℕ}
+use mathlib.Core.Path.{_≡_, refl, sym, _∙_, ap}
+use mathlib.Core.Logic.{_≢_}
+use mathlib.Core.Bool.{Bool, true, false, cond, not}
+use mathlib.Core.Option.{none, some}
+use mathlib.Core.List.{List, map}
+use native.Mathlib.Omega.{arith}
+use lib.Dec.{eqb}
+use lib.ListN.{length, getD, take}
+use Rattle.answers.specs.Numbers.{ranReason}
+use Rattle.answers.specs.declared.Ran.{Ran}
+use Rattle.answers.specs.declared.Ran.the-variants as Ran
+use Rattle.stores.specs.Cells.{unset, isSet, held, storeOf}
+use Rattle.patterns.specs.Tree.{patternOf}
+use Rattle.patterns.proofs.TreeLaws.{raws-below}
+use Rattle.theory.specs.Outcome.{Outcome, done, stuck, room, isSome}
+use Rattle.theory.specs.RowModel.{rowWorld}
+use Rattle.theory.specs.TermModel.{Term}
+use Rattle.theory.specs.Machine.{Line, namedCells, exec}
+use Rattle.theory.specs.Compilers.{compile↓, compile↑}
+use Rattle.theory.specs.Compile.{kindIn, variables, entry, compile}
+use Rattle.theory.specs.Run.{Lent, stateOver, stateOf, linesOf, run}
+use Rattle.theory.proofs.Compiled.{known}
+use Rattle.theory.proofs.Places.{movedTo, same-instructions}
+use Rattle.theory.proofs.CompiledWords.{compiled-words-read}
+use Rattle.theory.proofs.Theorems.{reads-set-matching, reads-set-creating}
+use Rattle.promises.specs.Reading.{messageBefore}
+use Rattle.promises.specs.Demand3.{CodeFor}
+use Rattle.promises.proofs.RunLaws.{Passed, stepsOf, RunGives, run-gives}
+use Rattle.promises.proofs.ValidLaws.{passed-valid}
+use Rattle.promises.proofs.DecisionLaws.{held-row}
+use Rattle.promises.proofs.CodeLaws.{written, own-code}
+
+-- a run with reason 1 has steps that are stuck so
+unset-steps : (x : Lent) (code : List ℕ) (answer : Ran) → RunGives x code answer → ranReason answer ≡ 1 → (word : ℕ) × Passed x code × (stepsOf x code ≡ stuck word 1)
+unset-steps x code (Ran.Stuck word reason) (p, e) q = (word, p, e ∙ ap (stuck word) q)
+unset-steps x code (Ran.Done words) g q = absurd (omega arith)
+unset-steps x code Ran.Limit g q = absurd (omega arith)
+unset-steps x code (Ran.BadTerm row) g q = absurd (omega arith)
+unset-steps x code Ran.BadStore g q = absurd (omega arith)
+unset-steps x code (Ran.BadWord word) g q = absurd (omega arith)
+unset-steps x code (Ran.NoRoom word) g q = absurd (omega arith)
+
+-- at another place it is stuck for the same reason
+stuck-there : {A : Type 0} (o : Outcome A) (why : ℕ) → movedTo 0 o ≡ stuck 0 why → (place : ℕ) × (o ≡ stuck place why)
+stuck-there (done a) why e = absurd (let z : _≡_ {A = ℕ} 0 1 = cc in omega arith)
+stuck-there (stuck place other) why e = (place, cc)
+stuck-there (room place) why e = absurd (let z : _≡_ {A = ℕ} 0 1 = cc in omega arith)
+
+-- compile sees of a row's cell whether it is set
+set-held : (cell : ℕ) → isSet cell ≡ isSome (held cell)
+unfolding held
+set-held cell = go (eqb cell unset)
+  where
+    go : (b : Bool) → not b ≡ isSome (cond b none (some cell))
+    go true = refl
+    go false = refl
+
+entry-known : (x : Lent) → entry (x .objects) (take namedCells (x .messages)) ≡ known rowWorld (stateOf x .stores)
+unfolding stateOver storeOf
+entry-known x = λ i. record {
+  objects = λ v. set-held (getD (x .objects) v unset) i;
+  raws = λ r. set-held (getD (take namedCells (x .messages)) r unset) i;
+  next = 0;
+}
+
+module _ {create : Bool} {pattern : List ℕ} {x : Lent} {code : List ℕ} (c : CodeFor create pattern x code) (p : Passed x code) where
+  long : length (x .kinds) ≡ variables
+  long = passed-valid p .within .kinds
+
+  abbrev lines : List Line
+  lines = written c long .compiles .lines
+
+  -- the lines that the words were written for are stuck for the same reason
+  lines-stuck : (word why : ℕ) → stepsOf x code ≡ stuck word why → (place : ℕ) × (exec rowWorld (kindIn (x .kinds)) lines (stateOf x) ≡ stuck place why)
+  lines-stuck word why e =
+      stuck-there (exec rowWorld (kindIn (x .kinds)) lines (stateOf x)) why
+      (sym (same-instructions rowWorld (kindIn (x .kinds)) (linesOf code) lines (stateOf x)
+      (ap (λ words. map (λ l. l .instruction) (linesOf words)) (own-code c long) ∙ compiled-words-read (kindIn (x .kinds)) lines (written c long .limits .lines)))
+      ∙ ap (movedTo 0) e)
+
+pub match-reads : {pattern code : List ℕ} {x : Lent} {m : Term} → CodeFor false pattern x code → messageBefore x ≡ some m → ranReason (run x code .answer) ≢ 1
+unfolding stateOver
+match-reads {pattern} {code} {x} {m} c message e =
+    let (word, p, h) = unset-steps x code (run x code .answer) (run-gives x code refl) e in
+    let stuck = lines-stuck c p word 1 h in
+    let row = held-row (x .terms) (x .accumulator) m message in
+    reads-set-matching (kindIn (x .kinds)) (patternOf pattern) (raws-below pattern) (stateOf x) (row .0) (row .1)
+    (ap (compile↓ (patternOf pattern)) (sym (entry-known x)) ∙ written c (long c p) .compiles .emits) (stuck .0) (stuck .1)
+
+pub create-reads : {pattern code : List ℕ} {x : Lent} → CodeFor true pattern x code → ranReason (run x code .answer) ≢ 1
+create-reads {pattern} {code} {x} c e =
+    let (word, p, h) = unset-steps x code (run x code .answer) (run-gives x code refl) e in
+    let stuck = lines-stuck c p word 1 h in
+    reads-set-creating (kindIn (x .kinds)) (patternOf pattern) (raws-below pattern) (stateOf x)
+    (ap (compile↑ (kindIn (x .kinds)) (patternOf pattern)) (sym (entry-known x)) ∙ written c (long c p) .compiles .emits) (stuck .0) (stuck .1)

@@ -1,0 +1,117 @@
+-- The conditions of document 01's numbers, as propositions.
+use Prim.Native.Nat.{ℕ, _+_, _-_, _<_, _≤_}
+use mathlib.Core.Path.{_≡_}
+use mathlib.Core.Logic.{_≢_, _⊎_}
+use mathlib.Core.Bool.{Bool}
+use mathlib.Core.List.{List}
+use lib.ListN.{length, getD}
+use Rattle.word.proofs.ScanLaws.{LowestWith, NoneWith}
+use Rattle.code.proofs.WordLaws.{LowestBadWord, AllGoodWords}
+use Rattle.terms.specs.Rules.{usedRows}
+use Rattle.terms.proofs.TableLaws.{Sound, ValidTable}
+use Rattle.stores.specs.Cells.{unset}
+use Rattle.stores.proofs.ValidLaws as Stores
+use Rattle.patterns.specs.Tree.{patternOf}
+use Rattle.patterns.proofs.RuleLaws.{fieldsAt, BadRow, Unnamed}
+use Rattle.patterns.proofs.RightRow.{RightRow}
+use Rattle.theory.specs.RowModel.{mostNames}
+use Rattle.theory.specs.Machine.{Line}
+use Rattle.theory.specs.Emission.{Env, Emitted, ok}
+use Rattle.theory.specs.Compile.{kindIn, variables, mostPatternRows, tables, entry}
+use Rattle.theory.specs.Run.{Lent, mostCodeWords, mostTermRows, mostCertificates, messageCells}
+
+-- a cell by its number
+abbrev pub cell : List ℕ → ℕ → ℕ
+cell cells i = getD cells i unset
+
+-- COMPILE
+
+-- not 1: 1 to 96 pattern rows, 64 kinds, 64 object cells, 64 named cells
+pub record CompileWithin (pattern kinds objects named : List ℕ) : Type 0 where
+  pub pattern-rows : (1 ≤ length pattern) × (length pattern ≤ mostPatternRows)
+  pub kinds-length : length kinds ≡ variables
+  pub objects-length : length objects ≡ variables
+  pub named-length : length named ≡ variables
+
+-- 3: a kind above 10, or an undeclared variable that is set
+pub record BadVariable (kinds objects : List ℕ) : Type 0 where
+  pub variable : ℕ
+  pub inside : variable < variables
+  pub bad : (10 < kindIn kinds variable) ⊎ ((kindIn kinds variable ≡ 0) × (cell objects variable ≢ unset))
+
+-- 4: the lowest row bad in itself or naming a child already taken, else the lowest row nobody names; the last row is the root
+abbrev pub BadPatternAt : List ℕ → ℕ → Type 0
+BadPatternAt pattern row =
+    LowestWith (BadRow pattern) (length pattern) row ⊎ (NoneWith (BadRow pattern) (length pattern) × LowestWith (Unnamed pattern) (length pattern - 1) row)
+
+abbrev pub GoodPattern : List ℕ → Type 0
+GoodPattern pattern = NoneWith (BadRow pattern) (length pattern) × NoneWith (Unnamed pattern) (length pattern - 1)
+
+-- 5: the lowest row with a wrong kind
+abbrev pub WrongKindAt : Bool → List ℕ → List ℕ → ℕ → Type 0
+WrongKindAt create kinds pattern row = LowestWith (λ row. RightRow create (kindIn kinds) (fieldsAt pattern row) → ⊥) (length pattern) row
+
+abbrev pub RightPattern : Bool → List ℕ → List ℕ → Type 0
+RightPattern create kinds pattern = (row : ℕ) → row < length pattern → RightRow create (kindIn kinds) (fieldsAt pattern row)
+
+-- neither 1, 3, 4 nor 5
+pub record CompileChecked (create : Bool) (pattern kinds objects named : List ℕ) : Type 0 where
+  pub within : CompileWithin pattern kinds objects named
+  pub declared : BadVariable kinds objects → ⊥
+  pub rows : GoodPattern pattern
+  pub right : RightPattern create kinds pattern
+
+-- 6 and 7: what figure 6, for creating, or figure 5 emits, or where it stops
+abbrev pub emission : Bool → List ℕ → List ℕ → List ℕ → List ℕ → Emitted
+emission create pattern kinds objects named = tables create (kindIn kinds) (patternOf pattern) (entry objects named)
+
+-- 8 and 0: code of so many words
+pub record Emits (create : Bool) (pattern kinds objects named : List ℕ) (words : ℕ) : Type 0 where
+  pub lines : List Line
+  pub env : Env
+  pub emits : emission create pattern kinds objects named ≡ ok lines env
+  pub count : length lines ≡ words
+
+-- RUN
+
+-- not 1, for what is lent: 64 kinds, 64 object cells, 256 message cells, at most 32 certificates and 4,096 rows, a name counter of at most 65,536
+pub record LentWithin (x : Lent) : Type 0 where
+  pub kinds : length (x .kinds) ≡ variables
+  pub objects : length (x .objects) ≡ variables
+  pub messages : length (x .messages) ≡ messageCells
+  pub certificates : length (x .certificates) ≤ mostCertificates
+  pub terms : length (x .terms) ≤ mostTermRows
+  pub counter : x .counter ≤ mostNames
+
+-- and at most 768 words
+abbrev pub RunWithin : Lent → List ℕ → Type 0
+RunWithin x code = LentWithin x × (length code ≤ mostCodeWords)
+
+-- 2: the lowest row that breaks a rule
+abbrev pub BadTermAt : Lent → ℕ → Type 0
+BadTermAt x row = LowestWith (λ row. Sound (x .terms) (x .counter) row (getD (x .terms) row 0) → ⊥) (length (x .terms)) row
+
+-- not 3: kinds, cells, certificates and accumulator
+abbrev pub ValidStores : Lent → Type 0
+ValidStores x = Stores.ValidStores (x .terms) (usedRows (x .terms)) (x .kinds) (x .objects) (x .messages) (x .certificates) (x .accumulator)
+
+-- what is lent to run is good: neither 1, 2 nor 3
+pub record Valid (x : Lent) : Type 0 where
+  pub within : LentWithin x
+  pub table : ValidTable (x .terms) (x .counter)
+  pub stores : ValidStores x
+
+-- 9: the lowest bad word
+abbrev pub BadWordAt : Lent → List ℕ → ℕ → Type 0
+BadWordAt x code word = LowestBadWord (kindIn (x .kinds)) code word
+
+-- nor 9: the steps are taken
+pub record RunChecked (x : Lent) (code : List ℕ) : Type 0 where
+  pub valid : Valid x
+  pub few : length code ≤ mostCodeWords
+  pub words : AllGoodWords (kindIn (x .kinds)) code
+
+-- so many rows and names are free
+pub record Room (x : Lent) (count : ℕ) : Type 0 where
+  pub rows : usedRows (x .terms) + count ≤ length (x .terms)
+  pub names : x .counter + count ≤ mostNames

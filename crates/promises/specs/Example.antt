@@ -1,0 +1,44 @@
+-- Demand 3 on two worked cases: its premises are met, and the figures lead to what the runs leave.
+use Prim.Native.Nat.{ℕ}
+use mathlib.Core.Path.{_≡_}
+use mathlib.Core.Bool.{true, false}
+use mathlib.Core.Option.{some}
+use mathlib.Core.List.{List, [], _∷_}
+use lib.ListN.{replicate}
+use Rattle.terms.specs.Shape as Shape
+use Rattle.terms.specs.Row.{wordOf}
+use Rattle.stores.specs.Cells.{unset}
+use Rattle.theory.specs.TermModel.{Term, atom, encrypted, tupled, cons, nil}
+use Rattle.theory.specs.Run.{Lent, run}
+use Rattle.theory.specs.Cases.{row, objectRow, rawRow, tupleRow, lent, P1-code, P2-code}
+use Rattle.promises.specs.Reading.{after, messageBefore}
+use Rattle.promises.specs.Demand3.{Prepared, MatchesTo, CreatesTo}
+
+-- P1, the listing's input, with six free rows
+abbrev pub P1-pattern : List ℕ
+P1-pattern = objectRow 0 ∷ rawRow 0 ∷ tupleRow 1 (0 ∷ 1 ∷ []) ∷ []
+
+abbrev pub P1-lent : Lent
+P1-lent = lent (2 ∷ 10 ∷ []) [] 2 (wordOf (Shape.atom 2 3) ∷ wordOf (Shape.atom 3 1) ∷ wordOf (Shape.tupled (0 ∷ 1 ∷ [])) ∷ replicate 6 0) 4
+
+-- the tuple of nonce 3 and agent 1
+abbrev pub P1-message : Term
+P1-message = tupled (cons (atom 2 3) (cons (atom 3 1) nil))
+
+-- P2, from an empty table
+abbrev pub P2-pattern : List ℕ
+P2-pattern = objectRow 0 ∷ row (5 ∷ 1 ∷ 1 ∷ 2 ∷ 3 ∷ 0 ∷ 1 ∷ 0 ∷ []) ∷ []
+
+abbrev pub P2-lent : Lent
+P2-lent = lent (2 ∷ 7 ∷ 4 ∷ 5 ∷ []) [] unset (replicate 6 0) 0
+
+-- nonce 1 under public key 0
+abbrev pub P2-message : Term
+P2-message = encrypted (atom 4 0) (atom 2 1)
+
+pub record Example : Type 0 where
+  pub P1-prepared : Prepared false P1-pattern P1-lent P1-code
+  pub P1-message-held : messageBefore P1-lent ≡ some P1-message
+  pub P1-matches : MatchesTo P1-pattern P1-lent P1-message (after P1-lent (run P1-lent P1-code))
+  pub P2-prepared : Prepared true P2-pattern P2-lent P2-code
+  pub P2-creates : CreatesTo P2-pattern P2-lent P2-message (after P2-lent (run P2-lent P2-code))

@@ -1,0 +1,11 @@
+-- What is promised: each claim in plain terms.
+pub mod Answers
+pub mod Reading
+pub mod Conditions
+pub mod Steps
+pub mod Demand3
+pub mod Demand2
+pub mod Demand1
+pub mod Listing
+pub mod Example
+pub mod Promises

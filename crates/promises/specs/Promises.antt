@@ -1,0 +1,27 @@
+-- Start here: all that is promised of compile, run, the bundle and the listing.
+use Prim.Native.Nat.{ℕ}
+use mathlib.Core.List.{List}
+use Rattle.theory.specs.Cases.{Cases}
+use Rattle.theory.specs.Orders.{Orders, Corners}
+use Rattle.promises.specs.Demand1.{Demand1}
+use Rattle.promises.specs.Demand2.{Demand2}
+use Rattle.promises.specs.Demand3.{Demand3}
+use Rattle.promises.specs.Example.{Example}
+use Rattle.promises.specs.Listing.{ListingTable}
+
+pub record Promises : Type 0 where
+  -- every number exactly where its condition holds, and nothing changed by a refusal
+  pub demand-1 : Demand1
+  -- the packed code of figures 5 and 6, and one step after another
+  pub demand-2 : Demand2
+  -- finished exactly where figures 2 and 3 lead somewhere, with what they give
+  pub demand-3 : Demand3
+  -- its premises met by P1 and P2
+  pub example : Example
+  -- what a bundle's listing prints
+  pub listings : (bytes : List ℕ) → ListingTable bytes
+  -- P1 to P10
+  pub cases : Cases
+  -- the order of 6 and 7 form by form, and further corners
+  pub orders : Orders
+  pub corners : Corners
