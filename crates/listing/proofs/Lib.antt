@@ -2,3 +2,4 @@
 pub mod PartLaws
 pub mod LinesLaws
 pub mod Listed
+pub mod Coincide

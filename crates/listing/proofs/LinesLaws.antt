@@ -1,9 +1,9 @@
 -- The lines of a listing, one way out after another.
-use Prim.Native.Nat.{ℕ, _-_, _≤_}
+use Prim.Native.Nat.{ℕ, _≤_}
 use mathlib.Core.Path.{_≡_, refl, sym, _∙_, ap, subst}
 use mathlib.Core.Bool.{Bool, true, false, not}
 use mathlib.Core.Option.{Option, none, some}
-use mathlib.Core.List.{List, _++_}
+use mathlib.Core.List.{List}
 use native.Mathlib.Omega.{arith}
 use borrow.Author.Tests.{not-true, not-false, eq-eqb, ne-eqb}
 use lib.ListN.{take, replicate}
@@ -16,12 +16,13 @@ use Rattle.bundles.specs.Clear.{clearOf}
 use Rattle.bundles.specs.declared.Header.{Header}
 use Rattle.bundles.specs.declared.Opened.the-variants.{Refused, Is}
 use Rattle.bundles.proofs.OpeningLaws.{opened-is}
-use Rattle.bundles.proofs.BundleLaws.{fields, lengths}
+use Rattle.bundles.proofs.BundleLaws.{lengths}
 use Rattle.theory.specs.Bundle.{Bundle, readBundle}
-use Rattle.theory.specs.Compile.{CompileOutcome, compile}
+use Rattle.theory.specs.Compile.{CompileOutcome}
 use Rattle.theory.specs.Run.{Lent, RunOutcome, run, mostCodeWords}
 use Rattle.theory.specs.Listing.{refusedLine, lentTo, ranLines, compiledLines, bundleLines, listing}
 use Rattle.theory.proofs.Product.{compile-writes}
+use Rattle.listing.specs.Compiled.{compileOf}
 
 pub refused-none : (bytes : List ℕ) → opened bytes ≡ Refused → readBundle bytes ≡ none
 unfolding opened
@@ -39,31 +40,35 @@ module _ {before after : List ℕ} {next : ℕ} where
 
   -- compile refuses, or its words run
   module _ (b : Bundle) {room code : List ℕ} {answer : Compiled} {number place : ℕ} (zeros : room ≡ replicate mostCodeWords 0)
-      (is : record { answer = answer; code = code } ≡ compile (b .create) (b .pattern) (b .kinds) (b .objects) (b .named) room) (number-is : number ≡ compiledNumber answer)
+      (is : record { answer = answer; code = code } ≡ compileOf b room) (number-is : number ≡ compiledNumber answer)
       (place-is : place ≡ compiledPlace answer) where
     listed : (c : CompileOutcome) → Wrote (compiledLines b (record { answer = answer; code = code })) before 0 after next → record { answer = answer; code = code } ≡ c
         → Wrote (compiledLines b c) before 0 after next
     listed c wrote e = subst (λ o. Wrote (compiledLines b o) before 0 after next) e wrote
 
     pub compile-refused : (number ≡ 0 → ⊥) → Wrote (refusedLine number place) before 0 after next
-        → Wrote (compiledLines b (compile (b .create) (b .pattern) (b .kinds) (b .objects) (b .named) (replicate mostCodeWords 0))) before 0 after next
+        → Wrote (compiledLines b (compileOf b (replicate mostCodeWords 0))) before 0 after next
     compile-refused other wrote =
         listed _ (rw (ne-eqb (compiledNumber answer) 0 (λ e. other (number-is ∙ e)), compiledLines, ← number-is, ← place-is) wrote) (rw zeros at is)
 
     pub compile-ran : number ≡ 0 → Wrote (ranLines (take place code) (run (lentTo b) (take place code))) before 0 after next
-        → Wrote (compiledLines b (compile (b .create) (b .pattern) (b .kinds) (b .objects) (b .named) (replicate mostCodeWords 0))) before 0 after next
+        → Wrote (compiledLines b (compileOf b (replicate mostCodeWords 0))) before 0 after next
     compile-ran done wrote =
         listed _ (rw (eq-eqb (compiledNumber answer) 0 (sym number-is ∙ done), compiledLines, ← place-is) wrote) (rw zeros at is)
 
   -- a spare certificate bit is set, or none is
   module _ (bytes : List ℕ) {certificates : List ℕ} {clear : Bool} (are : certificates ≡ bundleIn bytes .certificates) (is : clear ≡ clearOf certificates) where
     pub spare-set : not clear ≡ true → Wrote (refusedLine 3 0) before 0 after next → Wrote (bundleLines (some (bundleIn bytes))) before 0 after next
-    spare-set bad wrote = let set : clearOf (bundleIn bytes .certificates) ≡ false = ap clearOf (sym are) ∙ sym is ∙ not-true clear bad in rw (set, bundleLines) wrote
+    spare-set bad wrote =
+        let set : clearOf (bundleIn bytes .certificates) ≡ false = ap clearOf (sym are) ∙ sym is ∙ not-true clear bad in
+        rw (set, bundleLines) wrote
 
     pub spare-clear : not clear ≡ false
-        → Wrote (compiledLines (bundleIn bytes) (compile (bundleIn bytes .create) (bundleIn bytes .pattern) (bundleIn bytes .kinds) (bundleIn bytes .objects) (bundleIn bytes .named) (replicate mostCodeWords 0))) before 0 after next
+        → Wrote (compiledLines (bundleIn bytes) (compileOf (bundleIn bytes) (replicate mostCodeWords 0))) before 0 after next
         → Wrote (bundleLines (some (bundleIn bytes))) before 0 after next
-    spare-clear fine wrote = let none : clearOf (bundleIn bytes .certificates) ≡ true = ap clearOf (sym are) ∙ sym is ∙ not-false clear fine in rw (none, bundleLines) wrote
+    spare-clear fine wrote =
+        let none : clearOf (bundleIn bytes .certificates) ≡ true = ap clearOf (sym are) ∙ sym is ∙ not-false clear fine in
+        rw (none, bundleLines) wrote
 
   -- no bundle, or the lines of one
   pub not-opened : (bytes : List ℕ) → opened bytes ≡ Refused → Wrote (refusedLine 1 0) before 0 after next → Wrote (listing bytes) before 0 after next
@@ -81,11 +86,11 @@ module _ (bytes : List ℕ) (header : Header) (opens : opened bytes ≡ Is heade
   b = bundleIn bytes
 
   pub few-words : (code : List ℕ) {answer : Compiled} {after : List ℕ} {number place : ℕ}
-      → record { answer = answer; code = after } ≡ compile (b .create) (b .pattern) (b .kinds) (b .objects) (b .named) code → number ≡ compiledNumber answer
+      → record { answer = answer; code = after } ≡ compileOf b code → number ≡ compiledNumber answer
       → place ≡ compiledPlace answer → number ≡ 0 → place ≤ 767
   few-words code {answer} is number-is place-is done = rw place-is (go answer (sym (ap (λ o. o .answer) is)) (sym number-is ∙ done))
     where
-      go : (answer : Compiled) → compile (b .create) (b .pattern) (b .kinds) (b .objects) (b .named) code .answer ≡ answer → compiledNumber answer ≡ 0 → compiledPlace answer ≤ 767
+      go : (answer : Compiled) → compileOf b code .answer ≡ answer → compiledNumber answer ≡ 0 → compiledPlace answer ≤ 767
       go (Done words) e d =
           let w = compile-writes (b .create) (b .pattern) (b .kinds) (b .objects) (b .named) (lengths bytes header opens .kinds) code words e in
           omega (arith, w .compiles .counts, w .limits .words)

@@ -1,6 +1,6 @@
 -- What the program prints: every listing fits its buffer, and input that does not fit is refused, as the whole of it is.
-use Prim.Native.Nat.{ℕ, _+_, _*_, _<_, _≤_}
-use mathlib.Core.Path.{_≡_, refl, sym, _∙_, ap}
+use Prim.Native.Nat.{ℕ, _<_, _≤_}
+use mathlib.Core.Path.{_≡_, refl, sym, _∙_}
 use mathlib.Core.Bool.{Bool, true, false}
 use mathlib.Core.Option.{Option, none, some}
 use mathlib.Core.List.{List, [], _∷_, _++_}
@@ -16,7 +16,7 @@ use Rattle.text.proofs.WrittenLaws.{wrote-length}
 use Rattle.text.proofs.LineLaws.{word-line-most}
 use Rattle.answers.specs.Numbers.{compiledNumber, compiledPlace}
 use Rattle.answers.specs.declared.Ran.{Ran}
-use Rattle.bundles.specs.Opening.{headerIn, bundleIn, openedBy, opened}
+use Rattle.bundles.specs.Opening.{bundleIn, opened}
 use Rattle.bundles.specs.declared.Header.{Header}
 use Rattle.bundles.specs.declared.Opened.{Opened}
 use Rattle.bundles.specs.declared.Opened.the-variants.{Refused, Is}
@@ -27,10 +27,11 @@ use Rattle.theory.specs.Bundle.{Bundle, readBundle, certificatesClear}
 use Rattle.theory.specs.Outcome.{Outcome, done, stuck, room}
 use Rattle.theory.specs.RowModel.{rowWorld}
 use Rattle.theory.specs.Machine.{State, exec}
-use Rattle.theory.specs.Compile.{CompileOutcome, first, kindIn, compile}
+use Rattle.theory.specs.Compile.{CompileOutcome, first, kindIn}
 use Rattle.theory.specs.Run.{Lent, stateOf, linesOf, leftBy, ended, refusals, runBy, run, mostCodeWords}
 use Rattle.theory.specs.Listing.{refusedWord, refusedLine, lentTo, ranLines, compiledLines, bundleLines, listing}
 use Rattle.theory.proofs.ValidAgain.{length-cells}
+use Rattle.listing.specs.Compiled.{compileOf}
 use Rattle.listing.proofs.LinesLaws.{few-words, refused-none}
 
 run-objects : (x : Lent) (code : List ℕ) → length (x .objects) ≡ 64 → length (run x code .objects) ≡ 64
@@ -80,7 +81,7 @@ listing-short bytes = by (opened bytes) refl
         b = bundleIn bytes
 
         compiled : CompileOutcome
-        compiled = compile (b .create) (b .pattern) (b .kinds) (b .objects) (b .named) (replicate mostCodeWords 0)
+        compiled = compileOf b (replicate mostCodeWords 0)
 
         go : (clear : Bool) → length {A = ℕ} (elim clear as (λ _. List ℕ) [ true ↦ compiledLines b compiled | false ↦ refusedLine 3 0 ]) ≤ 65536
         go true = compiled-short bytes header e compiled (few-words bytes header e (replicate mostCodeWords 0) refl refl refl)

@@ -13,6 +13,7 @@ use Rattle.stores.specs.Cells.{unset}
 use Rattle.theory.specs.Compile.{CompileOutcome, compile}
 use Rattle.theory.specs.Run.{RunOutcome, run}
 use Rattle.theory.specs.Listing.{lentTo}
+use Rattle.listing.specs.Compiled.{compileOf}
 
 module _ (bytes : List ℕ) {header : Header} (opens : opened bytes ≡ Is header) where
   pub pattern-front : {rows : List ℕ} (rest : List ℕ) → rows ≡ bundleIn bytes .pattern ++ rest → take (header .«pattern_rows») rows ≡ bundleIn bytes .pattern
@@ -27,13 +28,13 @@ module _ (bytes : List ℕ) {header : Header} (opens : opened bytes ≡ Is heade
   terms-lent is = rw (lengths bytes header opens .terms) is
 
   pub named-front : {cells : List ℕ} → cells ≡ lentTo (bundleIn bytes) .messages → take 64 cells ≡ bundleIn bytes .named
-  named-front {cells} is = rw is (take-at (bundleIn bytes .named) (replicate 192 unset) 64 (lengths bytes header opens .named))
+  named-front is = rw is (take-at (bundleIn bytes .named) (replicate 192 unset) 64 (lengths bytes header opens .named))
 
   -- what compile is given is what the bundle holds
   pub compile-given : (code : List ℕ) {pattern kinds objects messages : List ℕ} {outcome : CompileOutcome} → pattern ≡ bundleIn bytes .pattern
       → kinds ≡ lentTo (bundleIn bytes) .kinds → objects ≡ lentTo (bundleIn bytes) .objects → messages ≡ lentTo (bundleIn bytes) .messages
       → outcome ≡ compile (header .create) pattern kinds objects (take 64 messages) code
-      → outcome ≡ compile (bundleIn bytes .create) (bundleIn bytes .pattern) (bundleIn bytes .kinds) (bundleIn bytes .objects) (bundleIn bytes .named) code
+      → outcome ≡ compileOf (bundleIn bytes) code
   compile-given code pattern-is kinds-are objects-are messages-are compiles =
       compiles ∙ rw (pattern-is, kinds-are, objects-are, named-front messages-are, ← (fields bytes header opens .create))
 

@@ -5,8 +5,8 @@ ghost use Prim.Native.Nat.{_≤_};
 ghost use lib.ListN.{length, replicate};
 ghost use Rattle.text.specs.Written.{Wrote};
 ghost use Rattle.bundles.specs.Opening.{bundleIn, opened};
-ghost use Rattle.theory.specs.Compile.{compile};
 ghost use Rattle.theory.specs.Run.{run, mostCodeWords};
+ghost use Rattle.listing.specs.Compiled.{compileOf};
 ghost use Rattle.theory.specs.Listing.{lentTo, ranLines, compiledLines, bundleLines, listing};
 use super::parts;
 use answers::Compiled;
@@ -50,8 +50,7 @@ fn ran_lines(bytes: &[u8], header: Header, code: &[u32], out: &mut [u8]) -> usiz
 // Compiles the bundle's pattern.
 fn compiled(bytes: &[u8], header: Header, code: &mut [u32]) -> Compiled
     requires { ⌜ opened (now bytes) ≡ Opened.Is header ⌝ }
-    ensures { λ r. ⌜ (let b = bundleIn (now (bytes .entry)) in
-        record { answer = r; code = now (code .exit) } ≡ compile (b .create) (b .pattern) (b .kinds) (b .objects) (b .named) (now (code .entry))) ⌝ }
+    ensures { λ r. ⌜ record { answer = r; code = now (code .exit) } ≡ compileOf (bundleIn (now (bytes .entry))) (now (code .entry)) ⌝ }
 {
     let pattern = parts::pattern(bytes, header);
     let count = header.pattern_rows as usize;
@@ -71,7 +70,7 @@ fn compiled(bytes: &[u8], header: Header, code: &mut [u32]) -> Compiled
 fn compiled_lines(bytes: &[u8], header: Header, out: &mut [u8]) -> usize
     requires { ⌜ opened (now bytes) ≡ Opened.Is header ⌝ }
     ensures { λ r. ⌜ (let b = bundleIn (now (bytes .entry)) in
-        Wrote (compiledLines b (compile (b .create) (b .pattern) (b .kinds) (b .objects) (b .named) (replicate mostCodeWords 0))) (now (out .entry)) 0 (now (out .exit)) r) ⌝ }
+        Wrote (compiledLines b (compileOf b (replicate mostCodeWords 0))) (now (out .entry)) 0 (now (out .exit)) r) ⌝ }
 {
     let mut code = parts::code();
     let answer = compiled(bytes, header, &mut code);

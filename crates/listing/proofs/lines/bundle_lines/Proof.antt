@@ -27,7 +27,11 @@ same-length : tie.Need-same-length
 same-length c = search needs
 
 returns : tie.Need-returns
-returns c = spare-set (c .before .before .before .before .before .before .before .before .before .before .before .args .bytes .now) (c .before .before .before .before .before .before .before .before .certificates .ensures) (c .before .before .before .before .before .certificates-clear .ensures) (c .before .before .before .before .if1 .taken) (c .before .before .refused .ensures)
+returns c =
+    let refused = c .before .before in
+    let clear = refused .before .before .before in
+    let read = clear .before .before .before in
+    spare-set (read .before .before .before .args .bytes .now) (read .certificates .ensures) (clear .certificates-clear .ensures) (refused .before .before .if1 .taken) (refused .refused .ensures)
 
 compiled-lines-requires : tie.Need-compiled-lines-requires
 compiled-lines-requires c κs = search needs
@@ -36,7 +40,11 @@ same-length-2 : tie.Need-same-length-2
 same-length-2 c = search needs
 
 returns-2 : tie.Need-returns-2
-returns-2 c = spare-clear (c .before .before .before .before .before .before .before .before .before .before .before .args .bytes .now) (c .before .before .before .before .before .before .before .before .certificates .ensures) (c .before .before .before .before .before .certificates-clear .ensures) (c .before .before .before .before .if1 .left) (c .before .before .compiled-lines .ensures)
+returns-2 c =
+    let lines = c .before .before in
+    let clear = lines .before .before .before in
+    let read = clear .before .before .before in
+    spare-clear (read .before .before .before .args .bytes .now) (read .certificates .ensures) (clear .certificates-clear .ensures) (lines .before .before .if1 .left) (lines .compiled-lines .ensures)
 
 pub bundle-lines-spec : {M : Type 1} → statement M
 bundle-lines-spec =

@@ -49,9 +49,12 @@ same-length c = search needs
 returns : tie.Need-returns
 returns c =
     let called = c .before .before in
-    let kinds = called .before .before .before .before .before .before .before .before in
+    let messages = called .before .before .before .before .before .before in
+    let objects = messages .before in
+    let kinds = objects .before in
     let pattern = kinds .before .before in
-    compile-given _ (pattern .before .before .before .pre) _ (pattern .pattern .ensures) (kinds .kinds .ensures) (called .before .before .before .before .before .before .before .objects .ensures) (called .before .before .before .before .before .before .messages .ensures) (called .compile .ensures)
+    compile-given _ (pattern .before .before .before .pre) _ (pattern .pattern .ensures) (kinds .kinds .ensures) (objects .objects .ensures) (messages .messages .ensures)
+    (called .compile .ensures)
 
 pub compiled-spec : {M : Type 1} → statement M
 compiled-spec =

@@ -36,8 +36,11 @@ same-length c = search needs
 returns : tie.Need-returns
 returns c =
     let refused = c .before .before in
-    let number = refused .before .before .before .before in
-    compile-refused (bundleIn (number .before .before .before .before .before .before .before .args .bytes .now)) (number .before .before .before .before .code .ensures) (number .before .before .compiled .ensures) (number .number .ensures .0) (refused .before .before .before .place .ensures) (refused .before .before .if1 .taken) (refused .refused .ensures)
+    let place = refused .before .before .before in
+    let compiled = place .before .before .before in
+    let room = compiled .before .before in
+    compile-refused (bundleIn (room .before .before .before .args .bytes .now)) (room .code .ensures) (compiled .compiled .ensures) (place .before .number .ensures .0) (place .place .ensures)
+    (refused .before .before .if1 .taken) (refused .refused .ensures)
 
 cast-words : tie.Need-cast-words
 cast-words c = search needs
@@ -57,8 +60,11 @@ same-length-2 c = search needs
 returns-2 : tie.Need-returns-2
 returns-2 c =
     let lines = c .before .before in
-    let number = lines .before .before .before .before .before in
-    compile-ran (bundleIn (number .before .before .before .before .before .before .before .args .bytes .now)) (number .before .before .before .before .code .ensures) (number .before .before .compiled .ensures) (number .number .ensures .0) (lines .before .before .before .before .place .ensures) (lines .before .before .before .if1 .left) (lines .ran-lines .ensures)
+    let place = lines .before .before .before .before in
+    let compiled = place .before .before .before in
+    let room = compiled .before .before in
+    compile-ran (bundleIn (room .before .before .before .args .bytes .now)) (room .code .ensures) (compiled .compiled .ensures) (place .before .number .ensures .0) (place .place .ensures)
+    (lines .before .before .before .if1 .left) (lines .ran-lines .ensures)
 
 pub compiled-lines-spec : {M : Type 1} → statement M
 compiled-lines-spec =

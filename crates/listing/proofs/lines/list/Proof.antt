@@ -23,13 +23,17 @@ same-length : tie.Need-same-length
 same-length c = search needs
 
 returns : tie.Need-returns
-returns c = not-opened _ (sym (c .before .before .before .before .before .before .«open» .ensures) ∙ c .before .before .before .before .enum-told .given .1) (c .before .before .refused .ensures)
+returns c =
+    let told = c .before .before .before .before in
+    not-opened _ (sym (told .before .before .«open» .ensures) ∙ told .enum-told .given .1) (c .before .before .refused .ensures)
 
 same-length-2 : tie.Need-same-length-2
 same-length-2 c = search needs
 
 returns-2 : tie.Need-returns-2
-returns-2 c = is-opened _ _ (sym (c .before .before .before .before .before .before .before .«open» .ensures) ∙ c .before .before .before .before .before .opened .given .1) (c .before .before .bundle-lines .ensures)
+returns-2 c =
+    let told = c .before .before .before .before .before in
+    is-opened _ _ (sym (told .before .before .«open» .ensures) ∙ told .opened .given .1) (c .before .before .bundle-lines .ensures)
 
 pub list-spec : {M : Type 1} → statement M
 list-spec =

@@ -70,8 +70,13 @@ returns c =
     let ran = c .before .before .before .before .before .before .before .before .before .before in
     let terms = ran .before .before .before .before .before .before .before in
     let pairs = terms .before .before in
-    let start = pairs .before .before .before .before .before .before .before in
-    let lent = run-lent _ (start .pre .0) _ (pairs .before .before .before .kinds .ensures) (pairs .before .before .objects .ensures) (pairs .before .messages .ensures) (pairs .certificates .ensures) (terms .terms .ensures) (ran .run .ensures) in
+    let messages = pairs .before in
+    let objects = messages .before in
+    let kinds = objects .before in
+    let start = kinds .before .before .before .before in
+    let lent =
+    run-lent _ (start .pre .0) _ (kinds .kinds .ensures) (objects .objects .ensures) (messages .messages .ensures) (pairs .certificates .ensures) (terms .terms .ensures)
+    (ran .run .ensures) in
     ran-listed _ _ lent (c .before .before .ran .ensures)
 
 pub ran-lines-spec : {M : Type 1} → statement M

@@ -1,0 +1,2 @@
+-- A bundle, compiled.
+pub mod Compiled
