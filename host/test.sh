@@ -51,18 +51,15 @@ program_tests() {
     count $wrong 'listing of bundles made from a seed'
 }
 
-has_program() { [ -d "$top/crates/listing" ]; }
-
 made() {
-    made_by "$archive" rt staticlib cram || return 1
-    if has_program; then made_by "$top/target/bin/listing" rt check listing; fi
+    made_by "$archive" rt staticlib cram && made_by "$top/target/bin/listing" rt check listing
 }
 
 if made; then
     set_up_compilers
     rust_tests
     c_test
-    if has_program; then program_tests; else echo 'host: there is no program listing yet'; fi
+    program_tests
 else
     count 1 'the making of the archive and the program'
 fi
