@@ -23,7 +23,8 @@ use Rattle.emission.specs.Steps.{readObject}
 use Rattle.emission.specs.Meets.{Does, refusing}
 use Rattle.emission.proofs.MeetsLaws.{does-le, does-none, does-seq, does-yes, does-no}
 use Rattle.emission.proofs.StepLaws.{read-unset}
-use Rattle.creating.specs.Creates.{kindIn, variableCode, keyCode}
+use Rattle.theory.specs.Compile.{kindIn}
+use Rattle.creating.specs.Creates.{variableCode, keyCode}
 
 pub creatable-is : (kind : ℕ) → ((eqb kind 2 || eqb kind 5) || eqb kind 6) ≡ creatable kind
 unfolding creatable oneOf

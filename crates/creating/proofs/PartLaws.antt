@@ -25,7 +25,8 @@ use Rattle.emission.specs.Budget.{patternIn, words, scratches, wordsOf, scratch
 use Rattle.emission.proofs.MeetsLaws.{does-le, does-seq, does-none, does-take}
 use Rattle.emission.proofs.BudgetLaws.{size-pos, count-sizes, room-le, room-then}
 use Rattle.emission.proofs.PatternLaws.{good-row, tuple-row}
-use Rattle.creating.specs.Creates.{kindIn, patternCode, partsCode, Creates, partsFrom, PartsAt, CreatesParts}
+use Rattle.theory.specs.Compile.{kindIn}
+use Rattle.creating.specs.Creates.{patternCode, partsCode, Creates, partsFrom, PartsAt, CreatesParts}
 use Rattle.creating.proofs.ChildLaws.{room-as, as-pattern}
 
 module _ (rows : List ℕ) (row : ℕ) (children : List ℕ) (n first k : ℕ) {e : List ℕ} (four : length children ≡ 4) (asked : PartsAt rows row children n first k e) where

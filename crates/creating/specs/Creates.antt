@@ -9,13 +9,10 @@ use Rattle.patterns.specs.Row.{fieldsOf}
 use Rattle.patterns.specs.Rules.{rowFits}
 use Rattle.patterns.specs.Tree.{partsBy}
 use Rattle.theory.specs.Emission.{Env, Emitted}
+use Rattle.theory.specs.Compile.{kindIn}
 use Rattle.theory.specs.Compilers.{creating, compile↑K, compile↑, compile↑parts}
 use Rattle.emission.specs.Meets.{Does}
 use Rattle.emission.specs.Budget.{patternIn, words, scratches, wordsOf, scratchesOf, RoomParts}
-
--- a variable past the list is undeclared
-abbrev pub kindIn : List ℕ → ℕ → ℕ
-kindIn kinds v = getD kinds v 0
 
 unfoldable pub variableCode : List ℕ → ℕ → ℕ → Env → Emitted
 variableCode kinds row v = creating (kindIn kinds) row v

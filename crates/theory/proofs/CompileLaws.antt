@@ -70,7 +70,7 @@ module _ (create : Bool) (pattern kinds objects named : List ℕ) where
     pub rows : badPattern pattern ≡ none
     pub right : wrongKind create (kindIn kinds) pattern ≡ none
 
-  checked : first (refusals create pattern kinds objects named) ≡ none → Checked
+  pub checked : first (refusals create pattern kinds objects named) ≡ none → Checked
   checked e =
       let (limits, e) = first-none _ _ e in
       let (cells, e) = first-none _ _ e in
@@ -88,7 +88,7 @@ module _ (create : Bool) (pattern kinds objects named : List ℕ) where
       T-not-not false h = h
 
   -- 1, 3, 4 and 5 are not done
-  checks-not-done : (answer : Compiled) → first (refusals create pattern kinds objects named) ≡ some answer → NotDone answer
+  pub checks-not-done : (answer : Compiled) → first (refusals create pattern kinds objects named) ≡ some answer → NotDone answer
   checks-not-done =
       first-some NotDone _ _ (when-some NotDone (not (lengthsFit create pattern kinds objects named)) Limit λ words e. let z : _≡_ {A = ℕ} 0 1 = cc in omega arith)
       (first-some NotDone _ _ (when-some NotDone (not (declared kinds objects)) BadStore λ words e. let z : _≡_ {A = ℕ} 0 1 = cc in omega arith)

@@ -113,760 +113,245 @@ create-tuple-below t =
     (falls 4 create-tuple-kinds.ps _<_ μ-create-tuple t)
     create-tuple.Pre
 
-create-encryption-variable-requires : (t : ℕ) → create-encryption-lts.Need-variable-requires (
-  variable-reads.Asked,
-  variable-reads.Learnt,
-  x-reads.Asked,
-  x-reads.Learnt,
-  slots-reads.Asked,
-  slots-reads.Learnt,
-  create-key-reads.Asked,
-  create-key-reads.Learnt,
-  create-row-below t,
-  create-row.Post,
-  emit-reads.Asked,
-  emit-reads.Learnt,
-) (create-encryption-at t) create-encryption.Post
-create-encryption-variable-requires t c κs = search needs
+module _ (t : ℕ) where
+  abbrev create-encryption-callees : create-encryption-lts.Claims
+  create-encryption-callees =
+      (variable-reads.Asked, variable-reads.Learnt, x-reads.Asked, x-reads.Learnt, slots-reads.Asked, slots-reads.Learnt, create-key-reads.Asked, create-key-reads.Learnt, create-row-below t, create-row.Post, emit-reads.Asked, emit-reads.Learnt)
 
-create-encryption-x-requires : (t : ℕ) → create-encryption-lts.Need-x-requires (
-  variable-reads.Asked,
-  variable-reads.Learnt,
-  x-reads.Asked,
-  x-reads.Learnt,
-  slots-reads.Asked,
-  slots-reads.Learnt,
-  create-key-reads.Asked,
-  create-key-reads.Learnt,
-  create-row-below t,
-  create-row.Post,
-  emit-reads.Asked,
-  emit-reads.Learnt,
-) (create-encryption-at t) create-encryption.Post
-create-encryption-x-requires t c κs = search needs
+  create-encryption-variable-requires : create-encryption-lts.Need-variable-requires create-encryption-callees (create-encryption-at t) create-encryption.Post
+  create-encryption-variable-requires c κs = search needs
 
-create-encryption-slots-requires : (t : ℕ) → create-encryption-lts.Need-slots-requires (
-  variable-reads.Asked,
-  variable-reads.Learnt,
-  x-reads.Asked,
-  x-reads.Learnt,
-  slots-reads.Asked,
-  slots-reads.Learnt,
-  create-key-reads.Asked,
-  create-key-reads.Learnt,
-  create-row-below t,
-  create-row.Post,
-  emit-reads.Asked,
-  emit-reads.Learnt,
-) (create-encryption-at t) create-encryption.Post
-create-encryption-slots-requires t c κs = search needs
+  create-encryption-x-requires : create-encryption-lts.Need-x-requires create-encryption-callees (create-encryption-at t) create-encryption.Post
+  create-encryption-x-requires c κs = search needs
 
-create-encryption-create-key-requires : (t : ℕ) → create-encryption-lts.Need-create-key-requires (
-  variable-reads.Asked,
-  variable-reads.Learnt,
-  x-reads.Asked,
-  x-reads.Learnt,
-  slots-reads.Asked,
-  slots-reads.Learnt,
-  create-key-reads.Asked,
-  create-key-reads.Learnt,
-  create-row-below t,
-  create-row.Post,
-  emit-reads.Asked,
-  emit-reads.Learnt,
-) (create-encryption-at t) create-encryption.Post
-create-encryption-create-key-requires t c κs =
-    let asked = c .before .before .before .before .before .before .before .pre .1 in
-    (encryption-key _ _ _ (asked .0) (asked .1), key-room _ _ _ (asked .0))
+  create-encryption-slots-requires : create-encryption-lts.Need-slots-requires create-encryption-callees (create-encryption-at t) create-encryption.Post
+  create-encryption-slots-requires c κs = search needs
 
-create-encryption-array-read-create-row :
-    (t : ℕ) → create-encryption-lts.Need-array-read-create-row (
-      variable-reads.Asked,
-      variable-reads.Learnt,
-      x-reads.Asked,
-      x-reads.Learnt,
-      slots-reads.Asked,
-      slots-reads.Learnt,
-      create-key-reads.Asked,
-      create-key-reads.Learnt,
-      create-row-below t,
-      create-row.Post,
-      emit-reads.Asked,
-      emit-reads.Learnt,
-    ) (create-encryption-at t) create-encryption.Post
-create-encryption-array-read-create-row t c = search needs
+  create-encryption-array-read-create-row : create-encryption-lts.Need-array-read-create-row create-encryption-callees (create-encryption-at t) create-encryption.Post
+  create-encryption-array-read-create-row c = search needs
 
-create-encryption-create-row-requires : (t : ℕ) → create-encryption-lts.Need-create-row-requires (
-  variable-reads.Asked,
-  variable-reads.Learnt,
-  x-reads.Asked,
-  x-reads.Learnt,
-  slots-reads.Asked,
-  slots-reads.Learnt,
-  create-key-reads.Asked,
-  create-key-reads.Learnt,
-  create-row-below t,
-  create-row.Post,
-  emit-reads.Asked,
-  emit-reads.Learnt,
-) (create-encryption-at t) create-encryption.Post
-create-encryption-create-row-requires t c κs =
-    let asked = c .before .before .before .before .before .before .before .before .before .before .pre .1 in
-    let first = slot _ _ 0 (c .before .before .before .before .before .slots .ensures) in
-    (omega (arith, c .before .before .before .before .before .before .before .before .before .before .pre .0, encryption-below _ _ _ (asked .0) (asked .1) _ first), encryption-inside _ _ _ (asked .0) (asked .1) _ first (c .before .before .create-key .ensures))
+  create-encryption-create-key-requires : create-encryption-lts.Need-create-key-requires create-encryption-callees (create-encryption-at t) create-encryption.Post
+  create-encryption-create-key-requires c κs =
+      let asked = c .before .before .before .before .before .before .before .pre .1 in
+      (encryption-key _ _ _ (asked .0) (asked .1), key-room _ _ _ (asked .0))
 
-create-encryption-emit-requires : (t : ℕ) → create-encryption-lts.Need-emit-requires (
-  variable-reads.Asked,
-  variable-reads.Learnt,
-  x-reads.Asked,
-  x-reads.Learnt,
-  slots-reads.Asked,
-  slots-reads.Learnt,
-  create-key-reads.Asked,
-  create-key-reads.Learnt,
-  create-row-below t,
-  create-row.Post,
-  emit-reads.Asked,
-  emit-reads.Learnt,
-) (create-encryption-at t) create-encryption.Post
-create-encryption-emit-requires t c κs =
-    let asked = c .before .before .before .before .before .before .before .before .before .before .before .before .before .pre .1 in
-    let first = slot _ _ 0 (c .before .before .before .before .before .before .before .before .slots .ensures) in
-    (encrypt-room _ _ _ (asked .0) (asked .1) _ first (c .before .before .before .before .before .create-key .ensures) (c .before .before .create-row .ensures), tt)
+  create-encryption-create-row-requires : create-encryption-lts.Need-create-row-requires create-encryption-callees (create-encryption-at t) create-encryption.Post
+  create-encryption-create-row-requires c κs =
+      let asked = c .before .before .before .before .before .before .before .before .before .before .pre .1 in
+      let first = slot _ _ 0 (c .before .before .before .before .before .slots .ensures) in
+      (omega (arith, c .before .before .before .before .before .before .before .before .before .before .pre .0, encryption-below _ _ _ (asked .0) (asked .1) _ first), encryption-inside _ _ _ (asked .0) (asked .1) _ first (c .before .before .create-key .ensures))
 
-create-encryption-emit-requires-2 : (t : ℕ) → create-encryption-lts.Need-emit-requires-2 (
-  variable-reads.Asked,
-  variable-reads.Learnt,
-  x-reads.Asked,
-  x-reads.Learnt,
-  slots-reads.Asked,
-  slots-reads.Learnt,
-  create-key-reads.Asked,
-  create-key-reads.Learnt,
-  create-row-below t,
-  create-row.Post,
-  emit-reads.Asked,
-  emit-reads.Learnt,
-) (create-encryption-at t) create-encryption.Post
-create-encryption-emit-requires-2 t c κs =
-    let asked = c .before .before .before .before .before .before .before .before .before .before .before .before .before .before .before .before .pre .1 in
-    let first = slot _ _ 0 (c .before .before .before .before .before .before .before .before .before .before .before .slots .ensures) in
-    (seal-room _ _ _ (asked .0) (asked .1) _ first (c .before .before .before .before .before .before .before .before .create-key .ensures) (c .before .before .before .before .before .create-row .ensures) (c .before .before .emit .ensures), variable-low _ _ (c .before .before .before .before .before .before .before .before .before .before .before .before .before .variable .ensures))
+  create-encryption-emit-requires : create-encryption-lts.Need-emit-requires create-encryption-callees (create-encryption-at t) create-encryption.Post
+  create-encryption-emit-requires c κs =
+      let asked = c .before .before .before .before .before .before .before .before .before .before .before .before .before .pre .1 in
+      let first = slot _ _ 0 (c .before .before .before .before .before .before .before .before .slots .ensures) in
+      (encrypt-room _ _ _ (asked .0) (asked .1) _ first (c .before .before .before .before .before .create-key .ensures) (c .before .before .create-row .ensures), tt)
 
-create-encryption-returns : (t : ℕ) → create-encryption-lts.Need-returns (
-  variable-reads.Asked,
-  variable-reads.Learnt,
-  x-reads.Asked,
-  x-reads.Learnt,
-  slots-reads.Asked,
-  slots-reads.Learnt,
-  create-key-reads.Asked,
-  create-key-reads.Learnt,
-  create-row-below t,
-  create-row.Post,
-  emit-reads.Asked,
-  emit-reads.Learnt,
-) (create-encryption-at t) create-encryption.Post
-create-encryption-returns t c =
-    let asked = c .before .before .before .before .before .before .before .before .before .before .before .before .before .before .before .before .before .pre .1 in
-    let first = slot _ _ 0 (c .before .before .before .before .before .before .before .before .before .before .before .before .slots .ensures) in
-    encryption-done _ _ _ (asked .0) (asked .1) _ first _ _ _ (c .before .before .before .before .before .before .before .before .before .before .before .before .before .before .variable .ensures) (c .before .before .before .before .before .before .before .before .before .before .before .before .before .x .ensures) (c .before .before .before .before .before .before .before .before .before .create-key .ensures) (c .before .before .before .before .before .before .create-row .ensures)
-    (c .before .before .before .emit .ensures) (c .emit2 .ensures)
+  create-encryption-emit-requires-2 : create-encryption-lts.Need-emit-requires-2 create-encryption-callees (create-encryption-at t) create-encryption.Post
+  create-encryption-emit-requires-2 c κs =
+      let asked = c .before .before .before .before .before .before .before .before .before .before .before .before .before .before .before .before .pre .1 in
+      let first = slot _ _ 0 (c .before .before .before .before .before .before .before .before .before .before .before .slots .ensures) in
+      (seal-room _ _ _ (asked .0) (asked .1) _ first (c .before .before .before .before .before .before .before .before .create-key .ensures) (c .before .before .before .before .before .create-row .ensures) (c .before .before .emit .ensures), variable-low _ _ (c .before .before .before .before .before .before .before .before .before .before .before .before .before .variable .ensures))
 
-create-let-raw-requires : (t : ℕ) → create-let-lts.Need-raw-requires (
-  raw-reads.Asked,
-  raw-reads.Learnt,
-  slots-reads.Asked,
-  slots-reads.Learnt,
-  create-row-below t,
-  create-row.Post,
-  emit-reads.Asked,
-  emit-reads.Learnt,
-) (create-let-at t) create-let.Post
-create-let-raw-requires t c κs = search needs
+  create-encryption-returns : create-encryption-lts.Need-returns create-encryption-callees (create-encryption-at t) create-encryption.Post
+  create-encryption-returns c =
+      let asked = c .before .before .before .before .before .before .before .before .before .before .before .before .before .before .before .before .before .pre .1 in
+      let first = slot _ _ 0 (c .before .before .before .before .before .before .before .before .before .before .before .before .slots .ensures) in
+      encryption-done _ _ _ (asked .0) (asked .1) _ first _ _ _ (c .before .before .before .before .before .before .before .before .before .before .before .before .before .before .variable .ensures) (c .before .before .before .before .before .before .before .before .before .before .before .before .before .x .ensures) (c .before .before .before .before .before .before .before .before .before .create-key .ensures) (c .before .before .before .before .before .before .create-row .ensures)
+      (c .before .before .before .emit .ensures) (c .emit2 .ensures)
 
-create-let-slots-requires : (t : ℕ) → create-let-lts.Need-slots-requires (
-  raw-reads.Asked,
-  raw-reads.Learnt,
-  slots-reads.Asked,
-  slots-reads.Learnt,
-  create-row-below t,
-  create-row.Post,
-  emit-reads.Asked,
-  emit-reads.Learnt,
-) (create-let-at t) create-let.Post
-create-let-slots-requires t c κs = search needs
+  abbrev create-let-callees : create-let-lts.Claims
+  create-let-callees =
+      (raw-reads.Asked, raw-reads.Learnt, slots-reads.Asked, slots-reads.Learnt, create-row-below t, create-row.Post, emit-reads.Asked, emit-reads.Learnt)
 
-create-let-array-read-create-row : (t : ℕ) → create-let-lts.Need-array-read-create-row (
-  raw-reads.Asked,
-  raw-reads.Learnt,
-  slots-reads.Asked,
-  slots-reads.Learnt,
-  create-row-below t,
-  create-row.Post,
-  emit-reads.Asked,
-  emit-reads.Learnt,
-) (create-let-at t) create-let.Post
-create-let-array-read-create-row t c = search needs
+  create-let-raw-requires : create-let-lts.Need-raw-requires create-let-callees (create-let-at t) create-let.Post
+  create-let-raw-requires c κs = search needs
 
-create-let-create-row-requires : (t : ℕ) → create-let-lts.Need-create-row-requires (
-  raw-reads.Asked,
-  raw-reads.Learnt,
-  slots-reads.Asked,
-  slots-reads.Learnt,
-  create-row-below t,
-  create-row.Post,
-  emit-reads.Asked,
-  emit-reads.Learnt,
-) (create-let-at t) create-let.Post
-create-let-create-row-requires t c κs =
-    let asked = c .before .before .before .before .before .before .pre .1 in
-    let first = slot _ _ 0 (c .before .before .slots .ensures) in
-    let second = slot _ _ 1 (c .before .before .slots .ensures) in
-    (omega (arith, c .before .before .before .before .before .before .pre .0, let-below _ _ _ (asked .0) (asked .1) _ first _ second .0), let-first _ _ _ (asked .0) (asked .1) _ first _ second)
+  create-let-slots-requires : create-let-lts.Need-slots-requires create-let-callees (create-let-at t) create-let.Post
+  create-let-slots-requires c κs = search needs
 
-create-let-emit-requires : (t : ℕ) → create-let-lts.Need-emit-requires (
-  raw-reads.Asked,
-  raw-reads.Learnt,
-  slots-reads.Asked,
-  slots-reads.Learnt,
-  create-row-below t,
-  create-row.Post,
-  emit-reads.Asked,
-  emit-reads.Learnt,
-) (create-let-at t) create-let.Post
-create-let-emit-requires t c κs =
-    let asked = c .before .before .before .before .before .before .before .before .before .pre .1 in
-    let first = slot _ _ 0 (c .before .before .before .before .before .slots .ensures) in
-    let second = slot _ _ 1 (c .before .before .before .before .before .slots .ensures) in
-    (let-store _ _ _ (asked .0) (asked .1) _ first _ second (c .before .before .create-row .ensures), tt)
+  create-let-array-read-create-row : create-let-lts.Need-array-read-create-row create-let-callees (create-let-at t) create-let.Post
+  create-let-array-read-create-row c = search needs
 
-create-let-array-read-create-row-2 : (t : ℕ) → create-let-lts.Need-array-read-create-row-2 (
-  raw-reads.Asked,
-  raw-reads.Learnt,
-  slots-reads.Asked,
-  slots-reads.Learnt,
-  create-row-below t,
-  create-row.Post,
-  emit-reads.Asked,
-  emit-reads.Learnt,
-) (create-let-at t) create-let.Post
-create-let-array-read-create-row-2 t c = search needs
+  create-let-create-row-requires : create-let-lts.Need-create-row-requires create-let-callees (create-let-at t) create-let.Post
+  create-let-create-row-requires c κs =
+      let asked = c .before .before .before .before .before .before .pre .1 in
+      let first = slot _ _ 0 (c .before .before .slots .ensures) in
+      let second = slot _ _ 1 (c .before .before .slots .ensures) in
+      (omega (arith, c .before .before .before .before .before .before .pre .0, let-below _ _ _ (asked .0) (asked .1) _ first _ second .0), let-first _ _ _ (asked .0) (asked .1) _ first _ second)
 
-create-let-create-row-requires-2 : (t : ℕ) → create-let-lts.Need-create-row-requires-2 (
-  raw-reads.Asked,
-  raw-reads.Learnt,
-  slots-reads.Asked,
-  slots-reads.Learnt,
-  create-row-below t,
-  create-row.Post,
-  emit-reads.Asked,
-  emit-reads.Learnt,
-) (create-let-at t) create-let.Post
-create-let-create-row-requires-2 t c κs =
-    let asked = c .before .before .before .before .before .before .before .before .before .before .before .before .pre .1 in
-    let first = slot _ _ 0 (c .before .before .before .before .before .before .before .before .slots .ensures) in
-    let second = slot _ _ 1 (c .before .before .before .before .before .before .before .before .slots .ensures) in
-    (omega (arith, c .before .before .before .before .before .before .before .before .before .before .before .before .pre .0, let-below _ _ _ (asked .0) (asked .1) _ first _ second .1), let-second _ _ _ (asked .0) (asked .1) _ first _ second (c .before .before .before .before .before .create-row .ensures) (c .before .before .emit .ensures))
+  create-let-emit-requires : create-let-lts.Need-emit-requires create-let-callees (create-let-at t) create-let.Post
+  create-let-emit-requires c κs =
+      let asked = c .before .before .before .before .before .before .before .before .before .pre .1 in
+      let first = slot _ _ 0 (c .before .before .before .before .before .slots .ensures) in
+      let second = slot _ _ 1 (c .before .before .before .before .before .slots .ensures) in
+      (let-store _ _ _ (asked .0) (asked .1) _ first _ second (c .before .before .create-row .ensures), tt)
 
-create-let-returns : (t : ℕ) → create-let-lts.Need-returns (
-  raw-reads.Asked,
-  raw-reads.Learnt,
-  slots-reads.Asked,
-  slots-reads.Learnt,
-  create-row-below t,
-  create-row.Post,
-  emit-reads.Asked,
-  emit-reads.Learnt,
-) (create-let-at t) create-let.Post
-create-let-returns t c =
-    let asked = c .before .before .before .before .before .before .before .before .before .before .before .before .before .pre .1 in
-    let first = slot _ _ 0 (c .before .before .before .before .before .before .before .before .before .slots .ensures) in
-    let second = slot _ _ 1 (c .before .before .before .before .before .before .before .before .before .slots .ensures) in
-    let-done _ _ _ (asked .0) (asked .1) _ first _ second _ _ (c .before .before .before .before .before .before .before .before .before .before .raw .ensures) (c .before .before .before .before .before .before .create-row .ensures) (c .before .before .before .emit .ensures) (c .create-row2 .ensures)
+  create-let-array-read-create-row-2 : create-let-lts.Need-array-read-create-row-2 create-let-callees (create-let-at t) create-let.Post
+  create-let-array-read-create-row-2 c = search needs
 
--- there are four children
-parts-four : (t : ℕ) (s : create-parts-lts.Start (
-  create-row-below t,
-  create-row.Post,
-  scratch-reads.Asked,
-  scratch-reads.Learnt,
-  emit-reads.Asked,
-  emit-reads.Learnt,
-  create-parts-below t,
-  create-parts.Post,
-) (create-parts-at t) create-parts.Post) → length (s .args .t6) ≡ 4
-parts-four t s = search needs
+  create-let-create-row-requires-2 : create-let-lts.Need-create-row-requires-2 create-let-callees (create-let-at t) create-let.Post
+  create-let-create-row-requires-2 c κs =
+      let asked = c .before .before .before .before .before .before .before .before .before .before .before .before .pre .1 in
+      let first = slot _ _ 0 (c .before .before .before .before .before .before .before .before .slots .ensures) in
+      let second = slot _ _ 1 (c .before .before .before .before .before .before .before .before .slots .ensures) in
+      (omega (arith, c .before .before .before .before .before .before .before .before .before .before .before .before .pre .0, let-below _ _ _ (asked .0) (asked .1) _ first _ second .1), let-second _ _ _ (asked .0) (asked .1) _ first _ second (c .before .before .before .before .before .create-row .ensures) (c .before .before .emit .ensures))
 
-create-parts-array-read-create-row : (t : ℕ) → create-parts-lts.Need-array-read-create-row (
-  create-row-below t,
-  create-row.Post,
-  scratch-reads.Asked,
-  scratch-reads.Learnt,
-  emit-reads.Asked,
-  emit-reads.Learnt,
-  create-parts-below t,
-  create-parts.Post,
-) (create-parts-at t) create-parts.Post
-create-parts-array-read-create-row t c =
-    let s = c .before .before .before .before .before in
-    let less = c .before .before .if1 .taken in
-    part-index _ _ _ _ _ _ (parts-four t s) (s .pre .1) less
+  create-let-returns : create-let-lts.Need-returns create-let-callees (create-let-at t) create-let.Post
+  create-let-returns c =
+      let asked = c .before .before .before .before .before .before .before .before .before .before .before .before .before .pre .1 in
+      let first = slot _ _ 0 (c .before .before .before .before .before .before .before .before .before .slots .ensures) in
+      let second = slot _ _ 1 (c .before .before .before .before .before .before .before .before .before .slots .ensures) in
+      let-done _ _ _ (asked .0) (asked .1) _ first _ second _ _ (c .before .before .before .before .before .before .before .before .before .before .raw .ensures) (c .before .before .before .before .before .before .create-row .ensures) (c .before .before .before .emit .ensures) (c .create-row2 .ensures)
 
-create-parts-create-row-requires : (t : ℕ) → create-parts-lts.Need-create-row-requires (
-  create-row-below t,
-  create-row.Post,
-  scratch-reads.Asked,
-  scratch-reads.Learnt,
-  emit-reads.Asked,
-  emit-reads.Learnt,
-  create-parts-below t,
-  create-parts.Post,
-) (create-parts-at t) create-parts.Post
-create-parts-create-row-requires t c κs =
-    let s = c .before .before .before .before .before in
-    let less = c .before .before .if1 .taken in
-    (omega (arith, s .pre .0, part-below _ _ _ _ _ _ (parts-four t s) (s .pre .1) less), part-row _ _ _ _ _ _ (parts-four t s) (s .pre .1) less)
+  abbrev create-parts-callees : create-parts-lts.Claims
+  create-parts-callees =
+      (create-row-below t, create-row.Post, scratch-reads.Asked, scratch-reads.Learnt, emit-reads.Asked, emit-reads.Learnt, create-parts-below t, create-parts.Post)
 
-create-parts-add-scratch : (t : ℕ) → create-parts-lts.Need-add-scratch (
-  create-row-below t,
-  create-row.Post,
-  scratch-reads.Asked,
-  scratch-reads.Learnt,
-  emit-reads.Asked,
-  emit-reads.Learnt,
-  create-parts-below t,
-  create-parts.Post,
-) (create-parts-at t) create-parts.Post
-create-parts-add-scratch t c =
-    let s = c .before .before .before .before .before .before .before .before in
-    let less = c .before .before .before .before .before .if1 .taken in
-    omega (arith, part-cell _ _ _ _ _ _ (parts-four t s) (s .pre .1) less)
+  -- there are four children
+  parts-four : (s : create-parts-lts.Start create-parts-callees (create-parts-at t) create-parts.Post) → length (s .args .t6) ≡ 4
+  parts-four s = search needs
 
-create-parts-scratch-requires : (t : ℕ) → create-parts-lts.Need-scratch-requires (
-  create-row-below t,
-  create-row.Post,
-  scratch-reads.Asked,
-  scratch-reads.Learnt,
-  emit-reads.Asked,
-  emit-reads.Learnt,
-  create-parts-below t,
-  create-parts.Post,
-) (create-parts-at t) create-parts.Post
-create-parts-scratch-requires t c κs =
-    let s = c .before .before .before .before .before .before .before .before in
-    let less = c .before .before .before .before .before .if1 .taken in
-    omega (arith, part-cell _ _ _ _ _ _ (parts-four t s) (s .pre .1) less)
+  create-parts-array-read-create-row : create-parts-lts.Need-array-read-create-row create-parts-callees (create-parts-at t) create-parts.Post
+  create-parts-array-read-create-row c =
+      let s = c .before .before .before .before .before in
+      let less = c .before .before .if1 .taken in
+      part-index _ _ _ _ _ _ (parts-four s) (s .pre .1) less
 
-create-parts-emit-requires : (t : ℕ) → create-parts-lts.Need-emit-requires (
-  create-row-below t,
-  create-row.Post,
-  scratch-reads.Asked,
-  scratch-reads.Learnt,
-  emit-reads.Asked,
-  emit-reads.Learnt,
-  create-parts-below t,
-  create-parts.Post,
-) (create-parts-at t) create-parts.Post
-create-parts-emit-requires t c κs =
-    let s = c .before .before .before .before .before .before .before .before .before in
-    let less = c .before .before .before .before .before .before .if1 .taken in
-    (part-store _ _ _ _ _ _ (parts-four t s) (s .pre .1) less (c .before .before .before .create-row .ensures), tt)
+  create-parts-create-row-requires : create-parts-lts.Need-create-row-requires create-parts-callees (create-parts-at t) create-parts.Post
+  create-parts-create-row-requires c κs =
+      let s = c .before .before .before .before .before in
+      let less = c .before .before .if1 .taken in
+      (omega (arith, s .pre .0, part-below _ _ _ _ _ _ (parts-four s) (s .pre .1) less), part-row _ _ _ _ _ _ (parts-four s) (s .pre .1) less)
 
-create-parts-add-create-parts : (t : ℕ) → create-parts-lts.Need-add-create-parts (
-  create-row-below t,
-  create-row.Post,
-  scratch-reads.Asked,
-  scratch-reads.Learnt,
-  emit-reads.Asked,
-  emit-reads.Learnt,
-  create-parts-below t,
-  create-parts.Post,
-) (create-parts-at t) create-parts.Post
-create-parts-add-create-parts t c = search needs
+  create-parts-add-scratch : create-parts-lts.Need-add-scratch create-parts-callees (create-parts-at t) create-parts.Post
+  create-parts-add-scratch c =
+      let s = c .before .before .before .before .before .before .before .before in
+      let less = c .before .before .before .before .before .if1 .taken in
+      omega (arith, part-cell _ _ _ _ _ _ (parts-four s) (s .pre .1) less)
 
-create-parts-create-parts-requires : (t : ℕ) → create-parts-lts.Need-create-parts-requires (
-  create-row-below t,
-  create-row.Post,
-  scratch-reads.Asked,
-  scratch-reads.Learnt,
-  emit-reads.Asked,
-  emit-reads.Learnt,
-  create-parts-below t,
-  create-parts.Post,
-) (create-parts-at t) create-parts.Post
-create-parts-create-parts-requires t c κs =
-    let s = c .before .before .before .before .before .before .before .before .before .before .before .before in
-    let less = c .before .before .before .before .before .before .before .before .before .if1 .taken in
-    (omega (arith, s .pre .0, part-index _ _ _ _ _ _ (parts-four t s) (s .pre .1) less), part-rest _ _ _ _ _ _ (parts-four t s) (s .pre .1) less (c .before .before .before .before .before .before .create-row .ensures) (c .before .before .emit .ensures))
+  create-parts-scratch-requires : create-parts-lts.Need-scratch-requires create-parts-callees (create-parts-at t) create-parts.Post
+  create-parts-scratch-requires c κs =
+      let s = c .before .before .before .before .before .before .before .before in
+      let less = c .before .before .before .before .before .if1 .taken in
+      omega (arith, part-cell _ _ _ _ _ _ (parts-four s) (s .pre .1) less)
 
-create-parts-returns : (t : ℕ) → create-parts-lts.Need-returns (
-  create-row-below t,
-  create-row.Post,
-  scratch-reads.Asked,
-  scratch-reads.Learnt,
-  emit-reads.Asked,
-  emit-reads.Learnt,
-  create-parts-below t,
-  create-parts.Post,
-) (create-parts-at t) create-parts.Post
-create-parts-returns t c =
-    let s = c .before .before .before .before .before .before .before .before .before .before .before .before .before in
-    let less = c .before .before .before .before .before .before .before .before .before .before .if1 .taken in
-    part-done _ _ _ _ _ _ (parts-four t s) (s .pre .1) less _ _ (c .before .before .before .before .scratch .ensures) (c .before .before .before .before .before .before .before .create-row .ensures) (c .before .before .before .emit .ensures) (c .create-parts .ensures)
+  create-parts-emit-requires : create-parts-lts.Need-emit-requires create-parts-callees (create-parts-at t) create-parts.Post
+  create-parts-emit-requires c κs =
+      let s = c .before .before .before .before .before .before .before .before .before in
+      let less = c .before .before .before .before .before .before .if1 .taken in
+      (part-store _ _ _ _ _ _ (parts-four s) (s .pre .1) less (c .before .before .before .create-row .ensures), tt)
 
-create-parts-returns-2 : (t : ℕ) → create-parts-lts.Need-returns-2 (
-  create-row-below t,
-  create-row.Post,
-  scratch-reads.Asked,
-  scratch-reads.Learnt,
-  emit-reads.Asked,
-  emit-reads.Learnt,
-  create-parts-below t,
-  create-parts.Post,
-) (create-parts-at t) create-parts.Post
-create-parts-returns-2 t c =
-    let s = c .before .before .before in
-    parts-none _ _ _ _ _ _ (parts-four t s) (s .pre .1) (c .if1 .left) _
+  create-parts-add-create-parts : create-parts-lts.Need-add-create-parts create-parts-callees (create-parts-at t) create-parts.Post
+  create-parts-add-create-parts c = search needs
 
-create-row-mul-word : (t : ℕ) → create-row-lts.Need-mul-word (
-  tag-reads.Asked,
-  tag-reads.Learnt,
-  create-encryption-below t,
-  create-encryption.Post,
-  create-tuple-below t,
-  create-tuple.Post,
-  create-let-below t,
-  create-let.Post,
-  create-leaf-reads.Asked,
-  create-leaf-reads.Learnt,
-) (create-row-at t) create-row.Post
-create-row-mul-word t c = search needs
+  create-parts-create-parts-requires : create-parts-lts.Need-create-parts-requires create-parts-callees (create-parts-at t) create-parts.Post
+  create-parts-create-parts-requires c κs =
+      let s = c .before .before .before .before .before .before .before .before .before .before .before .before in
+      let less = c .before .before .before .before .before .before .before .before .before .if1 .taken in
+      (omega (arith, s .pre .0, part-index _ _ _ _ _ _ (parts-four s) (s .pre .1) less), part-rest _ _ _ _ _ _ (parts-four s) (s .pre .1) less (c .before .before .before .before .before .before .create-row .ensures) (c .before .before .emit .ensures))
 
-create-row-shared-slice-read-word : (t : ℕ) → create-row-lts.Need-shared-slice-read-word (
-  tag-reads.Asked,
-  tag-reads.Learnt,
-  create-encryption-below t,
-  create-encryption.Post,
-  create-tuple-below t,
-  create-tuple.Post,
-  create-let-below t,
-  create-let.Post,
-  create-leaf-reads.Asked,
-  create-leaf-reads.Learnt,
-) (create-row-at t) create-row.Post
-create-row-shared-slice-read-word t c = search needs
+  create-parts-returns : create-parts-lts.Need-returns create-parts-callees (create-parts-at t) create-parts.Post
+  create-parts-returns c =
+      let s = c .before .before .before .before .before .before .before .before .before .before .before .before .before in
+      let less = c .before .before .before .before .before .before .before .before .before .before .if1 .taken in
+      part-done _ _ _ _ _ _ (parts-four s) (s .pre .1) less _ _ (c .before .before .before .before .scratch .ensures) (c .before .before .before .before .before .before .before .create-row .ensures) (c .before .before .before .emit .ensures) (c .create-parts .ensures)
 
-create-row-tag-requires : (t : ℕ) → create-row-lts.Need-tag-requires (
-  tag-reads.Asked,
-  tag-reads.Learnt,
-  create-encryption-below t,
-  create-encryption.Post,
-  create-tuple-below t,
-  create-tuple.Post,
-  create-let-below t,
-  create-let.Post,
-  create-leaf-reads.Asked,
-  create-leaf-reads.Learnt,
-) (create-row-at t) create-row.Post
-create-row-tag-requires t c κs = search needs
+  create-parts-returns-2 : create-parts-lts.Need-returns-2 create-parts-callees (create-parts-at t) create-parts.Post
+  create-parts-returns-2 c =
+      let s = c .before .before .before in
+      parts-none _ _ _ _ _ _ (parts-four s) (s .pre .1) (c .if1 .left) _
 
-create-row-create-encryption-requires : (t : ℕ) → create-row-lts.Need-create-encryption-requires (
-  tag-reads.Asked,
-  tag-reads.Learnt,
-  create-encryption-below t,
-  create-encryption.Post,
-  create-tuple-below t,
-  create-tuple.Post,
-  create-let-below t,
-  create-let.Post,
-  create-leaf-reads.Asked,
-  create-leaf-reads.Learnt,
-) (create-row-at t) create-row.Post
-create-row-create-encryption-requires t c κs =
-    let s = c .before .before .before .before .before .before .before in
-    (omega (arith, s .pre .0), (record { here = refl; whole = s .pre .1 }, sym (c .before .before .before .tag .ensures) ∙ c .before .before .match .keys1))
+  abbrev create-row-callees : create-row-lts.Claims
+  create-row-callees =
+      (tag-reads.Asked, tag-reads.Learnt, create-encryption-below t, create-encryption.Post, create-tuple-below t, create-tuple.Post, create-let-below t, create-let.Post, create-leaf-reads.Asked, create-leaf-reads.Learnt)
 
-create-row-create-tuple-requires : (t : ℕ) → create-row-lts.Need-create-tuple-requires (
-  tag-reads.Asked,
-  tag-reads.Learnt,
-  create-encryption-below t,
-  create-encryption.Post,
-  create-tuple-below t,
-  create-tuple.Post,
-  create-let-below t,
-  create-let.Post,
-  create-leaf-reads.Asked,
-  create-leaf-reads.Learnt,
-) (create-row-at t) create-row.Post
-create-row-create-tuple-requires t c κs =
-    let s = c .before .before .before .before .before .before .before in
-    (omega (arith, s .pre .0), (record { here = refl; whole = s .pre .1 }, sym (c .before .before .before .tag .ensures) ∙ c .before .before .match .keys2))
+  create-row-mul-word : create-row-lts.Need-mul-word create-row-callees (create-row-at t) create-row.Post
+  create-row-mul-word c = search needs
 
-create-row-create-let-requires : (t : ℕ) → create-row-lts.Need-create-let-requires (
-  tag-reads.Asked,
-  tag-reads.Learnt,
-  create-encryption-below t,
-  create-encryption.Post,
-  create-tuple-below t,
-  create-tuple.Post,
-  create-let-below t,
-  create-let.Post,
-  create-leaf-reads.Asked,
-  create-leaf-reads.Learnt,
-) (create-row-at t) create-row.Post
-create-row-create-let-requires t c κs =
-    let s = c .before .before .before .before .before .before .before in
-    (omega (arith, s .pre .0), (record { here = refl; whole = s .pre .1 }, sym (c .before .before .before .tag .ensures) ∙ c .before .before .match .keys3))
+  create-row-shared-slice-read-word : create-row-lts.Need-shared-slice-read-word create-row-callees (create-row-at t) create-row.Post
+  create-row-shared-slice-read-word c = search needs
 
-create-row-create-leaf-requires : (t : ℕ) → create-row-lts.Need-create-leaf-requires (
-  tag-reads.Asked,
-  tag-reads.Learnt,
-  create-encryption-below t,
-  create-encryption.Post,
-  create-tuple-below t,
-  create-tuple.Post,
-  create-let-below t,
-  create-let.Post,
-  create-leaf-reads.Asked,
-  create-leaf-reads.Learnt,
-) (create-row-at t) create-row.Post
-create-row-create-leaf-requires t c κs =
-    let tag = c .before .before .before .tag .ensures in
-    let other = c .before .before .match .rest in
-    (record { here = refl; whole = c .before .before .before .before .before .before .before .pre .1 }, record { encryption = λ h. other .0 .0 .1 (tag ∙ h); tuple = λ h. other .0 .1 (tag ∙ h); letIn = λ h. other .1 (tag ∙ h) })
+  create-row-tag-requires : create-row-lts.Need-tag-requires create-row-callees (create-row-at t) create-row.Post
+  create-row-tag-requires c κs = search needs
 
-create-row-returns : (t : ℕ) → create-row-lts.Need-returns (
-  tag-reads.Asked,
-  tag-reads.Learnt,
-  create-encryption-below t,
-  create-encryption.Post,
-  create-tuple-below t,
-  create-tuple.Post,
-  create-let-below t,
-  create-let.Post,
-  create-leaf-reads.Asked,
-  create-leaf-reads.Learnt,
-) (create-row-at t) create-row.Post
-create-row-returns t c = search needs
+  create-row-create-encryption-requires : create-row-lts.Need-create-encryption-requires create-row-callees (create-row-at t) create-row.Post
+  create-row-create-encryption-requires c κs =
+      let s = c .before .before .before .before .before .before .before in
+      (omega (arith, s .pre .0), (record { here = refl; whole = s .pre .1 }, sym (c .before .before .before .tag .ensures) ∙ c .before .before .match .keys1))
 
-create-row-returns-2 : (t : ℕ) → create-row-lts.Need-returns-2 (
-  tag-reads.Asked,
-  tag-reads.Learnt,
-  create-encryption-below t,
-  create-encryption.Post,
-  create-tuple-below t,
-  create-tuple.Post,
-  create-let-below t,
-  create-let.Post,
-  create-leaf-reads.Asked,
-  create-leaf-reads.Learnt,
-) (create-row-at t) create-row.Post
-create-row-returns-2 t c = search needs
+  create-row-create-tuple-requires : create-row-lts.Need-create-tuple-requires create-row-callees (create-row-at t) create-row.Post
+  create-row-create-tuple-requires c κs =
+      let s = c .before .before .before .before .before .before .before in
+      (omega (arith, s .pre .0), (record { here = refl; whole = s .pre .1 }, sym (c .before .before .before .tag .ensures) ∙ c .before .before .match .keys2))
 
-create-row-returns-3 : (t : ℕ) → create-row-lts.Need-returns-3 (
-  tag-reads.Asked,
-  tag-reads.Learnt,
-  create-encryption-below t,
-  create-encryption.Post,
-  create-tuple-below t,
-  create-tuple.Post,
-  create-let-below t,
-  create-let.Post,
-  create-leaf-reads.Asked,
-  create-leaf-reads.Learnt,
-) (create-row-at t) create-row.Post
-create-row-returns-3 t c = search needs
+  create-row-create-let-requires : create-row-lts.Need-create-let-requires create-row-callees (create-row-at t) create-row.Post
+  create-row-create-let-requires c κs =
+      let s = c .before .before .before .before .before .before .before in
+      (omega (arith, s .pre .0), (record { here = refl; whole = s .pre .1 }, sym (c .before .before .before .tag .ensures) ∙ c .before .before .match .keys3))
 
-create-row-returns-4 : (t : ℕ) → create-row-lts.Need-returns-4 (
-  tag-reads.Asked,
-  tag-reads.Learnt,
-  create-encryption-below t,
-  create-encryption.Post,
-  create-tuple-below t,
-  create-tuple.Post,
-  create-let-below t,
-  create-let.Post,
-  create-leaf-reads.Asked,
-  create-leaf-reads.Learnt,
-) (create-row-at t) create-row.Post
-create-row-returns-4 t c = search needs
+  create-row-create-leaf-requires : create-row-lts.Need-create-leaf-requires create-row-callees (create-row-at t) create-row.Post
+  create-row-create-leaf-requires c κs =
+      let tag = c .before .before .before .tag .ensures in
+      let other = c .before .before .match .rest in
+      (record { here = refl; whole = c .before .before .before .before .before .before .before .pre .1 }, record { encryption = λ h. other .0 .0 .1 (tag ∙ h); tuple = λ h. other .0 .1 (tag ∙ h); letIn = λ h. other .1 (tag ∙ h) })
 
-create-tuple-variable-requires : (t : ℕ) → create-tuple-lts.Need-variable-requires (
-  variable-reads.Asked,
-  variable-reads.Learnt,
-  count-reads.Asked,
-  count-reads.Learnt,
-  slots-reads.Asked,
-  slots-reads.Learnt,
-  take-reads.Asked,
-  take-reads.Learnt,
-  create-parts-below t,
-  create-parts.Post,
-  scratch-reads.Asked,
-  scratch-reads.Learnt,
-  emit-reads.Asked,
-  emit-reads.Learnt,
-) (create-tuple-at t) create-tuple.Post
-create-tuple-variable-requires t c κs = search needs
+  create-row-returns : create-row-lts.Need-returns create-row-callees (create-row-at t) create-row.Post
+  create-row-returns c = search needs
 
-create-tuple-count-requires : (t : ℕ) → create-tuple-lts.Need-count-requires (
-  variable-reads.Asked,
-  variable-reads.Learnt,
-  count-reads.Asked,
-  count-reads.Learnt,
-  slots-reads.Asked,
-  slots-reads.Learnt,
-  take-reads.Asked,
-  take-reads.Learnt,
-  create-parts-below t,
-  create-parts.Post,
-  scratch-reads.Asked,
-  scratch-reads.Learnt,
-  emit-reads.Asked,
-  emit-reads.Learnt,
-) (create-tuple-at t) create-tuple.Post
-create-tuple-count-requires t c κs = search needs
+  create-row-returns-2 : create-row-lts.Need-returns-2 create-row-callees (create-row-at t) create-row.Post
+  create-row-returns-2 c = search needs
 
-create-tuple-slots-requires : (t : ℕ) → create-tuple-lts.Need-slots-requires (
-  variable-reads.Asked,
-  variable-reads.Learnt,
-  count-reads.Asked,
-  count-reads.Learnt,
-  slots-reads.Asked,
-  slots-reads.Learnt,
-  take-reads.Asked,
-  take-reads.Learnt,
-  create-parts-below t,
-  create-parts.Post,
-  scratch-reads.Asked,
-  scratch-reads.Learnt,
-  emit-reads.Asked,
-  emit-reads.Learnt,
-) (create-tuple-at t) create-tuple.Post
-create-tuple-slots-requires t c κs = search needs
+  create-row-returns-3 : create-row-lts.Need-returns-3 create-row-callees (create-row-at t) create-row.Post
+  create-row-returns-3 c = search needs
 
-create-tuple-take-requires : (t : ℕ) → create-tuple-lts.Need-take-requires (
-  variable-reads.Asked,
-  variable-reads.Learnt,
-  count-reads.Asked,
-  count-reads.Learnt,
-  slots-reads.Asked,
-  slots-reads.Learnt,
-  take-reads.Asked,
-  take-reads.Learnt,
-  create-parts-below t,
-  create-parts.Post,
-  scratch-reads.Asked,
-  scratch-reads.Learnt,
-  emit-reads.Asked,
-  emit-reads.Learnt,
-) (create-tuple-at t) create-tuple.Post
-create-tuple-take-requires t c κs =
-    let room = leaf-room _ _ _ _ (c .before .before .before .before .before .before .pre .1 .0) in
-    (room .long, omega (arith, room .free))
+  create-row-returns-4 : create-row-lts.Need-returns-4 create-row-callees (create-row-at t) create-row.Post
+  create-row-returns-4 c = search needs
 
-create-tuple-create-parts-requires : (t : ℕ) → create-tuple-lts.Need-create-parts-requires (
-  variable-reads.Asked,
-  variable-reads.Learnt,
-  count-reads.Asked,
-  count-reads.Learnt,
-  slots-reads.Asked,
-  slots-reads.Learnt,
-  take-reads.Asked,
-  take-reads.Learnt,
-  create-parts-below t,
-  create-parts.Post,
-  scratch-reads.Asked,
-  scratch-reads.Learnt,
-  emit-reads.Asked,
-  emit-reads.Learnt,
-) (create-tuple-at t) create-tuple.Post
-create-tuple-create-parts-requires t c κs =
-    let asked = c .before .before .before .before .before .before .before .before .before .pre .1 in
-    let taken = c .before .before .take .ensures in
-    (omega (arith, c .before .before .before .before .before .before .before .before .before .pre .0), tuple-parts _ _ _ (asked .0) (asked .1) _ (c .before .before .before .before .before .count .ensures) _ (c .before .before .before .before .slots .ensures) _ (taken .0) (taken .1))
+  abbrev create-tuple-callees : create-tuple-lts.Claims
+  create-tuple-callees =
+      (variable-reads.Asked, variable-reads.Learnt, count-reads.Asked, count-reads.Learnt, slots-reads.Asked, slots-reads.Learnt, take-reads.Asked, take-reads.Learnt, create-parts-below t, create-parts.Post, scratch-reads.Asked, scratch-reads.Learnt, emit-reads.Asked, emit-reads.Learnt)
 
-create-tuple-scratch-requires : (t : ℕ) → create-tuple-lts.Need-scratch-requires (
-  variable-reads.Asked,
-  variable-reads.Learnt,
-  count-reads.Asked,
-  count-reads.Learnt,
-  slots-reads.Asked,
-  slots-reads.Learnt,
-  take-reads.Asked,
-  take-reads.Learnt,
-  create-parts-below t,
-  create-parts.Post,
-  scratch-reads.Asked,
-  scratch-reads.Learnt,
-  emit-reads.Asked,
-  emit-reads.Learnt,
-) (create-tuple-at t) create-tuple.Post
-create-tuple-scratch-requires t c κs = omega (arith, c .before .before .before .take .ensures .0, leaf-room _ _ _ _ (c .before .before .before .before .before .before .before .before .before .before .pre .1 .0) .free)
+  create-tuple-variable-requires : create-tuple-lts.Need-variable-requires create-tuple-callees (create-tuple-at t) create-tuple.Post
+  create-tuple-variable-requires c κs = search needs
 
-create-tuple-emit-requires : (t : ℕ) → create-tuple-lts.Need-emit-requires (
-  variable-reads.Asked,
-  variable-reads.Learnt,
-  count-reads.Asked,
-  count-reads.Learnt,
-  slots-reads.Asked,
-  slots-reads.Learnt,
-  take-reads.Asked,
-  take-reads.Learnt,
-  create-parts-below t,
-  create-parts.Post,
-  scratch-reads.Asked,
-  scratch-reads.Learnt,
-  emit-reads.Asked,
-  emit-reads.Learnt,
-) (create-tuple-at t) create-tuple.Post
-create-tuple-emit-requires t c κs =
-    let asked = c .before .before .before .before .before .before .before .before .before .before .before .before .before .pre .1 in
-    let taken = c .before .before .before .before .before .before .take .ensures in
-    (tuple-create _ _ _ (asked .0) (asked .1) _ (c .before .before .before .before .before .before .before .before .before .count .ensures) _ (c .before .before .before .before .before .before .before .before .slots .ensures) _ (taken .0) (taken .1) (c .before .before .before .create-parts .ensures), variable-low _ _ (c .before .before .before .before .before .before .before .before .before .before .variable .ensures))
+  create-tuple-count-requires : create-tuple-lts.Need-count-requires create-tuple-callees (create-tuple-at t) create-tuple.Post
+  create-tuple-count-requires c κs = search needs
 
-create-tuple-emit-requires-2 : (t : ℕ) → create-tuple-lts.Need-emit-requires-2 (
-  variable-reads.Asked,
-  variable-reads.Learnt,
-  count-reads.Asked,
-  count-reads.Learnt,
-  slots-reads.Asked,
-  slots-reads.Learnt,
-  take-reads.Asked,
-  take-reads.Learnt,
-  create-parts-below t,
-  create-parts.Post,
-  scratch-reads.Asked,
-  scratch-reads.Learnt,
-  emit-reads.Asked,
-  emit-reads.Learnt,
-) (create-tuple-at t) create-tuple.Post
-create-tuple-emit-requires-2 t c κs =
-    let asked = c .before .before .before .before .before .before .before .before .before .before .before .before .before .before .before .before .pre .1 in
-    let taken = c .before .before .before .before .before .before .before .before .before .take .ensures in
-    (tuple-encode _ _ _ (asked .0) (asked .1) _ (c .before .before .before .before .before .before .before .before .before .before .before .before .count .ensures) _ (c .before .before .before .before .before .before .before .before .before .before .before .slots .ensures) _ (taken .0) (taken .1) (c .before .before .before .before .before .before .create-parts .ensures) (c .before .before .emit .ensures), tt)
+  create-tuple-slots-requires : create-tuple-lts.Need-slots-requires create-tuple-callees (create-tuple-at t) create-tuple.Post
+  create-tuple-slots-requires c κs = search needs
 
-create-tuple-returns : (t : ℕ) → create-tuple-lts.Need-returns (
-  variable-reads.Asked,
-  variable-reads.Learnt,
-  count-reads.Asked,
-  count-reads.Learnt,
-  slots-reads.Asked,
-  slots-reads.Learnt,
-  take-reads.Asked,
-  take-reads.Learnt,
-  create-parts-below t,
-  create-parts.Post,
-  scratch-reads.Asked,
-  scratch-reads.Learnt,
-  emit-reads.Asked,
-  emit-reads.Learnt,
-) (create-tuple-at t) create-tuple.Post
-create-tuple-returns t c =
-    let asked = c .before .before .before .before .before .before .before .before .before .before .before .before .before .before .before .before .before .pre .1 in
-    let taken = c .before .before .before .before .before .before .before .before .before .before .take .ensures in
-    tuple-done _ _ _ (asked .0) (asked .1) _ (c .before .before .before .before .before .before .before .before .before .before .before .before .before .count .ensures) _ (c .before .before .before .before .before .before .before .before .before .before .before .before .slots .ensures) _ (taken .0) (taken .1) _ _ _ (c .before .before .before .before .before .before .before .before .before .before .before .before .before .before .variable .ensures) (c .before .before .before .before .before .before .scratch .ensures) (c .before .before .before .before .before .before .before .create-parts .ensures) (c .before .before .before .emit .ensures) (c .emit2 .ensures)
+  create-tuple-take-requires : create-tuple-lts.Need-take-requires create-tuple-callees (create-tuple-at t) create-tuple.Post
+  create-tuple-take-requires c κs =
+      let room = leaf-room _ _ _ _ (c .before .before .before .before .before .before .pre .1 .0) in
+      (room .long, omega (arith, room .free))
+
+  create-tuple-create-parts-requires : create-tuple-lts.Need-create-parts-requires create-tuple-callees (create-tuple-at t) create-tuple.Post
+  create-tuple-create-parts-requires c κs =
+      let asked = c .before .before .before .before .before .before .before .before .before .pre .1 in
+      let taken = c .before .before .take .ensures in
+      (omega (arith, c .before .before .before .before .before .before .before .before .before .pre .0), tuple-parts _ _ _ (asked .0) (asked .1) _ (c .before .before .before .before .before .count .ensures) _ (c .before .before .before .before .slots .ensures) _ (taken .0) (taken .1))
+
+  create-tuple-scratch-requires : create-tuple-lts.Need-scratch-requires create-tuple-callees (create-tuple-at t) create-tuple.Post
+  create-tuple-scratch-requires c κs = omega (arith, c .before .before .before .take .ensures .0, leaf-room _ _ _ _ (c .before .before .before .before .before .before .before .before .before .before .pre .1 .0) .free)
+
+  create-tuple-emit-requires : create-tuple-lts.Need-emit-requires create-tuple-callees (create-tuple-at t) create-tuple.Post
+  create-tuple-emit-requires c κs =
+      let asked = c .before .before .before .before .before .before .before .before .before .before .before .before .before .pre .1 in
+      let taken = c .before .before .before .before .before .before .take .ensures in
+      (tuple-create _ _ _ (asked .0) (asked .1) _ (c .before .before .before .before .before .before .before .before .before .count .ensures) _ (c .before .before .before .before .before .before .before .before .slots .ensures) _ (taken .0) (taken .1) (c .before .before .before .create-parts .ensures), variable-low _ _ (c .before .before .before .before .before .before .before .before .before .before .variable .ensures))
+
+  create-tuple-emit-requires-2 : create-tuple-lts.Need-emit-requires-2 create-tuple-callees (create-tuple-at t) create-tuple.Post
+  create-tuple-emit-requires-2 c κs =
+      let asked = c .before .before .before .before .before .before .before .before .before .before .before .before .before .before .before .before .pre .1 in
+      let taken = c .before .before .before .before .before .before .before .before .before .take .ensures in
+      (tuple-encode _ _ _ (asked .0) (asked .1) _ (c .before .before .before .before .before .before .before .before .before .before .before .before .count .ensures) _ (c .before .before .before .before .before .before .before .before .before .before .before .slots .ensures) _ (taken .0) (taken .1) (c .before .before .before .before .before .before .create-parts .ensures) (c .before .before .emit .ensures), tt)
+
+  create-tuple-returns : create-tuple-lts.Need-returns create-tuple-callees (create-tuple-at t) create-tuple.Post
+  create-tuple-returns c =
+      let asked = c .before .before .before .before .before .before .before .before .before .before .before .before .before .before .before .before .before .pre .1 in
+      let taken = c .before .before .before .before .before .before .before .before .before .before .take .ensures in
+      tuple-done _ _ _ (asked .0) (asked .1) _ (c .before .before .before .before .before .before .before .before .before .before .before .before .before .count .ensures) _ (c .before .before .before .before .before .before .before .before .before .before .before .before .slots .ensures) _ (taken .0) (taken .1) _ _ _ (c .before .before .before .before .before .before .before .before .before .before .before .before .before .before .variable .ensures) (c .before .before .before .before .before .before .scratch .ensures) (c .before .before .before .before .before .before .before .create-parts .ensures) (c .before .before .before .emit .ensures) (c .emit2 .ensures)
 
 pub +create-encryption+create-let+create-parts+create-row+create-tuple-spec :
     {M : Type 1} → statement M
@@ -877,20 +362,7 @@ pub +create-encryption+create-let+create-parts+create-row+create-tuple-spec :
     μ-create-parts
     μ-create-row
     μ-create-tuple
-    (λ t. create-encryption-lts.spec (
-      variable-reads.Asked,
-      variable-reads.Learnt,
-      x-reads.Asked,
-      x-reads.Learnt,
-      slots-reads.Asked,
-      slots-reads.Learnt,
-      create-key-reads.Asked,
-      create-key-reads.Learnt,
-      create-row-below t,
-      create-row.Post,
-      emit-reads.Asked,
-      emit-reads.Learnt,
-    )
+    (λ t. create-encryption-lts.spec (create-encryption-callees t)
     (create-encryption-at t)
     create-encryption.Post
     (create-encryption-variable-requires t)
@@ -902,16 +374,7 @@ pub +create-encryption+create-let+create-parts+create-row+create-tuple-spec :
     (create-encryption-emit-requires t)
     (create-encryption-emit-requires-2 t)
     (create-encryption-returns t))
-    (λ t. create-let-lts.spec (
-      raw-reads.Asked,
-      raw-reads.Learnt,
-      slots-reads.Asked,
-      slots-reads.Learnt,
-      create-row-below t,
-      create-row.Post,
-      emit-reads.Asked,
-      emit-reads.Learnt,
-    )
+    (λ t. create-let-lts.spec (create-let-callees t)
     (create-let-at t)
     create-let.Post
     (create-let-raw-requires t)
@@ -922,16 +385,7 @@ pub +create-encryption+create-let+create-parts+create-row+create-tuple-spec :
     (create-let-array-read-create-row-2 t)
     (create-let-create-row-requires-2 t)
     (create-let-returns t))
-    (λ t. create-parts-lts.spec (
-      create-row-below t,
-      create-row.Post,
-      scratch-reads.Asked,
-      scratch-reads.Learnt,
-      emit-reads.Asked,
-      emit-reads.Learnt,
-      create-parts-below t,
-      create-parts.Post,
-    )
+    (λ t. create-parts-lts.spec (create-parts-callees t)
     (create-parts-at t)
     create-parts.Post
     (create-parts-array-read-create-row t)
@@ -943,18 +397,7 @@ pub +create-encryption+create-let+create-parts+create-row+create-tuple-spec :
     (create-parts-create-parts-requires t)
     (create-parts-returns t)
     (create-parts-returns-2 t))
-    (λ t. create-row-lts.spec (
-      tag-reads.Asked,
-      tag-reads.Learnt,
-      create-encryption-below t,
-      create-encryption.Post,
-      create-tuple-below t,
-      create-tuple.Post,
-      create-let-below t,
-      create-let.Post,
-      create-leaf-reads.Asked,
-      create-leaf-reads.Learnt,
-    )
+    (λ t. create-row-lts.spec (create-row-callees t)
     (create-row-at t)
     create-row.Post
     (create-row-mul-word t)
@@ -968,22 +411,7 @@ pub +create-encryption+create-let+create-parts+create-row+create-tuple-spec :
     (create-row-returns-2 t)
     (create-row-returns-3 t)
     (create-row-returns-4 t))
-    λ t. create-tuple-lts.spec (
-      variable-reads.Asked,
-      variable-reads.Learnt,
-      count-reads.Asked,
-      count-reads.Learnt,
-      slots-reads.Asked,
-      slots-reads.Learnt,
-      take-reads.Asked,
-      take-reads.Learnt,
-      create-parts-below t,
-      create-parts.Post,
-      scratch-reads.Asked,
-      scratch-reads.Learnt,
-      emit-reads.Asked,
-      emit-reads.Learnt,
-    )
+    λ t. create-tuple-lts.spec (create-tuple-callees t)
     (create-tuple-at t)
     create-tuple.Post
     (create-tuple-variable-requires t)

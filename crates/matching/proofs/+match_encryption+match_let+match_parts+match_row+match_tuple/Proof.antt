@@ -106,867 +106,249 @@ abbrev match-tuple-below : ℕ → In 3 match-tuple-kinds.ps
 match-tuple-below t =
     and 3 match-tuple-kinds.ps (falls 3 match-tuple-kinds.ps _<_ μ-match-tuple t) match-tuple.Pre
 
-match-encryption-key-form-requires : (t : ℕ) → match-encryption-lts.Need-key-form-requires (
-  key-form-reads.Asked,
-  key-form-reads.Learnt,
-  variable-reads.Asked,
-  variable-reads.Learnt,
-  emit-reads.Asked,
-  emit-reads.Learnt,
-  x-reads.Asked,
-  x-reads.Learnt,
-  slots-reads.Asked,
-  slots-reads.Learnt,
-  match-row-below t,
-  match-row.Post,
-  wrong-kind-reads.Asked,
-  wrong-kind-reads.Learnt,
-) (match-encryption-at t) match-encryption.Post
-match-encryption-key-form-requires t c κs = search needs
-
-match-encryption-variable-requires : (t : ℕ) → match-encryption-lts.Need-variable-requires (
-  key-form-reads.Asked,
-  key-form-reads.Learnt,
-  variable-reads.Asked,
-  variable-reads.Learnt,
-  emit-reads.Asked,
-  emit-reads.Learnt,
-  x-reads.Asked,
-  x-reads.Learnt,
-  slots-reads.Asked,
-  slots-reads.Learnt,
-  match-row-below t,
-  match-row.Post,
-  wrong-kind-reads.Asked,
-  wrong-kind-reads.Learnt,
-) (match-encryption-at t) match-encryption.Post
-match-encryption-variable-requires t c κs = search needs
-
-match-encryption-emit-requires : (t : ℕ) → match-encryption-lts.Need-emit-requires (
-  key-form-reads.Asked,
-  key-form-reads.Learnt,
-  variable-reads.Asked,
-  variable-reads.Learnt,
-  emit-reads.Asked,
-  emit-reads.Learnt,
-  x-reads.Asked,
-  x-reads.Learnt,
-  slots-reads.Asked,
-  slots-reads.Learnt,
-  match-row-below t,
-  match-row.Post,
-  wrong-kind-reads.Asked,
-  wrong-kind-reads.Learnt,
-) (match-encryption-at t) match-encryption.Post
-match-encryption-emit-requires t c κs = (room-le (lit≤ tt) (lit≤ tt) (leaf-room _ _ _ _ (c .before .before .before .before .before .pre .1 .0)), variable-low _ _ (c .variable .ensures))
-
-match-encryption-x-requires : (t : ℕ) → match-encryption-lts.Need-x-requires (
-  key-form-reads.Asked,
-  key-form-reads.Learnt,
-  variable-reads.Asked,
-  variable-reads.Learnt,
-  emit-reads.Asked,
-  emit-reads.Learnt,
-  x-reads.Asked,
-  x-reads.Learnt,
-  slots-reads.Asked,
-  slots-reads.Learnt,
-  match-row-below t,
-  match-row.Post,
-  wrong-kind-reads.Asked,
-  wrong-kind-reads.Learnt,
-) (match-encryption-at t) match-encryption.Post
-match-encryption-x-requires t c κs = search needs
-
-match-encryption-emit-requires-2 : (t : ℕ) → match-encryption-lts.Need-emit-requires-2 (
-  key-form-reads.Asked,
-  key-form-reads.Learnt,
-  variable-reads.Asked,
-  variable-reads.Learnt,
-  emit-reads.Asked,
-  emit-reads.Learnt,
-  x-reads.Asked,
-  x-reads.Learnt,
-  slots-reads.Asked,
-  slots-reads.Learnt,
-  match-row-below t,
-  match-row.Post,
-  wrong-kind-reads.Asked,
-  wrong-kind-reads.Learnt,
-) (match-encryption-at t) match-encryption.Post
-match-encryption-emit-requires-2 t c κs = (room-then (lit≤ tt) (lit≤ tt) (leaf-room _ _ _ _ (c .before .before .before .before .before .before .before .before .before .pre .1 .0)) (c .before .before .before .emit .ensures), tt)
-
-match-encryption-slots-requires : (t : ℕ) → match-encryption-lts.Need-slots-requires (
-  key-form-reads.Asked,
-  key-form-reads.Learnt,
-  variable-reads.Asked,
-  variable-reads.Learnt,
-  emit-reads.Asked,
-  emit-reads.Learnt,
-  x-reads.Asked,
-  x-reads.Learnt,
-  slots-reads.Asked,
-  slots-reads.Learnt,
-  match-row-below t,
-  match-row.Post,
-  wrong-kind-reads.Asked,
-  wrong-kind-reads.Learnt,
-) (match-encryption-at t) match-encryption.Post
-match-encryption-slots-requires t c κs = search needs
-
-match-encryption-array-read-match-row : (t : ℕ) → match-encryption-lts.Need-array-read-match-row (
-  key-form-reads.Asked,
-  key-form-reads.Learnt,
-  variable-reads.Asked,
-  variable-reads.Learnt,
-  emit-reads.Asked,
-  emit-reads.Learnt,
-  x-reads.Asked,
-  x-reads.Learnt,
-  slots-reads.Asked,
-  slots-reads.Learnt,
-  match-row-below t,
-  match-row.Post,
-  wrong-kind-reads.Asked,
-  wrong-kind-reads.Learnt,
-) (match-encryption-at t) match-encryption.Post
-match-encryption-array-read-match-row t c = search needs
-
-match-encryption-match-row-requires : (t : ℕ) → match-encryption-lts.Need-match-row-requires (
-  key-form-reads.Asked,
-  key-form-reads.Learnt,
-  variable-reads.Asked,
-  variable-reads.Learnt,
-  emit-reads.Asked,
-  emit-reads.Learnt,
-  x-reads.Asked,
-  x-reads.Learnt,
-  slots-reads.Asked,
-  slots-reads.Learnt,
-  match-row-below t,
-  match-row.Post,
-  wrong-kind-reads.Asked,
-  wrong-kind-reads.Learnt,
-) (match-encryption-at t) match-encryption.Post
-match-encryption-match-row-requires t c κs =
-    let s = c .before .before .before .before .before .before .before .before .before .before .before .before .before in
-    let child = ap (λ (l : List ℕ). getD l 0 0) (c .before .before .slots .ensures) in
-    (omega (arith, s .pre .0, encryption-below _ _ _ (s .pre .1 .0) (s .pre .1 .1) _ child), encryption-asks _ _ _ (s .pre .1 .0) (s .pre .1 .1) _ child (c .before .before .before .before .before .before .before .emit .ensures) (c .before .before .before .emit2 .ensures))
-
-match-encryption-wrong-kind-requires : (t : ℕ) → match-encryption-lts.Need-wrong-kind-requires (
-  key-form-reads.Asked,
-  key-form-reads.Learnt,
-  variable-reads.Asked,
-  variable-reads.Learnt,
-  emit-reads.Asked,
-  emit-reads.Learnt,
-  x-reads.Asked,
-  x-reads.Learnt,
-  slots-reads.Asked,
-  slots-reads.Learnt,
-  match-row-below t,
-  match-row.Post,
-  wrong-kind-reads.Asked,
-  wrong-kind-reads.Learnt,
-) (match-encryption-at t) match-encryption.Post
-match-encryption-wrong-kind-requires t c κs = c .before .before .before .pre .1 .0 .whole .room .long
-
-match-encryption-returns : (t : ℕ) → match-encryption-lts.Need-returns (
-  key-form-reads.Asked,
-  key-form-reads.Learnt,
-  variable-reads.Asked,
-  variable-reads.Learnt,
-  emit-reads.Asked,
-  emit-reads.Learnt,
-  x-reads.Asked,
-  x-reads.Learnt,
-  slots-reads.Asked,
-  slots-reads.Learnt,
-  match-row-below t,
-  match-row.Post,
-  wrong-kind-reads.Asked,
-  wrong-kind-reads.Learnt,
-) (match-encryption-at t) match-encryption.Post
-match-encryption-returns t c =
-    let s = c .before .before .before .before .before .before .before .before .before .before .before .before .before .before in
-    let child = ap (λ (l : List ℕ). getD l 0 0) (c .before .before .before .slots .ensures) in
-    encryption-done _ _ _ (s .pre .1 .0) (s .pre .1 .1) _ child _ (c .before .before .before .before .before .before .before .before .before .before .before .before .before .key-form .ensures) _ _ (c .before .before .before .before .before .before .before .before .before .variable .ensures) (c .before .before .before .before .before .x .ensures) (c .before .before .before .before .before .before .before .before .before .before .before .before .if1 .taken)
-    (c .before .before .before .before .before .before .before .before .emit .ensures) (c .before .before .before .before .emit2 .ensures) (c .match-row .ensures)
-
-match-encryption-returns-2 : (t : ℕ) → match-encryption-lts.Need-returns-2 (
-  key-form-reads.Asked,
-  key-form-reads.Learnt,
-  variable-reads.Asked,
-  variable-reads.Learnt,
-  emit-reads.Asked,
-  emit-reads.Learnt,
-  x-reads.Asked,
-  x-reads.Learnt,
-  slots-reads.Asked,
-  slots-reads.Learnt,
-  match-row-below t,
-  match-row.Post,
-  wrong-kind-reads.Asked,
-  wrong-kind-reads.Learnt,
-) (match-encryption-at t) match-encryption.Post
-match-encryption-returns-2 t c =
-    let s = c .before .before .before .before in
-    encryption-wrong _ _ _ (s .pre .1 .0) (s .pre .1 .1) _ refl _ (c .before .before .before .key-form .ensures) (c .before .before .if1 .left) (c .wrong-kind .ensures)
-
-match-let-raw-requires : (t : ℕ) → match-let-lts.Need-raw-requires (
-  raw-reads.Asked,
-  raw-reads.Learnt,
-  slots-reads.Asked,
-  slots-reads.Learnt,
-  free-raw-reads.Asked,
-  free-raw-reads.Learnt,
-  match-row-below t,
-  match-row.Post,
-  emit-reads.Asked,
-  emit-reads.Learnt,
-) (match-let-at t) match-let.Post
-match-let-raw-requires t c κs = search needs
-
-match-let-slots-requires : (t : ℕ) → match-let-lts.Need-slots-requires (
-  raw-reads.Asked,
-  raw-reads.Learnt,
-  slots-reads.Asked,
-  slots-reads.Learnt,
-  free-raw-reads.Asked,
-  free-raw-reads.Learnt,
-  match-row-below t,
-  match-row.Post,
-  emit-reads.Asked,
-  emit-reads.Learnt,
-) (match-let-at t) match-let.Post
-match-let-slots-requires t c κs = search needs
-
-match-let-free-raw-requires : (t : ℕ) → match-let-lts.Need-free-raw-requires (
-  raw-reads.Asked,
-  raw-reads.Learnt,
-  slots-reads.Asked,
-  slots-reads.Learnt,
-  free-raw-reads.Asked,
-  free-raw-reads.Learnt,
-  match-row-below t,
-  match-row.Post,
-  emit-reads.Asked,
-  emit-reads.Learnt,
-) (match-let-at t) match-let.Post
-match-let-free-raw-requires t c κs = c .before .before .before .pre .1 .0 .whole .room .long
-
-match-let-array-read-match-row : (t : ℕ) → match-let-lts.Need-array-read-match-row (
-  raw-reads.Asked,
-  raw-reads.Learnt,
-  slots-reads.Asked,
-  slots-reads.Learnt,
-  free-raw-reads.Asked,
-  free-raw-reads.Learnt,
-  match-row-below t,
-  match-row.Post,
-  emit-reads.Asked,
-  emit-reads.Learnt,
-) (match-let-at t) match-let.Post
-match-let-array-read-match-row t c = search needs
-
-match-let-match-row-requires : (t : ℕ) → match-let-lts.Need-match-row-requires (
-  raw-reads.Asked,
-  raw-reads.Learnt,
-  slots-reads.Asked,
-  slots-reads.Learnt,
-  free-raw-reads.Asked,
-  free-raw-reads.Learnt,
-  match-row-below t,
-  match-row.Post,
-  emit-reads.Asked,
-  emit-reads.Learnt,
-) (match-let-at t) match-let.Post
-match-let-match-row-requires t c κs =
-    let s = c .before .before .before .before .before .before in
-    (omega (arith, s .pre .0, let-below _ _ _ (s .pre .1 .0) (s .pre .1 .1) _ (c .before .before .before .before .slots .ensures)), let-second _ _ _ (s .pre .1 .0) (s .pre .1 .1) _ (c .before .before .before .before .slots .ensures) (c .before .before .free-raw .ensures))
-
-match-let-emit-requires : (t : ℕ) → match-let-lts.Need-emit-requires (
-  raw-reads.Asked,
-  raw-reads.Learnt,
-  slots-reads.Asked,
-  slots-reads.Learnt,
-  free-raw-reads.Asked,
-  free-raw-reads.Learnt,
-  match-row-below t,
-  match-row.Post,
-  emit-reads.Asked,
-  emit-reads.Learnt,
-) (match-let-at t) match-let.Post
-match-let-emit-requires t c κs =
-    let s = c .before .before .before .before .before .before .before .before .before in
-    (let-loads _ _ _ (s .pre .1 .0) (s .pre .1 .1) _ (c .before .before .before .before .before .before .before .slots .ensures) (c .before .before .before .before .before .free-raw .ensures) (c .before .before .match-row .ensures), tt)
-
-match-let-array-read-match-row-2 : (t : ℕ) → match-let-lts.Need-array-read-match-row-2 (
-  raw-reads.Asked,
-  raw-reads.Learnt,
-  slots-reads.Asked,
-  slots-reads.Learnt,
-  free-raw-reads.Asked,
-  free-raw-reads.Learnt,
-  match-row-below t,
-  match-row.Post,
-  emit-reads.Asked,
-  emit-reads.Learnt,
-) (match-let-at t) match-let.Post
-match-let-array-read-match-row-2 t c = search needs
-
-match-let-match-row-requires-2 : (t : ℕ) → match-let-lts.Need-match-row-requires-2 (
-  raw-reads.Asked,
-  raw-reads.Learnt,
-  slots-reads.Asked,
-  slots-reads.Learnt,
-  free-raw-reads.Asked,
-  free-raw-reads.Learnt,
-  match-row-below t,
-  match-row.Post,
-  emit-reads.Asked,
-  emit-reads.Learnt,
-) (match-let-at t) match-let.Post
-match-let-match-row-requires-2 t c κs =
-    let s = c .before .before .before .before .before .before .before .before .before .before .before .before in
-    (omega (arith, s .pre .0, let-below _ _ _ (s .pre .1 .0) (s .pre .1 .1) _ (c .before .before .before .before .before .before .before .before .before .before .slots .ensures)), let-first _ _ _ (s .pre .1 .0) (s .pre .1 .1) _ (c .before .before .before .before .before .before .before .before .before .before .slots .ensures) (c .before .before .before .before .before .before .before .before .free-raw .ensures) (c .before .before .before .before .before .match-row .ensures) (c .before .before .emit .ensures))
-
-match-let-returns : (t : ℕ) → match-let-lts.Need-returns (
-  raw-reads.Asked,
-  raw-reads.Learnt,
-  slots-reads.Asked,
-  slots-reads.Learnt,
-  free-raw-reads.Asked,
-  free-raw-reads.Learnt,
-  match-row-below t,
-  match-row.Post,
-  emit-reads.Asked,
-  emit-reads.Learnt,
-) (match-let-at t) match-let.Post
-match-let-returns t c =
-    let s = c .before .before .before .before .before .before .before .before .before .before .before .before .before in
-    let-done _ _ _ (s .pre .1 .0) (s .pre .1 .1) _ (c .before .before .before .before .before .before .before .before .before .before .before .slots .ensures) (c .before .before .before .before .before .before .before .before .before .free-raw .ensures) (c .before .before .before .before .before .before .match-row .ensures) (c .before .before .before .emit .ensures) (c .before .before .before .before .before .before .before .before .before .before .before .before .raw .ensures) (c .match-row2 .ensures)
-
 abbrev match-parts-Inv-loop : match-parts-lts.InvT-loop
 match-parts-Inv-loop rows code₀ emission₀ row n parts k₀ code emission k = Walked rows row parts n emission₀ code₀ k emission code
 
 abbrev match-parts-μ-loop : match-parts-lts.MeasureT-loop
 match-parts-μ-loop rows code₀ emission₀ row n parts k₀ code emission k = n - k
 
--- there are four parts
-parts-four : (t : ℕ) (s : match-parts-lts.Start (
-  scratch-reads.Asked,
-  scratch-reads.Learnt,
-  emit-reads.Asked,
-  emit-reads.Learnt,
-  match-row-below t,
-  match-row.Post,
-) (match-parts-at t) match-parts.Post match-parts-Inv-loop match-parts-μ-loop) → length (s .args .t5) ≡ 4
-parts-four t s = search needs
+module _ (t : ℕ) where
+  abbrev match-encryption-callees : match-encryption-lts.Claims
+  match-encryption-callees =
+      (key-form-reads.Asked, key-form-reads.Learnt, variable-reads.Asked, variable-reads.Learnt, emit-reads.Asked, emit-reads.Learnt, x-reads.Asked, x-reads.Learnt, slots-reads.Asked, slots-reads.Learnt, match-row-below t, match-row.Post, wrong-kind-reads.Asked, wrong-kind-reads.Learnt)
 
-match-parts-loop-holds : (t : ℕ) → match-parts-lts.Need-loop-holds (
-  scratch-reads.Asked,
-  scratch-reads.Learnt,
-  emit-reads.Asked,
-  emit-reads.Learnt,
-  match-row-below t,
-  match-row.Post,
-) (match-parts-at t) match-parts.Post match-parts-Inv-loop match-parts-μ-loop
-match-parts-loop-holds t c = parts-begin _ _ _ _ (parts-four t c) (c .pre .1) _
+  match-encryption-key-form-requires : match-encryption-lts.Need-key-form-requires match-encryption-callees (match-encryption-at t) match-encryption.Post
+  match-encryption-key-form-requires c κs = search needs
 
-match-parts-cast-part : (t : ℕ) → match-parts-lts.Need-cast-part (
-  scratch-reads.Asked,
-  scratch-reads.Learnt,
-  emit-reads.Asked,
-  emit-reads.Learnt,
-  match-row-below t,
-  match-row.Post,
-) (match-parts-at t) match-parts.Post match-parts-Inv-loop match-parts-μ-loop
-match-parts-cast-part t c = search needs
+  match-encryption-variable-requires : match-encryption-lts.Need-variable-requires match-encryption-callees (match-encryption-at t) match-encryption.Post
+  match-encryption-variable-requires c κs = search needs
 
-match-parts-mul-part : (t : ℕ) → match-parts-lts.Need-mul-part (
-  scratch-reads.Asked,
-  scratch-reads.Learnt,
-  emit-reads.Asked,
-  emit-reads.Learnt,
-  match-row-below t,
-  match-row.Post,
-) (match-parts-at t) match-parts.Post match-parts-Inv-loop match-parts-μ-loop
-match-parts-mul-part t c = search needs
+  match-encryption-emit-requires : match-encryption-lts.Need-emit-requires match-encryption-callees (match-encryption-at t) match-encryption.Post
+  match-encryption-emit-requires c κs = (room-le (lit≤ tt) (lit≤ tt) (leaf-room _ _ _ _ (c .before .before .before .before .before .pre .1 .0)), variable-low _ _ (c .variable .ensures))
 
-match-parts-array-copy-out-part : (t : ℕ) → match-parts-lts.Need-array-copy-out-part (
-  scratch-reads.Asked,
-  scratch-reads.Learnt,
-  emit-reads.Asked,
-  emit-reads.Learnt,
-  match-row-below t,
-  match-row.Post,
-) (match-parts-at t) match-parts.Post match-parts-Inv-loop match-parts-μ-loop
-match-parts-array-copy-out-part t c = search needs
+  match-encryption-x-requires : match-encryption-lts.Need-x-requires match-encryption-callees (match-encryption-at t) match-encryption.Post
+  match-encryption-x-requires c κs = search needs
 
-match-parts-scratch-requires : (t : ℕ) → match-parts-lts.Need-scratch-requires (
-  scratch-reads.Asked,
-  scratch-reads.Learnt,
-  emit-reads.Asked,
-  emit-reads.Learnt,
-  match-row-below t,
-  match-row.Post,
-) (match-parts-at t) match-parts.Post match-parts-Inv-loop match-parts-μ-loop
-match-parts-scratch-requires t c κs =
-    let s = c .before .before .before .before .before in
-    let k = c .before .before .before .before .loop .k in
-    let less = c .before .before .before .loop-test .taken in
-    omega (arith, s .pre .1 .laid k less, s .pre .1 .cells, less)
+  match-encryption-emit-requires-2 : match-encryption-lts.Need-emit-requires-2 match-encryption-callees (match-encryption-at t) match-encryption.Post
+  match-encryption-emit-requires-2 c κs = (room-then (lit≤ tt) (lit≤ tt) (leaf-room _ _ _ _ (c .before .before .before .before .before .before .before .before .before .pre .1 .0)) (c .before .before .before .emit .ensures), tt)
 
-match-parts-emit-requires : (t : ℕ) → match-parts-lts.Need-emit-requires (
-  scratch-reads.Asked,
-  scratch-reads.Learnt,
-  emit-reads.Asked,
-  emit-reads.Learnt,
-  match-row-below t,
-  match-row.Post,
-) (match-parts-at t) match-parts.Post match-parts-Inv-loop match-parts-μ-loop
-match-parts-emit-requires t c κs =
-    let s = c .before .before .before .before .before .before in
-    (part-loads _ _ _ _ (parts-four t s) (s .pre .1) _ (c .before .before .before .before .before .loop .inv) (c .before .before .before .before .loop-test .taken), tt)
+  match-encryption-slots-requires : match-encryption-lts.Need-slots-requires match-encryption-callees (match-encryption-at t) match-encryption.Post
+  match-encryption-slots-requires c κs = search needs
 
-match-parts-match-row-requires : (t : ℕ) → match-parts-lts.Need-match-row-requires (
-  scratch-reads.Asked,
-  scratch-reads.Learnt,
-  emit-reads.Asked,
-  emit-reads.Learnt,
-  match-row-below t,
-  match-row.Post,
-) (match-parts-at t) match-parts.Post match-parts-Inv-loop match-parts-μ-loop
-match-parts-match-row-requires t c κs =
-    let s = c .before .before .before .before .before .before .before .before .before in
-    let less = c .before .before .before .before .before .before .before .loop-test .taken in
-    (omega (arith, s .pre .0, s .pre .1 .below _ less), part-asks _ _ _ _ (parts-four t s) (s .pre .1) _ (c .before .before .before .before .before .before .before .before .loop .inv) less (c .before .before .before .scratch .ensures) (c .before .before .emit .ensures))
+  match-encryption-array-read-match-row : match-encryption-lts.Need-array-read-match-row match-encryption-callees (match-encryption-at t) match-encryption.Post
+  match-encryption-array-read-match-row c = search needs
 
-match-parts-add-k : (t : ℕ) → match-parts-lts.Need-add-k (
-  scratch-reads.Asked,
-  scratch-reads.Learnt,
-  emit-reads.Asked,
-  emit-reads.Learnt,
-  match-row-below t,
-  match-row.Post,
-) (match-parts-at t) match-parts.Post match-parts-Inv-loop match-parts-μ-loop
-match-parts-add-k t c = search needs
+  match-encryption-match-row-requires : match-encryption-lts.Need-match-row-requires match-encryption-callees (match-encryption-at t) match-encryption.Post
+  match-encryption-match-row-requires c κs =
+      let s = c .before .before .before .before .before .before .before .before .before .before .before .before .before in
+      let child = ap (λ (l : List ℕ). getD l 0 0) (c .before .before .slots .ensures) in
+      (omega (arith, s .pre .0, encryption-below _ _ _ (s .pre .1 .0) (s .pre .1 .1) _ child), encryption-asks _ _ _ (s .pre .1 .0) (s .pre .1 .1) _ child (c .before .before .before .before .before .before .before .emit .ensures) (c .before .before .before .emit2 .ensures))
 
-match-parts-loop-less : (t : ℕ) → match-parts-lts.Need-loop-less (
-  scratch-reads.Asked,
-  scratch-reads.Learnt,
-  emit-reads.Asked,
-  emit-reads.Learnt,
-  match-row-below t,
-  match-row.Post,
-) (match-parts-at t) match-parts.Post match-parts-Inv-loop match-parts-μ-loop
-match-parts-loop-less t c = search needs
+  match-encryption-wrong-kind-requires : match-encryption-lts.Need-wrong-kind-requires match-encryption-callees (match-encryption-at t) match-encryption.Post
+  match-encryption-wrong-kind-requires c κs = c .before .before .before .pre .1 .0 .whole .room .long
 
-match-parts-loop-again : (t : ℕ) → match-parts-lts.Need-loop-again (
-  scratch-reads.Asked,
-  scratch-reads.Learnt,
-  emit-reads.Asked,
-  emit-reads.Learnt,
-  match-row-below t,
-  match-row.Post,
-) (match-parts-at t) match-parts.Post match-parts-Inv-loop match-parts-μ-loop
-match-parts-loop-again t c =
-    let s = c .before .before .before .before .before .before .before .before .before .before in
-    parts-next _ _ _ _ (parts-four t s) (s .pre .1) _ (c .before .before .before .before .before .before .before .before .before .loop .inv) (c .before .before .before .before .before .before .before .before .loop-test .taken) (c .before .before .before .before .scratch .ensures) (c .before .before .before .emit .ensures) (c .match-row .ensures)
+  match-encryption-returns : match-encryption-lts.Need-returns match-encryption-callees (match-encryption-at t) match-encryption.Post
+  match-encryption-returns c =
+      let s = c .before .before .before .before .before .before .before .before .before .before .before .before .before .before in
+      let child = ap (λ (l : List ℕ). getD l 0 0) (c .before .before .before .slots .ensures) in
+      encryption-done _ _ _ (s .pre .1 .0) (s .pre .1 .1) _ child _ (c .before .before .before .before .before .before .before .before .before .before .before .before .before .key-form .ensures) _ _ (c .before .before .before .before .before .before .before .before .before .variable .ensures) (c .before .before .before .before .before .x .ensures) (c .before .before .before .before .before .before .before .before .before .before .before .before .if1 .taken)
+      (c .before .before .before .before .before .before .before .before .emit .ensures) (c .before .before .before .before .emit2 .ensures) (c .match-row .ensures)
 
-match-parts-returns : (t : ℕ) → match-parts-lts.Need-returns (
-  scratch-reads.Asked,
-  scratch-reads.Learnt,
-  emit-reads.Asked,
-  emit-reads.Learnt,
-  match-row-below t,
-  match-row.Post,
-) (match-parts-at t) match-parts.Post match-parts-Inv-loop match-parts-μ-loop
-match-parts-returns t c =
-    let s = c .before .before in
-    parts-end _ _ _ _ (parts-four t s) (s .pre .1) _ (c .before .loop .inv) (c .loop-test .left)
+  match-encryption-returns-2 : match-encryption-lts.Need-returns-2 match-encryption-callees (match-encryption-at t) match-encryption.Post
+  match-encryption-returns-2 c =
+      let s = c .before .before .before .before in
+      encryption-wrong _ _ _ (s .pre .1 .0) (s .pre .1 .1) _ refl _ (c .before .before .before .key-form .ensures) (c .before .before .if1 .left) (c .wrong-kind .ensures)
 
-match-row-mul-word : (t : ℕ) → match-row-lts.Need-mul-word (
-  tag-reads.Asked,
-  tag-reads.Learnt,
-  match-encryption-below t,
-  match-encryption.Post,
-  match-tuple-below t,
-  match-tuple.Post,
-  match-let-below t,
-  match-let.Post,
-  match-leaf-reads.Asked,
-  match-leaf-reads.Learnt,
-) (match-row-at t) match-row.Post
-match-row-mul-word t c = search needs
+  abbrev match-let-callees : match-let-lts.Claims
+  match-let-callees =
+      (raw-reads.Asked, raw-reads.Learnt, slots-reads.Asked, slots-reads.Learnt, free-raw-reads.Asked, free-raw-reads.Learnt, match-row-below t, match-row.Post, emit-reads.Asked, emit-reads.Learnt)
 
-match-row-element-copy-out-word : (t : ℕ) → match-row-lts.Need-element-copy-out-word (
-  tag-reads.Asked,
-  tag-reads.Learnt,
-  match-encryption-below t,
-  match-encryption.Post,
-  match-tuple-below t,
-  match-tuple.Post,
-  match-let-below t,
-  match-let.Post,
-  match-leaf-reads.Asked,
-  match-leaf-reads.Learnt,
-) (match-row-at t) match-row.Post
-match-row-element-copy-out-word t c = search needs
+  match-let-raw-requires : match-let-lts.Need-raw-requires match-let-callees (match-let-at t) match-let.Post
+  match-let-raw-requires c κs = search needs
 
-match-row-tag-requires : (t : ℕ) → match-row-lts.Need-tag-requires (
-  tag-reads.Asked,
-  tag-reads.Learnt,
-  match-encryption-below t,
-  match-encryption.Post,
-  match-tuple-below t,
-  match-tuple.Post,
-  match-let-below t,
-  match-let.Post,
-  match-leaf-reads.Asked,
-  match-leaf-reads.Learnt,
-) (match-row-at t) match-row.Post
-match-row-tag-requires t c κs = search needs
+  match-let-slots-requires : match-let-lts.Need-slots-requires match-let-callees (match-let-at t) match-let.Post
+  match-let-slots-requires c κs = search needs
 
-match-row-match-encryption-requires : (t : ℕ) → match-row-lts.Need-match-encryption-requires (
-  tag-reads.Asked,
-  tag-reads.Learnt,
-  match-encryption-below t,
-  match-encryption.Post,
-  match-tuple-below t,
-  match-tuple.Post,
-  match-let-below t,
-  match-let.Post,
-  match-leaf-reads.Asked,
-  match-leaf-reads.Learnt,
-) (match-row-at t) match-row.Post
-match-row-match-encryption-requires t c κs =
-    let s = c .before .before .before .before .before in
-    (omega (arith, s .pre .0), (record { here = refl; whole = s .pre .1 }, sym (c .before .before .before .tag .ensures) ∙ c .before .before .match .keys1))
+  match-let-free-raw-requires : match-let-lts.Need-free-raw-requires match-let-callees (match-let-at t) match-let.Post
+  match-let-free-raw-requires c κs = c .before .before .before .pre .1 .0 .whole .room .long
 
-match-row-match-tuple-requires : (t : ℕ) → match-row-lts.Need-match-tuple-requires (
-  tag-reads.Asked,
-  tag-reads.Learnt,
-  match-encryption-below t,
-  match-encryption.Post,
-  match-tuple-below t,
-  match-tuple.Post,
-  match-let-below t,
-  match-let.Post,
-  match-leaf-reads.Asked,
-  match-leaf-reads.Learnt,
-) (match-row-at t) match-row.Post
-match-row-match-tuple-requires t c κs =
-    let s = c .before .before .before .before .before in
-    (omega (arith, s .pre .0), (record { here = refl; whole = s .pre .1 }, sym (c .before .before .before .tag .ensures) ∙ c .before .before .match .keys2))
+  match-let-array-read-match-row : match-let-lts.Need-array-read-match-row match-let-callees (match-let-at t) match-let.Post
+  match-let-array-read-match-row c = search needs
 
-match-row-match-let-requires : (t : ℕ) → match-row-lts.Need-match-let-requires (
-  tag-reads.Asked,
-  tag-reads.Learnt,
-  match-encryption-below t,
-  match-encryption.Post,
-  match-tuple-below t,
-  match-tuple.Post,
-  match-let-below t,
-  match-let.Post,
-  match-leaf-reads.Asked,
-  match-leaf-reads.Learnt,
-) (match-row-at t) match-row.Post
-match-row-match-let-requires t c κs =
-    let s = c .before .before .before .before .before in
-    (omega (arith, s .pre .0), (record { here = refl; whole = s .pre .1 }, sym (c .before .before .before .tag .ensures) ∙ c .before .before .match .keys3))
+  match-let-match-row-requires : match-let-lts.Need-match-row-requires match-let-callees (match-let-at t) match-let.Post
+  match-let-match-row-requires c κs =
+      let s = c .before .before .before .before .before .before in
+      (omega (arith, s .pre .0, let-below _ _ _ (s .pre .1 .0) (s .pre .1 .1) _ (c .before .before .before .before .slots .ensures)), let-second _ _ _ (s .pre .1 .0) (s .pre .1 .1) _ (c .before .before .before .before .slots .ensures) (c .before .before .free-raw .ensures))
 
-match-row-match-leaf-requires : (t : ℕ) → match-row-lts.Need-match-leaf-requires (
-  tag-reads.Asked,
-  tag-reads.Learnt,
-  match-encryption-below t,
-  match-encryption.Post,
-  match-tuple-below t,
-  match-tuple.Post,
-  match-let-below t,
-  match-let.Post,
-  match-leaf-reads.Asked,
-  match-leaf-reads.Learnt,
-) (match-row-at t) match-row.Post
-match-row-match-leaf-requires t c κs =
-    let s = c .before .before .before .before .before in
-    let n = c .before .before .match .rest in
-    let tag = c .before .before .before .tag .ensures in
-    (record { here = refl; whole = s .pre .1 }, record { encryption = λ h. n .0 .0 .1 (tag ∙ h); tuple = λ h. n .0 .1 (tag ∙ h); letIn = λ h. n .1 (tag ∙ h) })
+  match-let-emit-requires : match-let-lts.Need-emit-requires match-let-callees (match-let-at t) match-let.Post
+  match-let-emit-requires c κs =
+      let s = c .before .before .before .before .before .before .before .before .before in
+      (let-loads _ _ _ (s .pre .1 .0) (s .pre .1 .1) _ (c .before .before .before .before .before .before .before .slots .ensures) (c .before .before .before .before .before .free-raw .ensures) (c .before .before .match-row .ensures), tt)
 
-match-row-returns : (t : ℕ) → match-row-lts.Need-returns (
-  tag-reads.Asked,
-  tag-reads.Learnt,
-  match-encryption-below t,
-  match-encryption.Post,
-  match-tuple-below t,
-  match-tuple.Post,
-  match-let-below t,
-  match-let.Post,
-  match-leaf-reads.Asked,
-  match-leaf-reads.Learnt,
-) (match-row-at t) match-row.Post
-match-row-returns t c = c .match-encryption .ensures
+  match-let-array-read-match-row-2 : match-let-lts.Need-array-read-match-row-2 match-let-callees (match-let-at t) match-let.Post
+  match-let-array-read-match-row-2 c = search needs
 
-match-row-returns-2 : (t : ℕ) → match-row-lts.Need-returns-2 (
-  tag-reads.Asked,
-  tag-reads.Learnt,
-  match-encryption-below t,
-  match-encryption.Post,
-  match-tuple-below t,
-  match-tuple.Post,
-  match-let-below t,
-  match-let.Post,
-  match-leaf-reads.Asked,
-  match-leaf-reads.Learnt,
-) (match-row-at t) match-row.Post
-match-row-returns-2 t c = c .match-tuple .ensures
+  match-let-match-row-requires-2 : match-let-lts.Need-match-row-requires-2 match-let-callees (match-let-at t) match-let.Post
+  match-let-match-row-requires-2 c κs =
+      let s = c .before .before .before .before .before .before .before .before .before .before .before .before in
+      (omega (arith, s .pre .0, let-below _ _ _ (s .pre .1 .0) (s .pre .1 .1) _ (c .before .before .before .before .before .before .before .before .before .before .slots .ensures)), let-first _ _ _ (s .pre .1 .0) (s .pre .1 .1) _ (c .before .before .before .before .before .before .before .before .before .before .slots .ensures) (c .before .before .before .before .before .before .before .before .free-raw .ensures) (c .before .before .before .before .before .match-row .ensures) (c .before .before .emit .ensures))
 
-match-row-returns-3 : (t : ℕ) → match-row-lts.Need-returns-3 (
-  tag-reads.Asked,
-  tag-reads.Learnt,
-  match-encryption-below t,
-  match-encryption.Post,
-  match-tuple-below t,
-  match-tuple.Post,
-  match-let-below t,
-  match-let.Post,
-  match-leaf-reads.Asked,
-  match-leaf-reads.Learnt,
-) (match-row-at t) match-row.Post
-match-row-returns-3 t c = c .match-let .ensures
+  match-let-returns : match-let-lts.Need-returns match-let-callees (match-let-at t) match-let.Post
+  match-let-returns c =
+      let s = c .before .before .before .before .before .before .before .before .before .before .before .before .before in
+      let-done _ _ _ (s .pre .1 .0) (s .pre .1 .1) _ (c .before .before .before .before .before .before .before .before .before .before .before .slots .ensures) (c .before .before .before .before .before .before .before .before .before .free-raw .ensures) (c .before .before .before .before .before .before .match-row .ensures) (c .before .before .before .emit .ensures) (c .before .before .before .before .before .before .before .before .before .before .before .before .raw .ensures) (c .match-row2 .ensures)
 
-match-row-returns-4 : (t : ℕ) → match-row-lts.Need-returns-4 (
-  tag-reads.Asked,
-  tag-reads.Learnt,
-  match-encryption-below t,
-  match-encryption.Post,
-  match-tuple-below t,
-  match-tuple.Post,
-  match-let-below t,
-  match-let.Post,
-  match-leaf-reads.Asked,
-  match-leaf-reads.Learnt,
-) (match-row-at t) match-row.Post
-match-row-returns-4 t c = c .match-leaf .ensures
+  abbrev match-parts-callees : match-parts-lts.Claims
+  match-parts-callees =
+      (scratch-reads.Asked, scratch-reads.Learnt, emit-reads.Asked, emit-reads.Learnt, match-row-below t, match-row.Post)
 
-match-tuple-variable-requires : (t : ℕ) → match-tuple-lts.Need-variable-requires (
-  variable-reads.Asked,
-  variable-reads.Learnt,
-  count-reads.Asked,
-  count-reads.Learnt,
-  emit-reads.Asked,
-  emit-reads.Learnt,
-  take-reads.Asked,
-  take-reads.Learnt,
-  scratch-reads.Asked,
-  scratch-reads.Learnt,
-  slots-reads.Asked,
-  slots-reads.Learnt,
-  parts-of-reads.Asked,
-  parts-of-reads.Learnt,
-  match-parts-below t,
-  match-parts.Post,
-) (match-tuple-at t) match-tuple.Post
-match-tuple-variable-requires t c κs = search needs
+  -- there are four parts
+  parts-four : (s : match-parts-lts.Start match-parts-callees (match-parts-at t) match-parts.Post match-parts-Inv-loop match-parts-μ-loop) → length (s .args .t5) ≡ 4
+  parts-four s = search needs
 
-match-tuple-count-requires : (t : ℕ) → match-tuple-lts.Need-count-requires (
-  variable-reads.Asked,
-  variable-reads.Learnt,
-  count-reads.Asked,
-  count-reads.Learnt,
-  emit-reads.Asked,
-  emit-reads.Learnt,
-  take-reads.Asked,
-  take-reads.Learnt,
-  scratch-reads.Asked,
-  scratch-reads.Learnt,
-  slots-reads.Asked,
-  slots-reads.Learnt,
-  parts-of-reads.Asked,
-  parts-of-reads.Learnt,
-  match-parts-below t,
-  match-parts.Post,
-) (match-tuple-at t) match-tuple.Post
-match-tuple-count-requires t c κs = search needs
+  match-parts-loop-holds : match-parts-lts.Need-loop-holds match-parts-callees (match-parts-at t) match-parts.Post match-parts-Inv-loop match-parts-μ-loop
+  match-parts-loop-holds c = parts-begin _ _ _ _ (parts-four c) (c .pre .1) _
 
-match-tuple-emit-requires : (t : ℕ) → match-tuple-lts.Need-emit-requires (
-  variable-reads.Asked,
-  variable-reads.Learnt,
-  count-reads.Asked,
-  count-reads.Learnt,
-  emit-reads.Asked,
-  emit-reads.Learnt,
-  take-reads.Asked,
-  take-reads.Learnt,
-  scratch-reads.Asked,
-  scratch-reads.Learnt,
-  slots-reads.Asked,
-  slots-reads.Learnt,
-  parts-of-reads.Asked,
-  parts-of-reads.Learnt,
-  match-parts-below t,
-  match-parts.Post,
-) (match-tuple-at t) match-tuple.Post
-match-tuple-emit-requires t c κs = (room-le (lit≤ tt) (lit≤ tt) (leaf-room _ _ _ _ (c .before .before .before .before .pre .1 .0)), variable-low _ _ (c .before .before .before .variable .ensures))
+  match-parts-cast-part : match-parts-lts.Need-cast-part match-parts-callees (match-parts-at t) match-parts.Post match-parts-Inv-loop match-parts-μ-loop
+  match-parts-cast-part c = search needs
 
-match-tuple-take-requires : (t : ℕ) → match-tuple-lts.Need-take-requires (
-  variable-reads.Asked,
-  variable-reads.Learnt,
-  count-reads.Asked,
-  count-reads.Learnt,
-  emit-reads.Asked,
-  emit-reads.Learnt,
-  take-reads.Asked,
-  take-reads.Learnt,
-  scratch-reads.Asked,
-  scratch-reads.Learnt,
-  slots-reads.Asked,
-  slots-reads.Learnt,
-  parts-of-reads.Asked,
-  parts-of-reads.Learnt,
-  match-parts-below t,
-  match-parts.Post,
-) (match-tuple-at t) match-tuple.Post
-match-tuple-take-requires t c κs =
-    let room = leaf-room _ _ _ _ (c .before .before .before .before .before .before .pre .1 .0) in
-    let k = c .before .emit .ensures in
-    (k .long ∙ room .long, omega (arith, room .free, k .free))
+  match-parts-mul-part : match-parts-lts.Need-mul-part match-parts-callees (match-parts-at t) match-parts.Post match-parts-Inv-loop match-parts-μ-loop
+  match-parts-mul-part c = search needs
 
-match-tuple-scratch-requires : (t : ℕ) → match-tuple-lts.Need-scratch-requires (
-  variable-reads.Asked,
-  variable-reads.Learnt,
-  count-reads.Asked,
-  count-reads.Learnt,
-  emit-reads.Asked,
-  emit-reads.Learnt,
-  take-reads.Asked,
-  take-reads.Learnt,
-  scratch-reads.Asked,
-  scratch-reads.Learnt,
-  slots-reads.Asked,
-  slots-reads.Learnt,
-  parts-of-reads.Asked,
-  parts-of-reads.Learnt,
-  match-parts-below t,
-  match-parts.Post,
-) (match-tuple-at t) match-tuple.Post
-match-tuple-scratch-requires t c κs =
-    let room = leaf-room _ _ _ _ (c .before .before .before .before .before .before .before .before .before .pre .1 .0) in
-    omega (arith, room .free, c .before .before .before .before .emit .ensures .free, c .before .before .take .ensures .0)
+  match-parts-array-copy-out-part : match-parts-lts.Need-array-copy-out-part match-parts-callees (match-parts-at t) match-parts.Post match-parts-Inv-loop match-parts-μ-loop
+  match-parts-array-copy-out-part c = search needs
 
-match-tuple-emit-requires-2 : (t : ℕ) → match-tuple-lts.Need-emit-requires-2 (
-  variable-reads.Asked,
-  variable-reads.Learnt,
-  count-reads.Asked,
-  count-reads.Learnt,
-  emit-reads.Asked,
-  emit-reads.Learnt,
-  take-reads.Asked,
-  take-reads.Learnt,
-  scratch-reads.Asked,
-  scratch-reads.Learnt,
-  slots-reads.Asked,
-  slots-reads.Learnt,
-  parts-of-reads.Asked,
-  parts-of-reads.Learnt,
-  match-parts-below t,
-  match-parts.Post,
-) (match-tuple-at t) match-tuple.Post
-match-tuple-emit-requires-2 t c κs =
-    let s = c .before .before .before .before .before .before .before .before .before .before in
-    (tuple-analyzes _ _ _ (s .pre .1 .0) (s .pre .1 .1) _ (c .before .before .before .before .before .before .before .before .count .ensures) (c .before .before .before .before .before .emit .ensures) (c .before .before .before .take .ensures .1), tt)
+  match-parts-scratch-requires : match-parts-lts.Need-scratch-requires match-parts-callees (match-parts-at t) match-parts.Post match-parts-Inv-loop match-parts-μ-loop
+  match-parts-scratch-requires c κs =
+      let s = c .before .before .before .before .before in
+      let k = c .before .before .before .before .loop .k in
+      let less = c .before .before .before .loop-test .taken in
+      omega (arith, s .pre .1 .laid k less, s .pre .1 .cells, less)
 
-match-tuple-slots-requires : (t : ℕ) → match-tuple-lts.Need-slots-requires (
-  variable-reads.Asked,
-  variable-reads.Learnt,
-  count-reads.Asked,
-  count-reads.Learnt,
-  emit-reads.Asked,
-  emit-reads.Learnt,
-  take-reads.Asked,
-  take-reads.Learnt,
-  scratch-reads.Asked,
-  scratch-reads.Learnt,
-  slots-reads.Asked,
-  slots-reads.Learnt,
-  parts-of-reads.Asked,
-  parts-of-reads.Learnt,
-  match-parts-below t,
-  match-parts.Post,
-) (match-tuple-at t) match-tuple.Post
-match-tuple-slots-requires t c κs = search needs
+  match-parts-emit-requires : match-parts-lts.Need-emit-requires match-parts-callees (match-parts-at t) match-parts.Post match-parts-Inv-loop match-parts-μ-loop
+  match-parts-emit-requires c κs =
+      let s = c .before .before .before .before .before .before in
+      (part-loads _ _ _ _ (parts-four s) (s .pre .1) _ (c .before .before .before .before .before .loop .inv) (c .before .before .before .before .loop-test .taken), tt)
 
-match-tuple-parts-of-requires : (t : ℕ) → match-tuple-lts.Need-parts-of-requires (
-  variable-reads.Asked,
-  variable-reads.Learnt,
-  count-reads.Asked,
-  count-reads.Learnt,
-  emit-reads.Asked,
-  emit-reads.Learnt,
-  take-reads.Asked,
-  take-reads.Learnt,
-  scratch-reads.Asked,
-  scratch-reads.Learnt,
-  slots-reads.Asked,
-  slots-reads.Learnt,
-  parts-of-reads.Asked,
-  parts-of-reads.Learnt,
-  match-parts-below t,
-  match-parts.Post,
-) (match-tuple-at t) match-tuple.Post
-match-tuple-parts-of-requires t c κs =
-    let room = leaf-room _ _ _ _ (c .before .before .before .before .before .before .before .before .before .before .before .before .before .before .pre .1 .0) in
-    omega (arith, room .free, c .before .before .before .before .before .before .before .before .before .emit .ensures .free, c .before .before .before .before .before .before .before .take .ensures .0)
+  match-parts-match-row-requires : match-parts-lts.Need-match-row-requires match-parts-callees (match-parts-at t) match-parts.Post match-parts-Inv-loop match-parts-μ-loop
+  match-parts-match-row-requires c κs =
+      let s = c .before .before .before .before .before .before .before .before .before in
+      let less = c .before .before .before .before .before .before .before .loop-test .taken in
+      (omega (arith, s .pre .0, s .pre .1 .below _ less), part-asks _ _ _ _ (parts-four s) (s .pre .1) _ (c .before .before .before .before .before .before .before .before .loop .inv) less (c .before .before .before .scratch .ensures) (c .before .before .emit .ensures))
 
-match-tuple-match-parts-requires : (t : ℕ) → match-tuple-lts.Need-match-parts-requires (
-  variable-reads.Asked,
-  variable-reads.Learnt,
-  count-reads.Asked,
-  count-reads.Learnt,
-  emit-reads.Asked,
-  emit-reads.Learnt,
-  take-reads.Asked,
-  take-reads.Learnt,
-  scratch-reads.Asked,
-  scratch-reads.Learnt,
-  slots-reads.Asked,
-  slots-reads.Learnt,
-  parts-of-reads.Asked,
-  parts-of-reads.Learnt,
-  match-parts-below t,
-  match-parts.Post,
-) (match-tuple-at t) match-tuple.Post
-match-tuple-match-parts-requires t c κs =
-    let s = c .before .before .before .before .before .before .before .before .before .before .before .before .before .before .before in (
-      omega (arith, s .pre .0),
-      tuple-asks _ _ _ (s .pre .1 .0) (s .pre .1 .1) _ (c .before .before .before .before .before .before .before .before .before .before .before .before .before .count .ensures) _ (c .before .slots .ensures) _ _ (c .parts-of .ensures) _ _ (c .before .before .before .before .before .before .before .before .before .before .emit .ensures)
-          (c .before .before .before .before .before .before .before .before .take .ensures .0) (c .before .before .before .before .before .before .before .before .take .ensures .1) (c .before .before .before .before .emit2 .ensures),
-    )
+  match-parts-add-k : match-parts-lts.Need-add-k match-parts-callees (match-parts-at t) match-parts.Post match-parts-Inv-loop match-parts-μ-loop
+  match-parts-add-k c = search needs
 
-match-tuple-returns : (t : ℕ) → match-tuple-lts.Need-returns (
-  variable-reads.Asked,
-  variable-reads.Learnt,
-  count-reads.Asked,
-  count-reads.Learnt,
-  emit-reads.Asked,
-  emit-reads.Learnt,
-  take-reads.Asked,
-  take-reads.Learnt,
-  scratch-reads.Asked,
-  scratch-reads.Learnt,
-  slots-reads.Asked,
-  slots-reads.Learnt,
-  parts-of-reads.Asked,
-  parts-of-reads.Learnt,
-  match-parts-below t,
-  match-parts.Post,
-) (match-tuple-at t) match-tuple.Post
-match-tuple-returns t c =
-    let s = c .before .before .before .before .before .before .before .before .before .before .before .before .before .before .before .before in
-    tuple-done _ _ _ (s .pre .1 .0) (s .pre .1 .1) _ (c .before .before .before .before .before .before .before .before .before .before .before .before .before .before .count .ensures) _ (c .before .before .slots .ensures) _ _ (c .before .parts-of .ensures) _ _ (c .before .before .before .before .before .before .before .before .before .before .before .emit .ensures)
-    (c .before .before .before .before .before .before .before .before .before .take .ensures .0) (c .before .before .before .before .before .before .before .before .before .take .ensures .1) (c .before .before .before .before .before .emit2 .ensures) (c .before .before .before .before .before .before .before .before .before .before .before .before .before .before .before .variable .ensures) (c .before .before .before .before .before .before .scratch .ensures) (c .match-parts .ensures)
+  match-parts-loop-less : match-parts-lts.Need-loop-less match-parts-callees (match-parts-at t) match-parts.Post match-parts-Inv-loop match-parts-μ-loop
+  match-parts-loop-less c = search needs
+
+  match-parts-loop-again : match-parts-lts.Need-loop-again match-parts-callees (match-parts-at t) match-parts.Post match-parts-Inv-loop match-parts-μ-loop
+  match-parts-loop-again c =
+      let s = c .before .before .before .before .before .before .before .before .before .before in
+      parts-next _ _ _ _ (parts-four s) (s .pre .1) _ (c .before .before .before .before .before .before .before .before .before .loop .inv) (c .before .before .before .before .before .before .before .before .loop-test .taken) (c .before .before .before .before .scratch .ensures) (c .before .before .before .emit .ensures) (c .match-row .ensures)
+
+  match-parts-returns : match-parts-lts.Need-returns match-parts-callees (match-parts-at t) match-parts.Post match-parts-Inv-loop match-parts-μ-loop
+  match-parts-returns c =
+      let s = c .before .before in
+      parts-end _ _ _ _ (parts-four s) (s .pre .1) _ (c .before .loop .inv) (c .loop-test .left)
+
+  abbrev match-row-callees : match-row-lts.Claims
+  match-row-callees =
+      (tag-reads.Asked, tag-reads.Learnt, match-encryption-below t, match-encryption.Post, match-tuple-below t, match-tuple.Post, match-let-below t, match-let.Post, match-leaf-reads.Asked, match-leaf-reads.Learnt)
+
+  match-row-mul-word : match-row-lts.Need-mul-word match-row-callees (match-row-at t) match-row.Post
+  match-row-mul-word c = search needs
+
+  match-row-element-copy-out-word : match-row-lts.Need-element-copy-out-word match-row-callees (match-row-at t) match-row.Post
+  match-row-element-copy-out-word c = search needs
+
+  match-row-tag-requires : match-row-lts.Need-tag-requires match-row-callees (match-row-at t) match-row.Post
+  match-row-tag-requires c κs = search needs
+
+  match-row-match-encryption-requires : match-row-lts.Need-match-encryption-requires match-row-callees (match-row-at t) match-row.Post
+  match-row-match-encryption-requires c κs =
+      let s = c .before .before .before .before .before in
+      (omega (arith, s .pre .0), (record { here = refl; whole = s .pre .1 }, sym (c .before .before .before .tag .ensures) ∙ c .before .before .match .keys1))
+
+  match-row-match-tuple-requires : match-row-lts.Need-match-tuple-requires match-row-callees (match-row-at t) match-row.Post
+  match-row-match-tuple-requires c κs =
+      let s = c .before .before .before .before .before in
+      (omega (arith, s .pre .0), (record { here = refl; whole = s .pre .1 }, sym (c .before .before .before .tag .ensures) ∙ c .before .before .match .keys2))
+
+  match-row-match-let-requires : match-row-lts.Need-match-let-requires match-row-callees (match-row-at t) match-row.Post
+  match-row-match-let-requires c κs =
+      let s = c .before .before .before .before .before in
+      (omega (arith, s .pre .0), (record { here = refl; whole = s .pre .1 }, sym (c .before .before .before .tag .ensures) ∙ c .before .before .match .keys3))
+
+  match-row-match-leaf-requires : match-row-lts.Need-match-leaf-requires match-row-callees (match-row-at t) match-row.Post
+  match-row-match-leaf-requires c κs =
+      let s = c .before .before .before .before .before in
+      let n = c .before .before .match .rest in
+      let tag = c .before .before .before .tag .ensures in
+      (record { here = refl; whole = s .pre .1 }, record { encryption = λ h. n .0 .0 .1 (tag ∙ h); tuple = λ h. n .0 .1 (tag ∙ h); letIn = λ h. n .1 (tag ∙ h) })
+
+  match-row-returns : match-row-lts.Need-returns match-row-callees (match-row-at t) match-row.Post
+  match-row-returns c = c .match-encryption .ensures
+
+  match-row-returns-2 : match-row-lts.Need-returns-2 match-row-callees (match-row-at t) match-row.Post
+  match-row-returns-2 c = c .match-tuple .ensures
+
+  match-row-returns-3 : match-row-lts.Need-returns-3 match-row-callees (match-row-at t) match-row.Post
+  match-row-returns-3 c = c .match-let .ensures
+
+  match-row-returns-4 : match-row-lts.Need-returns-4 match-row-callees (match-row-at t) match-row.Post
+  match-row-returns-4 c = c .match-leaf .ensures
+
+  abbrev match-tuple-callees : match-tuple-lts.Claims
+  match-tuple-callees =
+      (variable-reads.Asked, variable-reads.Learnt, count-reads.Asked, count-reads.Learnt, emit-reads.Asked, emit-reads.Learnt, take-reads.Asked, take-reads.Learnt, scratch-reads.Asked, scratch-reads.Learnt, slots-reads.Asked, slots-reads.Learnt, parts-of-reads.Asked, parts-of-reads.Learnt, match-parts-below t, match-parts.Post)
+
+  match-tuple-variable-requires : match-tuple-lts.Need-variable-requires match-tuple-callees (match-tuple-at t) match-tuple.Post
+  match-tuple-variable-requires c κs = search needs
+
+  match-tuple-count-requires : match-tuple-lts.Need-count-requires match-tuple-callees (match-tuple-at t) match-tuple.Post
+  match-tuple-count-requires c κs = search needs
+
+  match-tuple-emit-requires : match-tuple-lts.Need-emit-requires match-tuple-callees (match-tuple-at t) match-tuple.Post
+  match-tuple-emit-requires c κs = (room-le (lit≤ tt) (lit≤ tt) (leaf-room _ _ _ _ (c .before .before .before .before .pre .1 .0)), variable-low _ _ (c .before .before .before .variable .ensures))
+
+  match-tuple-take-requires : match-tuple-lts.Need-take-requires match-tuple-callees (match-tuple-at t) match-tuple.Post
+  match-tuple-take-requires c κs =
+      let room = leaf-room _ _ _ _ (c .before .before .before .before .before .before .pre .1 .0) in
+      let k = c .before .emit .ensures in
+      (k .long ∙ room .long, omega (arith, room .free, k .free))
+
+  match-tuple-scratch-requires : match-tuple-lts.Need-scratch-requires match-tuple-callees (match-tuple-at t) match-tuple.Post
+  match-tuple-scratch-requires c κs =
+      let room = leaf-room _ _ _ _ (c .before .before .before .before .before .before .before .before .before .pre .1 .0) in
+      omega (arith, room .free, c .before .before .before .before .emit .ensures .free, c .before .before .take .ensures .0)
+
+  match-tuple-emit-requires-2 : match-tuple-lts.Need-emit-requires-2 match-tuple-callees (match-tuple-at t) match-tuple.Post
+  match-tuple-emit-requires-2 c κs =
+      let s = c .before .before .before .before .before .before .before .before .before .before in
+      (tuple-analyzes _ _ _ (s .pre .1 .0) (s .pre .1 .1) _ (c .before .before .before .before .before .before .before .before .count .ensures) (c .before .before .before .before .before .emit .ensures) (c .before .before .before .take .ensures .1), tt)
+
+  match-tuple-slots-requires : match-tuple-lts.Need-slots-requires match-tuple-callees (match-tuple-at t) match-tuple.Post
+  match-tuple-slots-requires c κs = search needs
+
+  match-tuple-parts-of-requires : match-tuple-lts.Need-parts-of-requires match-tuple-callees (match-tuple-at t) match-tuple.Post
+  match-tuple-parts-of-requires c κs =
+      let room = leaf-room _ _ _ _ (c .before .before .before .before .before .before .before .before .before .before .before .before .before .before .pre .1 .0) in
+      omega (arith, room .free, c .before .before .before .before .before .before .before .before .before .emit .ensures .free, c .before .before .before .before .before .before .before .take .ensures .0)
+
+  match-tuple-match-parts-requires : match-tuple-lts.Need-match-parts-requires match-tuple-callees (match-tuple-at t) match-tuple.Post
+  match-tuple-match-parts-requires c κs =
+      let s = c .before .before .before .before .before .before .before .before .before .before .before .before .before .before .before in (
+        omega (arith, s .pre .0),
+        tuple-asks _ _ _ (s .pre .1 .0) (s .pre .1 .1) _ (c .before .before .before .before .before .before .before .before .before .before .before .before .before .count .ensures) _ (c .before .slots .ensures) _ _ (c .parts-of .ensures) _ _ (c .before .before .before .before .before .before .before .before .before .before .emit .ensures)
+            (c .before .before .before .before .before .before .before .before .take .ensures .0) (c .before .before .before .before .before .before .before .before .take .ensures .1) (c .before .before .before .before .emit2 .ensures),
+      )
+
+  match-tuple-returns : match-tuple-lts.Need-returns match-tuple-callees (match-tuple-at t) match-tuple.Post
+  match-tuple-returns c =
+      let s = c .before .before .before .before .before .before .before .before .before .before .before .before .before .before .before .before in
+      tuple-done _ _ _ (s .pre .1 .0) (s .pre .1 .1) _ (c .before .before .before .before .before .before .before .before .before .before .before .before .before .before .count .ensures) _ (c .before .before .slots .ensures) _ _ (c .before .parts-of .ensures) _ _ (c .before .before .before .before .before .before .before .before .before .before .before .emit .ensures)
+      (c .before .before .before .before .before .before .before .before .before .take .ensures .0) (c .before .before .before .before .before .before .before .before .before .take .ensures .1) (c .before .before .before .before .before .emit2 .ensures) (c .before .before .before .before .before .before .before .before .before .before .before .before .before .before .before .variable .ensures) (c .before .before .before .before .before .before .scratch .ensures) (c .match-parts .ensures)
 
 pub +match-encryption+match-let+match-parts+match-row+match-tuple-spec : {M : Type 1} → statement M
 +match-encryption+match-let+match-parts+match-row+match-tuple-spec =
@@ -976,22 +358,7 @@ pub +match-encryption+match-let+match-parts+match-row+match-tuple-spec : {M : Ty
     μ-match-parts
     μ-match-row
     μ-match-tuple
-    (λ t. match-encryption-lts.spec (
-      key-form-reads.Asked,
-      key-form-reads.Learnt,
-      variable-reads.Asked,
-      variable-reads.Learnt,
-      emit-reads.Asked,
-      emit-reads.Learnt,
-      x-reads.Asked,
-      x-reads.Learnt,
-      slots-reads.Asked,
-      slots-reads.Learnt,
-      match-row-below t,
-      match-row.Post,
-      wrong-kind-reads.Asked,
-      wrong-kind-reads.Learnt,
-    )
+    (λ t. match-encryption-lts.spec (match-encryption-callees t)
     (match-encryption-at t)
     match-encryption.Post
     (match-encryption-key-form-requires t)
@@ -1005,18 +372,7 @@ pub +match-encryption+match-let+match-parts+match-row+match-tuple-spec : {M : Ty
     (match-encryption-wrong-kind-requires t)
     (match-encryption-returns t)
     (match-encryption-returns-2 t))
-    (λ t. match-let-lts.spec (
-      raw-reads.Asked,
-      raw-reads.Learnt,
-      slots-reads.Asked,
-      slots-reads.Learnt,
-      free-raw-reads.Asked,
-      free-raw-reads.Learnt,
-      match-row-below t,
-      match-row.Post,
-      emit-reads.Asked,
-      emit-reads.Learnt,
-    )
+    (λ t. match-let-lts.spec (match-let-callees t)
     (match-let-at t)
     match-let.Post
     (match-let-raw-requires t)
@@ -1028,14 +384,7 @@ pub +match-encryption+match-let+match-parts+match-row+match-tuple-spec : {M : Ty
     (match-let-array-read-match-row-2 t)
     (match-let-match-row-requires-2 t)
     (match-let-returns t))
-    (λ t. match-parts-lts.spec (
-      scratch-reads.Asked,
-      scratch-reads.Learnt,
-      emit-reads.Asked,
-      emit-reads.Learnt,
-      match-row-below t,
-      match-row.Post,
-    )
+    (λ t. match-parts-lts.spec (match-parts-callees t)
     (match-parts-at t)
     match-parts.Post
     match-parts-Inv-loop
@@ -1051,18 +400,7 @@ pub +match-encryption+match-let+match-parts+match-row+match-tuple-spec : {M : Ty
     (match-parts-loop-less t)
     (match-parts-loop-again t)
     (match-parts-returns t))
-    (λ t. match-row-lts.spec (
-      tag-reads.Asked,
-      tag-reads.Learnt,
-      match-encryption-below t,
-      match-encryption.Post,
-      match-tuple-below t,
-      match-tuple.Post,
-      match-let-below t,
-      match-let.Post,
-      match-leaf-reads.Asked,
-      match-leaf-reads.Learnt,
-    )
+    (λ t. match-row-lts.spec (match-row-callees t)
     (match-row-at t)
     match-row.Post
     (match-row-mul-word t)
@@ -1076,24 +414,7 @@ pub +match-encryption+match-let+match-parts+match-row+match-tuple-spec : {M : Ty
     (match-row-returns-2 t)
     (match-row-returns-3 t)
     (match-row-returns-4 t))
-    λ t. match-tuple-lts.spec (
-      variable-reads.Asked,
-      variable-reads.Learnt,
-      count-reads.Asked,
-      count-reads.Learnt,
-      emit-reads.Asked,
-      emit-reads.Learnt,
-      take-reads.Asked,
-      take-reads.Learnt,
-      scratch-reads.Asked,
-      scratch-reads.Learnt,
-      slots-reads.Asked,
-      slots-reads.Learnt,
-      parts-of-reads.Asked,
-      parts-of-reads.Learnt,
-      match-parts-below t,
-      match-parts.Post,
-    )
+    λ t. match-tuple-lts.spec (match-tuple-callees t)
     (match-tuple-at t)
     match-tuple.Post
     (match-tuple-variable-requires t)

@@ -1,0 +1,8 @@
+-- Laws of compile.
+pub mod CopyLaws
+pub mod CellLaws
+pub mod LookLaws
+pub mod RowLaws
+pub mod WalkLaws
+pub mod DeliveryLaws
+pub mod Coincide

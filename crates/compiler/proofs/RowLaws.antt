@@ -1,0 +1,67 @@
+-- A pattern's rows with zero rows behind them: the same pattern, and room for its code.
+use Prim.Native.Nat.{ℕ, zero, suc, _+_, _-_, _*_, _<_, _≤_}
+use mathlib.Core.Path.{_≡_, refl, sym, _∙_, ap, fun-ext}
+use mathlib.Core.Bool.{Bool}
+use mathlib.Core.Option.{none}
+use mathlib.Core.List.{List, [], _∷_, _++_}
+use native.Mathlib.Decide.{decLt}
+use native.Mathlib.Omega.{arith}
+use lib.Dec.{T}
+use lib.ListN.{length, getD, replicate, length-append, length-replicate, List·getD-append}
+use Rattle.patterns.specs.Pattern.{Pattern, size}
+use Rattle.patterns.specs.Row.{fieldsOf}
+use Rattle.patterns.specs.Rules.{rowFits, badPattern}
+use Rattle.patterns.specs.Tree.{formBy, patternAt, patternsOf, patternOf}
+use Rattle.patterns.proofs.GoodRow.{good-row}
+use Rattle.patterns.proofs.RuleLaws.{all-good}
+use Rattle.patterns.proofs.TreeLaws.{formed, pattern-size}
+use Rattle.emission.specs.Budget.{words, patternIn, Row}
+
+-- rows behind a row do not change its pattern
+module _ (rows behind : List ℕ) where
+  longer : (place : ℕ) → place < length rows → place < length (rows ++ behind)
+  longer place inside = rw (length-append rows behind) (omega arith)
+
+  same-below : (bound place : ℕ) → place < bound → place < length rows → patternIn (rows ++ behind) place ≡ patternIn rows place
+  same-below zero place less inside = absurd (omega arith)
+  same-below (suc bound) place less inside =
+      let long = formed (rows ++ behind) place (longer place inside) in
+      let short = formed rows place inside in
+      let below : (row : ℕ) → long .below row ≡ short .below row = λ row.
+      by row (decLt row place) (λ l. long .before row l ∙ same-below bound row (omega arith) (omega arith) ∙ sym (short .before row l))
+      (λ g. long .beyond row g ∙ sym (short .beyond row g)) in
+      long .form ∙ rw (List·getD-append rows behind 0 place inside, fun-ext below) (sym (short .form))
+    where
+      by : {A : Type 0} {x y : A} (row : ℕ) → Dec (row < place) → (row < place → x ≡ y) → (place ≤ row → x ≡ y) → x ≡ y
+      by row (yes l) f g = f l
+      by row (no n) f g = g (omega (arith, n))
+
+  pub same-pattern : (place : ℕ) → place < length rows → patternIn (rows ++ behind) place ≡ patternIn rows place
+  same-pattern place inside = same-below (suc place) place (omega arith) inside
+
+-- the root of a pattern that passed, before the first word is written
+module _ (pattern : List ℕ) (some : 1 ≤ length pattern) (few : length pattern ≤ 96) (passed : badPattern pattern ≡ none) where
+  abbrev pub behind : List ℕ
+  behind = replicate (96 - length pattern) 0
+
+  pub root-pattern : patternIn (pattern ++ behind) (length pattern - 1) ≡ patternOf pattern
+  unfolding patternOf
+  root-pattern = same-pattern pattern behind (length pattern - 1) (omega arith)
+
+  pub root-size : size (patternIn (pattern ++ behind) (length pattern - 1)) ≡ length pattern
+  root-size = ap size root-pattern ∙ pattern-size pattern passed some
+
+  pub root-row : (objects named : ℕ) → Row (pattern ++ behind) (length pattern - 1) (objects ∷ named ∷ 0 ∷ 0 ∷ 0 ∷ [])
+  root-row objects named = record {
+    good = λ place least. good place (omega arith);
+    inside = rw (length-append pattern behind) (omega arith);
+    most = omega arith;
+    room = record { long = refl; place = omega (arith, root-size); free = omega (arith, root-size) };
+  }
+    where
+      good : (place : ℕ) → place < length pattern → T (rowFits place (fieldsOf (getD (pattern ++ behind) place 0)))
+      good place inside = rw (List·getD-append pattern behind 0 place inside) (good-row place (fieldsOf (getD pattern place 0)) .1 (all-good pattern passed place inside))
+
+  -- its words fit the buffer
+  pub root-words : words (patternIn (pattern ++ behind) (length pattern - 1)) ≤ 767
+  root-words = omega (arith, root-size)

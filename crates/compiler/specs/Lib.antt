@@ -1,0 +1,3 @@
+-- Compile over a buffer, and over the lent slice.
+pub mod Buffer
+pub mod Used

@@ -1,0 +1,29 @@
+// Words that come to a lent slice.
+ghost use mathlib.Core.Path.{_≡_};
+ghost use mathlib.Core.List.{_++_};
+ghost use Prim.Native.Nat.{_≤_};
+ghost use lib.ListN.{length, drop};
+ghost use Rattle.theory.specs.Compile.{written};
+use answers::Compiled;
+
+fn copy(words: &[u32], code: &mut [u32])
+    requires { ⌜ length (now words) ≤ length (now code) ⌝ }
+    ensures { λ _. ⌜ now (code .exit) ≡ now (words .entry) ++ drop (length (now (words .entry))) (now (code .entry)) ⌝ }
+{
+    for place in 0..words.len() {
+        code[place] = words[place];
+    }
+}
+
+// 8 where the words do not fit; words past them stay.
+pub fn deliver(words: &[u32], code: &mut [u32]) -> Compiled
+    requires { ⌜ length (now words) ≤ 768 ⌝ }
+    ensures { λ r. ⌜ record { answer = r; code = now (code .exit) } ≡ written (now (words .entry)) (now (code .entry)) ⌝ }
+{
+    let count = words.len() as u32;
+    if code.len() < words.len() {
+        return Compiled::CodeTooShort(count);
+    }
+    copy(words, code);
+    Compiled::Done(count)
+}

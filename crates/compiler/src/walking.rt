@@ -1,0 +1,109 @@
+// The walk over a pattern that passed the checks.
+ghost use mathlib.Core.Path.{_≡_};
+ghost use mathlib.Core.Bool.{true, false, cond};
+ghost use mathlib.Core.Option.{none};
+ghost use mathlib.Core.List.{_++_};
+ghost use Prim.Native.Nat.{_-_, _<_, _≤_};
+ghost use lib.ListN.{length, getD, replicate};
+ghost use Rattle.stores.specs.Cells.{isSet, unset};
+ghost use Rattle.theory.specs.Store.{put};
+ghost use Rattle.theory.specs.Compile.{first, refusals};
+ghost use Rattle.emission.specs.Known.{known};
+ghost use Rattle.emission.specs.Meets.{writtenIn};
+ghost use Rattle.emission.specs.Budget.{Row};
+ghost use Rattle.compiler.specs.Buffer.{answerIn, Emits, Compiles};
+use answers::Compiled;
+use emission::Code;
+use emission::Emission;
+use emission::Rows;
+use emission::with_known;
+
+// The set of cells with one more, if that is set.
+fn with_cell(mask: u64, cell: u8, row: u16) -> u64
+    requires { ⌜ (cell < 64) × (known mask cell ≡ false) ⌝ }
+    ensures { λ r. ⌜ known r ≡ cond (isSet row) (put (known mask) cell true) (known mask) ⌝ }
+{
+    if stores::cells::is_set(row as u32) {
+        with_known(mask, cell)
+    } else {
+        mask
+    }
+}
+
+// Which cells are set, cell 0 at the most significant bit.
+fn set_cells(cells: &[u16]) -> u64
+    requires { ⌜ length (now cells) ≡ 64 ⌝ }
+    ensures { λ r. ⌜ known r ≡ (λ v. isSet (getD (now (cells .entry)) v unset)) ⌝ }
+{
+    let mut mask: u64 = 0;
+    for cell in 0..cells.len() {
+        mask = with_cell(mask, cell as u8, cells[cell]);
+    }
+    mask
+}
+
+// The pattern's rows, and zero rows behind them.
+fn rows_of(pattern: &[u64]) -> Rows
+    requires { ⌜ length (now pattern) ≤ 96 ⌝ }
+    ensures { λ r. ⌜ r ≡ now (pattern .entry) ++ replicate (96 - length (now (pattern .entry))) 0 ⌝ }
+{
+    let mut rows = [0u64; 96];
+    for row in 0..pattern.len() {
+        rows[row] = pattern[row];
+    }
+    rows
+}
+
+// What emission answers.
+fn answer_of(emission: Emission) -> Compiled
+    requires { ⌜ writtenIn emission ≤ 768 ⌝ }
+    ensures { λ r. ⌜ r ≡ answerIn emission ⌝ }
+{
+    let refusal = emission[emission::REFUSAL];
+    let row = (refusal % 256) as u32;
+    let number = refusal / 256;
+    match number {
+        5 => Compiled::WrongKind(row),
+        6 => Compiled::WrittenWhileSet(row),
+        7 => Compiled::ReadWhileUnset(row),
+        _ => Compiled::Done(emission[emission::WRITTEN] as u32),
+    }
+}
+
+// The code of figure 6 for creating, of figure 5 for matching.
+fn emit_row(
+    create: bool,
+    rows: &Rows,
+    kinds: &[u8],
+    buffer: &mut Code,
+    emission: &mut Emission,
+    row: u8,
+)
+    requires { ⌜ Row (now rows) row (now emission) ⌝ }
+    ensures { λ _. ⌜ Emits create (now (rows .entry)) (now (kinds .entry)) row (now (emission .entry)) (now (buffer .entry)) (now (emission .exit)) (now (buffer .exit)) ⌝ }
+{
+    if create {
+        creating::create_row(rows, kinds, buffer, emission, row);
+    } else {
+        matching::match_row(rows, buffer, emission, row);
+    }
+}
+
+pub fn walk(
+    create: bool,
+    pattern: &[u64],
+    kinds: &[u8],
+    objects: &[u16],
+    named: &[u16],
+    buffer: &mut Code,
+) -> Compiled
+    requires { ⌜ first (refusals create (now pattern) (now kinds) (now objects) (now named)) ≡ none ⌝ }
+    requires { ⌜ length (now buffer) ≡ 768 ⌝ }
+    ensures { λ r. ⌜ Compiles create (now (pattern .entry)) (now (kinds .entry)) (now (objects .entry)) (now (named .entry)) r (now (buffer .exit)) ⌝ }
+{
+    let rows = rows_of(pattern);
+    let root = (pattern.len() - 1) as u8;
+    let mut emission: Emission = [set_cells(objects), set_cells(named), 0, 0, 0];
+    emit_row(create, &rows, kinds, buffer, &mut emission, root);
+    answer_of(emission)
+}
