@@ -88,3 +88,19 @@ pub fn same_rows(rows: &[u64], others: &[u64]) -> bool
     }
     true
 }
+
+pub fn same_words(words: &[u32], others: &[u32]) -> bool
+    ensures { λ r. ⌜ Tells r (now (words .entry)) (now (others .entry)) ⌝ }
+{
+    if words.len() != others.len() {
+        return false;
+    }
+    let mut i = 0;
+    while i < words.len() {
+        if words[i] != others[i] {
+            return false;
+        }
+        i += 1;
+    }
+    true
+}

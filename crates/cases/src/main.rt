@@ -1,5 +1,6 @@
-// Run at the edges of document 01, a line a case: its name, the answer's number, place and reason, the counter, the accumulator, and whether
-// every lent cell and row is as it should be.
+// Run and compile at the edges of document 01, a line a case: its name, the answer's number and place, of a run also reason, counter and
+// accumulator, and whether every lent cell, row and word is as it should be.
+mod compiled;
 mod lent;
 mod refused;
 mod report;
@@ -24,4 +25,9 @@ fn main() {
     refused::bad_term();
     refused::bad_store();
     refused::bad_word();
+    compiled::most_rows();
+    compiled::too_many_rows();
+    compiled::just_fits();
+    compiled::one_short();
+    compiled::no_slice();
 }
