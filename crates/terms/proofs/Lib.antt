@@ -5,4 +5,5 @@ pub mod RowLaws
 pub mod TableLaws
 pub mod ScanLaws
 pub mod FinderLaws
+pub mod BlockLaws
 pub mod RuleLaws
