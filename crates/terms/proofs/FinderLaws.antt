@@ -10,10 +10,10 @@ use native.Mathlib.Omega.{arith}
 use lib.ListN.{length, getD, take, set, length-set}
 use lib.Seq.{length-take-le, getD-take, getD-set-same, getD-set-other}
 use lib.Dec.{T, T-not, not-T, eqb}
-use borrow.Author.Tests.{eq-eqb, ne-eqb, lt-ltb, le-ltb}
+use borrow.Author.Tests.{lt-ltb, le-ltb}
 use Rattle.word.proofs.TestLaws.{equals}
 use Rattle.word.proofs.LowestLaws.{lowest-none, lowest-some}
-use Rattle.word.proofs.ScanLaws.{placed-at, placed-nowhere, Left, scan-hit, scan-miss, scan-end}
+use Rattle.word.proofs.ScanLaws.{placed-at, placed-nowhere}
 use Rattle.word.specs.Lowest.{placeOf}
 use Rattle.word.specs.declared.Place.{Place}
 use Rattle.word.specs.declared.Place.the-variants as places
@@ -40,27 +40,9 @@ pub first-of-distinct : (rows : List ℕ) (used word row : ℕ) → Distinct row
 first-of-distinct rows used word row distinct h e =
     record { within = h; equals = e; before = λ lower l q. let one = distinct lower row (omega arith) h (q ∙ sym e) in omega arith }
 
--- so many rows were passed by a loop
-abbrev pub Sought : List ℕ → ℕ → ℕ → ℕ → Type 0
-Sought rows used word i = Left (λ row other. eqb other word) (take used rows) i
-
 module _ (rows : List ℕ) (used word : ℕ) (fits : used ≤ length rows) where
   length-used : length (take used rows) ≡ used
   length-used = length-take-le used rows fits
-
-  pub sought-hit : (i : ℕ) → i < used → Sought rows used word i → getD rows i 0 ≡ word → equalRow rows used word ≡ some i
-  unfolding equalRow
-  sought-hit i h sought e =
-      scan-hit _ (take used rows) 0 i sought (omega (arith, length-used)) (eq-eqb _ _ (getD-take used rows i 0 h ∙ e))
-
-  pub sought-miss : (i : ℕ) → i < used → Sought rows used word i → (getD rows i 0 ≡ word → ⊥) → Sought rows used word (i + 1)
-  sought-miss i h sought e =
-      scan-miss _ (take used rows) 0 i sought (omega (arith, length-used)) (ne-eqb _ _ (λ q. e (sym (getD-take used rows i 0 h) ∙ q)))
-
-  pub sought-end : (i : ℕ) → used ≤ i → Sought rows used word i → equalRow rows used word ≡ none
-  unfolding equalRow
-  sought-end i h sought =
-      scan-end _ (take used rows) 0 i sought (omega (arith, length-used))
 
   abbrev same : ℕ → ℕ → Bool
   same row other = eqb other word

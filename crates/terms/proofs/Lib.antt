@@ -3,6 +3,6 @@ pub mod FieldLaws
 pub mod ShapeLaws
 pub mod RowLaws
 pub mod TableLaws
-pub mod ScanLaws
 pub mod FinderLaws
+pub mod BlockLaws
 pub mod RuleLaws

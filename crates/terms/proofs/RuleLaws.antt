@@ -14,12 +14,13 @@ use Rattle.word.specs.Fields.{at}
 use Rattle.word.specs.Lowest.{each, oneOf, lowestFrom, placeOf}
 use Rattle.word.specs.declared.Place.{Place}
 use Rattle.word.specs.declared.Place.the-variants.{At, Nowhere}
-use Rattle.word.proofs.ScanLaws.{placed-at, placed-nowhere, Left, scan-hit, scan-miss, scan-end, each-stop, each-next, each-end}
+use Rattle.word.proofs.ScanLaws.{placed-at, placed-nowhere, Left, scan-hit, scan-miss, each-stop, each-next, each-end}
 use Rattle.terms.specs.declared.Checked.the-variants.{Bad, Used}
 use Rattle.terms.specs.Shape.{Shape, atom, encrypted, signed, hashed, tupled, partsOf}
 use Rattle.terms.specs.Row.{wordOf, tagOf, shapeOf}
 use Rattle.terms.specs.Finder.{equalRow}
-use Rattle.terms.specs.Rules.{knownTag, unusedZero, numberFits, partsBelow, keyFits, earlierEqual, usedRows, fits, badRow, badTerm, checkedBy, checked}
+use Rattle.terms.specs.Rules.{knownTag, unusedZero, numberFits, partsBelow, keyFits, earlierEqual, usedRows, fits, badRow, nonzeroRow, badTerm, checkedBy, checked}
+use Rattle.terms.proofs.TableLaws.{used-rows}
 use Rattle.terms.proofs.ShapeLaws.{field, slotsOf, numberOf, Plain, shape-encrypted, shape-signed, shape-hashed, shape-tupled, shape-atom, by-tag, parts-taken, parts-at}
 
 -- a flag that goes through `&&`: the next rule was looked at, or the flag was false already
@@ -199,28 +200,45 @@ module _ (word : ℕ) where
 
 pub ruleset earlier-ways = (earlier-there, earlier-nowhere)
 
--- a bad row
-module _ (rows : List ℕ) (counter used row : ℕ) (is : used ≡ usedRows rows) where
-  pub bad-used : (fit : Bool) → row < used → fit ≡ fits rows counter row (getD rows row 0) → not fit ≡ badRow rows counter row (getD rows row 0)
-  unfolding badRow
-  bad-used fit h e = rw (← is, lt-ltb row used h, ← e)
+-- the check of a table: a loop over its used rows
+module _ (rows : List ℕ) (counter used : ℕ) (is : used ≡ usedRows rows) where
+  module _ (row : ℕ) (passed : Left (badRow rows counter) rows row) (inside : row < used)
+      (fit : Bool) (fitting : fit ≡ fits rows counter row (getD rows row 0)) where
+    bad-used : not fit ≡ badRow rows counter row (getD rows row 0)
+    unfolding badRow
+    bad-used = rw (← is, lt-ltb row used inside, ← fitting)
 
-  pub bad-unused : used ≤ row → not (eqb (getD rows row 0) 0) ≡ badRow rows counter row (getD rows row 0)
-  unfolding badRow
-  bad-unused h = rw (← is, le-ltb row used h)
+    within : row < length rows
+    within = omega (arith, is, used-rows rows .inside)
 
-pub ruleset bad-ways = (bad-used, bad-unused)
-
--- the check of a table: a loop over its rows
-module _ (rows : List ℕ) (counter row : ℕ) (passed : Left (badRow rows counter) rows row) where
-  module _ (bad : Bool) (is : bad ≡ badRow rows counter row (getD rows row 0)) (inside : row < length rows) where
-    pub checked-bad : bad ≡ true → Bad row ≡ checked rows counter
+    pub checked-bad : not fit ≡ true → Bad row ≡ checked rows counter
     unfolding badTerm
-    checked-bad e = ap (λ (answer : Option ℕ). checkedBy answer rows) (sym (scan-hit (badRow rows counter) rows 0 row passed inside (sym is ∙ e)))
+    checked-bad e = ap (λ (answer : Option ℕ). checkedBy answer rows) (sym (scan-hit (badRow rows counter) rows 0 row passed within (sym bad-used ∙ e)))
 
-    pub checked-more : bad ≡ false → Left (badRow rows counter) rows (row + 1)
-    checked-more e = scan-miss (badRow rows counter) rows 0 row passed inside (sym is ∙ e)
+    pub checked-more : not fit ≡ false → Left (badRow rows counter) rows (row + 1)
+    checked-more e = scan-miss (badRow rows counter) rows 0 row passed within (sym bad-used ∙ e)
 
-  pub checked-good : (used : ℕ) → used ≡ usedRows rows → length rows ≤ row → Used used ≡ checked rows counter
-  unfolding badTerm
-  checked-good used is h = ap Used is ∙ ap (λ (answer : Option ℕ). checkedBy answer rows) (sym (scan-end (badRow rows counter) rows 0 row passed h))
+  bad-unused : (row word : ℕ) → used ≤ row → badRow rows counter row word ≡ not (eqb word 0)
+  unfolding badRow
+  bad-unused row word h = rw (← is, le-ltb row used h)
+
+  bad-behind : (row : ℕ) (rest : List ℕ) → used ≤ row → lowestFrom row (badRow rows counter) rest ≡ lowestFrom row (λ row word. not (eqb word 0)) rest
+  unfolding lowestFrom
+  bad-behind row [] h = refl
+  bad-behind row (word ∷ rest) h =
+      ap (λ (bad : Bool). elim bad [ true ↦ some row | false ↦ lowestFrom (suc row) (badRow rows counter) rest ]) (bad-unused row word h)
+      ∙ ap (λ (later : Option ℕ). elim (not (eqb word 0)) [ true ↦ some row | false ↦ later ]) (bad-behind (suc row) rest (omega arith))
+
+  -- and the rows behind them
+  module _ (row : ℕ) (passed : Left (badRow rows counter) rows row) (end : row ≡ used)
+      (behind : Place) (says : behind ≡ placeOf (nonzeroRow rows used)) where
+    bad-term : badTerm rows counter ≡ nonzeroRow rows used
+    unfolding badTerm nonzeroRow
+    bad-term = rw (← end) (passed ∙ bad-behind row (drop row rows) (omega arith))
+
+    pub checked-behind : (place : ℕ) → behind ≡ At place → Bad place ≡ checked rows counter
+    checked-behind place e = ap (λ (answer : Option ℕ). checkedBy answer rows) (sym (bad-term ∙ placed-at (nonzeroRow rows used) says e))
+
+    pub checked-good : behind ≡ Nowhere → Used used ≡ checked rows counter
+    checked-good e =
+        ap Used is ∙ ap (λ (answer : Option ℕ). checkedBy answer rows) (sym (bad-term ∙ placed-nowhere (nonzeroRow rows used) says e))

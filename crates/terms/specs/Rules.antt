@@ -3,9 +3,9 @@ use Prim.Native.Nat.{ℕ, zero, suc}
 use mathlib.Core.Bool.{Bool, true, false, cond, not, _&&_, _||_}
 use mathlib.Core.Option.{Option, none, some}
 use mathlib.Core.List.{List, [], _∷_}
-use lib.ListN.{length, getD, take}
+use lib.ListN.{length, getD, take, drop}
 use lib.Dec.{eqb, leb, ltb}
-use Rattle.word.specs.Lowest.{lowest, each, oneOf}
+use Rattle.word.specs.Lowest.{lowestFrom, lowest, each, oneOf}
 use Rattle.terms.specs.Shape.{Shape, atom, encrypted, signed, hashed, tupled, partsOf}
 use Rattle.terms.specs.Row.{wordOf, tagOf, shapeOf}
 use Rattle.terms.specs.declared.Checked.{Checked}
@@ -56,6 +56,10 @@ fits rows counter row word =
 -- a nonzero row after the first zero row is bad
 unfoldable pub badRow : List ℕ → ℕ → ℕ → ℕ → Bool
 badRow rows counter row word = cond (ltb row (usedRows rows)) (not (fits rows counter row word)) (not (eqb word 0))
+
+-- the first row from a place on that is not zero
+unfoldable pub nonzeroRow : List ℕ → ℕ → Option ℕ
+nonzeroRow rows from = lowestFrom from (λ row word. not (eqb word 0)) (drop from rows)
 
 -- 2: the lowest bad row
 unfoldable pub badTerm : List ℕ → ℕ → Option ℕ

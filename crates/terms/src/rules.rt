@@ -3,13 +3,15 @@ ghost use mathlib.Core.Path.{_≡_};
 ghost use mathlib.Core.List.{[], _∷_};
 ghost use Prim.Native.Nat.{_≤_, _<_};
 ghost use lib.ListN.{length, getD, drop};
+ghost use lib.Dec.{eqb};
 ghost use Rattle.word.specs.Fields.{split};
-ghost use Rattle.word.specs.Lowest.{oneOf};
+ghost use Rattle.word.specs.Lowest.{each, oneOf, placeOf};
 ghost use Rattle.terms.specs.Shape.{partsOf};
 ghost use Rattle.terms.specs.Row.{rowWidths, tagOf, shapeOf};
-ghost use Rattle.terms.specs.Rules.{usedRows, knownTag, unusedZero, numberFits, partsBelow, keyFits, earlierEqual, fits, badRow, checked};
+ghost use Rattle.terms.specs.Rules.{usedRows, knownTag, unusedZero, numberFits, partsBelow, keyFits, earlierEqual, fits, nonzeroRow, checked};
 use super::Checked;
 use super::finder::equal_row;
+use super::finder::rows_passed;
 use super::row::atom_word;
 use super::row::encrypted_word;
 use super::row::hashed_word;
@@ -26,7 +28,7 @@ use word::Place;
 pub fn used_rows(rows: &[u64]) -> usize
     ensures { λ r. ⌜ r ≡ usedRows (now (rows .entry)) ⌝ }
 {
-    let mut i: usize = 0;
+    let mut i = rows_passed(rows, rows.len(), 0);
     while i < rows.len() {
         if rows[i] == 0 {
             return i;
@@ -154,29 +156,67 @@ pub fn row_fits(rows: &[u64], counter: u32, row: usize) -> bool
         && !earlier_equal(rows, row, word)
 }
 
-// A used row is bad where it breaks a rule, any other where it is not zero.
-fn bad_row(rows: &[u64], counter: u32, used: usize, row: usize) -> bool
-    requires { ⌜ (used ≡ usedRows (now rows)) × ((row < length (now rows)) × (length (now rows) ≤ 4096)) ⌝ }
-    ensures { λ r. ⌜ r ≡ badRow (now (rows .entry)) counter row (getD (now (rows .entry)) row 0) ⌝ }
+// Whether eight rows are zero. All are looked at, so that the processor takes several at a time.
+fn eight_zero(block: &[u64]) -> bool
+    requires { ⌜ length (now block) ≡ 8 ⌝ }
+    ensures { λ r. ⌜ r ≡ each (λ word. eqb word 0) (now (block .entry)) ⌝ }
 {
-    if row < used {
-        !row_fits(rows, counter, row)
-    } else {
-        rows[row] != 0
-    }
+    (block[0] == 0)
+        & (block[1] == 0)
+        & (block[2] == 0)
+        & (block[3] == 0)
+        & (block[4] == 0)
+        & (block[5] == 0)
+        & (block[6] == 0)
+        & (block[7] == 0)
 }
 
+// How far zero rows reach from a place on, in blocks of eight.
+fn zeros_passed(rows: &[u64], from: usize) -> usize
+    requires { ⌜ from ≤ length (now rows) ⌝ }
+    ensures { λ r. ⌜ (r ≤ length (now (rows .entry))) × (nonzeroRow (now (rows .entry)) from ≡ nonzeroRow (now (rows .entry)) r) ⌝ }
+{
+    let mut i = from;
+    while 8 <= rows.len() - i {
+        let end = i + 8;
+        if !eight_zero(&rows[i..end]) {
+            return i;
+        }
+        i = end;
+    }
+    i
+}
+
+fn nonzero_row(rows: &[u64], from: usize) -> Place
+    requires { ⌜ (from ≤ length (now rows)) × (length (now rows) ≤ 4096) ⌝ }
+    ensures { λ r. ⌜ r ≡ placeOf (nonzeroRow (now (rows .entry)) from) ⌝ }
+{
+    let mut i = zeros_passed(rows, from);
+    while i < rows.len() {
+        if rows[i] != 0 {
+            return Place::At(i as u32);
+        }
+        i += 1;
+    }
+    Place::Nowhere
+}
+
+// A used row is bad where it breaks a rule, any other where it is not zero.
 pub fn first_bad_row(rows: &[u64], counter: u32) -> Checked
     requires { ⌜ length (now rows) ≤ 4096 ⌝ }
     ensures { λ r. ⌜ r ≡ checked (now (rows .entry)) counter ⌝ }
 {
     let used = used_rows(rows);
     let mut row: usize = 0;
-    while row < rows.len() {
-        if bad_row(rows, counter, used, row) {
+    while row < used {
+        if !row_fits(rows, counter, row) {
             return Checked::Bad(row as u32);
         }
         row += 1;
     }
-    Checked::Used(used as u32)
+    let behind = nonzero_row(rows, used);
+    match behind {
+        Place::At(place) => Checked::Bad(place),
+        Place::Nowhere => Checked::Used(used as u32),
+    }
 }

@@ -49,14 +49,15 @@ module _ {A : Type 0} (test : ℕ → A → Bool) where
   abbrev pub Left : List A → ℕ → Type 0
   Left all i = lowest test all ≡ lowestFrom i test (drop i all)
 
-  module _ (all : List A) (default : A) (i : ℕ) (left : Left all i) where
-    pub scan-hit : i < length all → test i (getD all i default) ≡ true → lowest test all ≡ some i
+  -- what is left may give the answer of any search
+  module _ (all : List A) (default : A) (i : ℕ) {answer : Option ℕ} (left : answer ≡ lowestFrom i test (drop i all)) where
+    pub scan-hit : i < length all → test i (getD all i default) ≡ true → answer ≡ some i
     scan-hit inside h = left ∙ rw (drop-cons all i default) (lowest-hit i (getD all i default) (drop (suc i) all) h)
 
-    pub scan-miss : i < length all → test i (getD all i default) ≡ false → Left all (i + 1)
+    pub scan-miss : i < length all → test i (getD all i default) ≡ false → answer ≡ lowestFrom (i + 1) test (drop (i + 1) all)
     scan-miss inside h = left ∙ rw (add-one, drop-cons all i default) (lowest-miss i (getD all i default) (drop (suc i) all) h)
 
-    pub scan-end : length all ≤ i → lowest test all ≡ none
+    pub scan-end : length all ≤ i → answer ≡ none
     scan-end past = left ∙ rw (drop-of-length-le all {i = i} past) (lowest-end i)
 
 -- two tests that agree at each place

@@ -1,6 +1,6 @@
 use native.Mathlib.Omega.{arith}
 use borrow.Author.Needs.{needs}
-use Rattle.terms.proofs.ScanLaws.{used-within}
+use Rattle.terms.proofs.TableLaws.{used-rows}
 use Rattle.printing.proofs.RanLaws.{ways}
 use Rattle.printing.proofs.end_line.Statement.{statement}
 use Rattle.printing.proofs.end_line.Tie as tie
@@ -18,7 +18,7 @@ used-rows-requires : tie.Need-used-rows-requires
 used-rows-requires c κs = search needs
 
 cast-used : tie.Need-cast-used
-cast-used c = omega (arith, c .used-rows .ensures, used-within (c .before .before .before .before .before .before .args .rows .now))
+cast-used c = omega (arith, c .used-rows .ensures, used-rows (c .before .before .before .before .before .before .args .rows .now) .inside)
 
 slice-aggregate-put-word-line : tie.Need-slice-aggregate-put-word-line
 slice-aggregate-put-word-line c = search needs

@@ -1,24 +1,33 @@
 -- The invariant: none of the rows passed equals the term.
 use Prim.Native.Nat.{_≤_, _-_}
-use mathlib.Core.Path.{refl, sym, ap}
+use mathlib.Core.Path.{sym, ap}
 use native.Mathlib.Omega.{arith}
-use borrow.Author.Needs.{scaled-fits}
+use borrow.Author.Needs.{needs, scaled-fits}
+use lib.ListN.{length}
 use Rattle.word.specs.Lowest.{placeOf}
-use Rattle.terms.proofs.FinderLaws.{Sought, sought-hit, sought-miss, sought-end}
+use Rattle.terms.proofs.FinderLaws.{Absent, equal-first, equal-absent}
+use Rattle.terms.proofs.BlockLaws.{absent-row}
 use Rattle.terms.proofs.finder.equal_row.Statement.{statement}
 use Rattle.terms.proofs.finder.equal_row.Tie as tie
 
 abbrev Inv-loop : tie.InvT-loop
-Inv-loop rows used word i₀ i = (i ≤ used) × Sought rows used word i
+Inv-loop rows used word i₀ i = (i ≤ used) × Absent rows i word
 
 abbrev μ-loop : tie.MeasureT-loop
 μ-loop rows used word i₀ i = used - i
 
+rows-passed-requires : tie.Need-rows-passed-requires Inv-loop μ-loop
+rows-passed-requires c κs = search needs
+
 loop-holds : tie.Need-loop-holds Inv-loop μ-loop
-loop-holds c = (omega arith, refl)
+loop-holds c =
+    let s = c .before .before in
+    let passed = c .rows-passed .ensures in
+    let within : c .rows-passed .result ≤ length (s .args .rows .now) = omega (arith, s .pre .0, passed .0) in
+    (passed .0, equal-absent (s .args .rows .now) (c .rows-passed .result) (s .args .word) within .0 (passed .1))
 
 mul-if1 : tie.Need-mul-if1 Inv-loop μ-loop
-mul-if1 c = scaled-fits _ _ 8 (omega arith) (c .before .before .good .0 .1)
+mul-if1 c = scaled-fits _ _ 8 (omega arith) (c .before .before .before .before .good .0 .1)
 
 shared-slice-read-if1 : tie.Need-shared-slice-read-if1 Inv-loop μ-loop
 shared-slice-read-if1 c = omega arith
@@ -28,12 +37,10 @@ cast-t9 c = omega arith
 
 returns : tie.Need-returns Inv-loop μ-loop
 returns c =
-    let s = c .before .before .before .before in
+    let s = c .before .before .before .before .before .before in
     let l = c .before .before .before .loop in
-    ap placeOf
-    (sym
-    (sought-hit (s .args .rows .now) (s .args .used) (s .args .word) (s .pre .0) (l .i) (c .before .before .loop-test .taken) (l .inv .1)
-    (c .if1 .taken)))
+    let first = equal-first (s .args .rows .now) (s .args .used) (s .args .word) (s .pre .0) (l .i) in
+    ap placeOf (sym (first .1 (record { within = c .before .before .loop-test .taken; equals = c .if1 .taken; before = l .inv .1 })))
 
 add-i : tie.Need-add-i Inv-loop μ-loop
 add-i c = omega arith
@@ -43,16 +50,15 @@ loop-less c = omega arith
 
 loop-again : tie.Need-loop-again Inv-loop μ-loop
 loop-again c =
-    let s = c .before .before .before .before in
+    let s = c .before .before .before .before .before .before in
     let l = c .before .before .before .loop in
-    let more = sought-miss (s .args .rows .now) (s .args .used) (s .args .word) (s .pre .0) (l .i) in
-    (omega arith, more (c .before .before .loop-test .taken) (l .inv .1) (c .if1 .left))
+    (omega arith, absent-row (s .args .rows .now) (s .args .word) (l .i) (l .inv .1) (c .if1 .left))
 
 returns-2 : tie.Need-returns-2 Inv-loop μ-loop
 returns-2 c =
-    let s = c .before .before in
-    let l = c .before .loop in
-    ap placeOf (sym (sought-end (s .args .rows .now) (s .args .used) (s .args .word) (s .pre .0) (l .i) (c .loop-test .left) (l .inv .1)))
+    let s = c .before .before .before .before in
+    let none = equal-absent (s .args .rows .now) (s .args .used) (s .args .word) (s .pre .0) in
+    ap placeOf (sym (none .1 (λ row l. c .before .loop .inv .1 row (omega arith))))
 
 pub equal-row-spec : {M : Type 1} → statement M
 equal-row-spec =
@@ -60,6 +66,7 @@ equal-row-spec =
     (tie.spec
     Inv-loop
     μ-loop
+    rows-passed-requires
     loop-holds
     mul-if1
     shared-slice-read-if1
