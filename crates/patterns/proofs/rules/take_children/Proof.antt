@@ -1,6 +1,6 @@
 use Prim.Native.Nat.{_-_, _<_, _≤_}
 use mathlib.Core.Path.{_≡_, refl, sym, _∙_}
-use mathlib.Core.Bool.{true, false}
+use mathlib.Core.Bool.{false}
 use native.Mathlib.Omega.{arith}
 use lib.ListN.{length, drop, length-set}
 use borrow.Author.Needs.{needs}
@@ -54,7 +54,7 @@ loop-again c =
     let count : c .before .before .before .child-count .result ≡ length (childrenOf word) = c .before .before .before .child-count .ensures in
     let inside : loop .slot < length (childrenOf word) = omega arith in (
       omega arith,
-      length-set (loop .marks) _ true ∙ loop .inv .1,
+      length-set (loop .marks) _ _ ∙ loop .inv .1,
       take-next _ _ (childrenOf word) (loop .slot) (loop .inv .2) _ inside (child-slot word (loop .slot) inside ∙ rw (c .before .before .before .before .slots .ensures) refl),
     )
 
