@@ -1,22 +1,15 @@
 // Bad pattern rows: refusal 4.
 ghost use mathlib.Core.Path.{_≡_};
 ghost use mathlib.Core.Bool.{true, false, not};
-ghost use mathlib.Core.List.{[]};
 ghost use Prim.Native.Nat.{_-_, _≤_};
 ghost use lib.ListN.{length, getD, take, drop};
 ghost use lib.Dec.{eqb, ltb};
 ghost use Rattle.word.specs.Lowest.{lowest, each, placeOf};
 ghost use Rattle.patterns.specs.Row.{fieldsOf, childrenOf};
 ghost use Rattle.patterns.specs.Rules.{form, formFits, rowFits, badPattern};
-ghost use Rattle.patterns.specs.Marks.{takeAll, Marked};
+ghost use Rattle.patterns.specs.Marks.{taking, takeAll};
 use crate::row;
 use word::Place;
-
-// Which rows are children already, and whether one was named again.
-pub struct Taken {
-    pub marks: [bool; 128],
-    pub again: bool,
-}
 
 // Slots past the children are zero.
 fn rest_zero(count: u8, slots: [u8; 4]) -> bool
@@ -78,15 +71,6 @@ pub fn row_fits(place: usize, word: u64) -> bool
     }
 }
 
-fn nothing_taken() -> Taken
-    ensures { λ r. ⌜ Marked r [] × (r .again ≡ false) ⌝ }
-{
-    Taken {
-        marks: [false; 128],
-        again: false,
-    }
-}
-
 // The number of children; there are four slots.
 fn child_count(word: u64) -> usize
     ensures { λ r. ⌜ r ≡ length (childrenOf word) ⌝ }
@@ -95,13 +79,14 @@ fn child_count(word: u64) -> usize
     if n < 4 { n } else { 4 }
 }
 
-fn take_children(taken: Taken, word: u64) -> Taken
-    ensures { λ r. ⌜ r ≡ takeAll taken (childrenOf word) ⌝ }
+// Marks the children of a row; whether one was marked already.
+fn take_children(marks: &mut [bool], word: u64) -> bool
+    requires { ⌜ length (now marks) ≡ 128 ⌝ }
+    ensures { λ r. ⌜ taking (now (marks .exit)) r ≡ takeAll (taking (now (marks .entry)) false) (childrenOf word) ⌝ }
 {
     let children = row::slots(word);
     let n = child_count(word);
-    let mut marks = taken.marks;
-    let mut again = taken.again;
+    let mut again = false;
     let mut slot = 0;
     while slot < n {
         let child = children[slot] as usize;
@@ -109,7 +94,7 @@ fn take_children(taken: Taken, word: u64) -> Taken
         marks[child] = true;
         slot += 1;
     }
-    Taken { marks, again }
+    again
 }
 
 // The lowest row but the root, the last, that is nobody's child.
@@ -132,16 +117,15 @@ pub fn first_bad_pattern(rows: &[u64]) -> Place
     requires { ⌜ length (now rows) ≤ 96 ⌝ }
     ensures { λ r. ⌜ r ≡ placeOf (badPattern (now (rows .entry))) ⌝ }
 {
-    let mut taken = nothing_taken();
+    let mut marks = [false; 128];
     let mut place = 0;
     while place < rows.len() {
         let word = rows[place];
-        taken = take_children(taken, word);
-        if !row_fits(place, word) | taken.again {
+        let again = take_children(&mut marks, word);
+        if !row_fits(place, word) | again {
             return Place::At(place as u32);
         }
         place += 1;
     }
-    let marks = taken.marks;
     first_unnamed(marks, rows.len())
 }
