@@ -16,7 +16,7 @@ use Rattle.theory.specs.Compilers.{keyVar}
 use Rattle.emission.specs.Meets.{Does, Room}
 use Rattle.emission.specs.Budget.{patternIn, words, scratches, Row, RowAt}
 use Rattle.emission.proofs.MeetsLaws.{does-le, does-seq}
-use Rattle.emission.proofs.BudgetLaws.{size-pos, room-le, room-then, row-below}
+use Rattle.emission.proofs.BudgetLaws.{size-pos, room-le, room-then, room-as, row-below}
 use Rattle.emission.proofs.PatternLaws.{good-row, encryption-child, encryption-row, let-children, let-row}
 use Rattle.creating.specs.Creates.{keyCode, patternCode, Creates}
 use Rattle.creating.proofs.KeyLaws.{key-variable}
@@ -24,15 +24,12 @@ use Rattle.creating.proofs.KeyLaws.{key-variable}
 pub slot : (children : List ℕ) (word i : ℕ) → children ≡ fieldsOf word .slots → getD children i 0 ≡ getD (fieldsOf word .slots) i 0
 slot children word i h = ap (λ (l : List ℕ). getD l i 0) h
 
+-- the row's pattern is known
+pub as-pattern : (rows : List ℕ) (row : ℕ) (kinds : List ℕ) {e code e′ code′ : List ℕ} (p : Pattern) → patternIn rows row ≡ p → Does (patternCode kinds p) (words p) (scratches p) e code e′ code′
+    → Creates rows kinds row e code e′ code′
+as-pattern rows row kinds {e} {code} {e′} {code′} p h k = subst (λ (q : Pattern). Does (patternCode kinds q) (words q) (scratches q) e code e′ code′) (sym h) k
+
 module _ (rows : List ℕ) (row word : ℕ) {e : List ℕ} (asked : RowAt rows row word e) where
-  -- a row whose pattern is known
-  pub room-as : (p : Pattern) → patternIn rows row ≡ p → Room (words p) (scratches p) e
-  room-as p h = subst (λ (q : Pattern). Room (words q) (scratches q) e) h (asked .whole .room)
-
-  pub as-pattern : (kinds : List ℕ) {code e′ code′ : List ℕ} (p : Pattern) → patternIn rows row ≡ p → Does (patternCode kinds p) (words p) (scratches p) e code e′ code′
-      → Creates rows kinds row e code e′ code′
-  as-pattern kinds {code} {e′} {code′} p h k = subst (λ (q : Pattern). Does (patternCode kinds q) (words q) (scratches q) e code e′ code′) (sym h) k
-
   -- e : E(key, p)
   pub encryption-key : fieldsOf word .tag ≡ 5 → (fieldsOf word .f < 3) × (fieldsOf word .x < 64)
   encryption-key five =
@@ -48,7 +45,7 @@ module _ (rows : List ℕ) (row word : ℕ) {e : List ℕ} (asked : RowAt rows r
 
     encryption-room : Room (8 * size (patternIn rows child) + 7) (2 * size (patternIn rows child) + 1) e
     unfolding size
-    encryption-room = room-le (omega arith) (omega arith) (room-as (encryption row (fieldsOf word .v) (keyBy (fieldsOf word)) (patternIn rows child)) is-encryption)
+    encryption-room = room-le (omega arith) (omega arith) (room-as rows row (encryption row (fieldsOf word .v) (keyBy (fieldsOf word)) (patternIn rows child)) is-encryption (asked .whole))
 
     module _ {f : Env → Emitted} {code e₁ code₁ : List ℕ} (keyed : Does f 3 0 e code e₁ code₁) where
       pub encryption-inside : Row rows child e₁
@@ -72,7 +69,7 @@ module _ (rows : List ℕ) (row word : ℕ) {e : List ℕ} (asked : RowAt rows r
         let same : x ≡ keyVar (keyBy (fieldsOf word)) = key ∙ sym (key-variable (fieldsOf word)) in
         let o : Does (emit row (Encrypt (asObject (keyVar (keyBy (fieldsOf word)))))) 1 0 e₂ code₂ e₃ code₃ = rw same at m in
         let p : Does (emit row (Decode (asObject (fieldsOf word .v)))) 1 0 e₃ code₃ e₄ code₄ = rw variable at n in
-        as-pattern kinds (encryption row (fieldsOf word .v) (keyBy (fieldsOf word)) (patternIn rows child)) is-encryption
+        as-pattern rows row kinds (encryption row (fieldsOf word .v) (keyBy (fieldsOf word)) (patternIn rows child)) is-encryption
         (does-le (omega (arith, size-pos (patternIn rows child))) (omega (arith, size-pos (patternIn rows child))) (does-seq k (does-seq l (does-seq o p))))
 
   -- let r = p1 in p2
@@ -85,7 +82,7 @@ module _ (rows : List ℕ) (row word : ℕ) {e : List ℕ} (asked : RowAt rows r
 
     let-room : Room (8 * (size (patternIn rows child) + size (patternIn rows other)) + 7) (2 * (size (patternIn rows child) + size (patternIn rows other)) + 1) e
     unfolding size
-    let-room = room-le (omega arith) (omega arith) (room-as (letIn row (fieldsOf word .r) (patternIn rows child) (patternIn rows other)) is-let)
+    let-room = room-le (omega arith) (omega arith) (room-as rows row (letIn row (fieldsOf word .r) (patternIn rows child) (patternIn rows other)) is-let (asked .whole))
 
     pub let-first : Row rows child e
     let-first = row-below rows row child (asked .whole) (let-below .0) (room-le (omega arith) (omega arith) let-room)
@@ -102,5 +99,5 @@ module _ (rows : List ℕ) (row word : ℕ) {e : List ℕ} (asked : RowAt rows r
     unfolding patternCode size
     let-done kinds r raw {e₁ = e₁} {code₁ = code₁} {e₂ = e₂} {code₂ = code₂} k l m =
         let n : Does (emit row (Store (named (fieldsOf word .r)))) 1 0 e₁ code₁ e₂ code₂ = rw raw at l in
-        as-pattern kinds (letIn row (fieldsOf word .r) (patternIn rows child) (patternIn rows other)) is-let
+        as-pattern rows row kinds (letIn row (fieldsOf word .r) (patternIn rows child) (patternIn rows other)) is-let
         (does-le (omega arith) (omega arith) (does-seq k (does-seq n m)))

@@ -13,11 +13,11 @@ use Rattle.theory.specs.Machine.{named}
 use Rattle.theory.specs.Emission.{Env, Emitted, emit}
 use Rattle.theory.specs.Compilers.{keyVar}
 use Rattle.emission.specs.Meets.{Does, Room}
-use Rattle.emission.specs.Budget.{patternIn, RowAt}
+use Rattle.emission.specs.Budget.{patternIn, RowAt, Leaf}
 use Rattle.emission.proofs.MeetsLaws.{does-le, does-seq}
 use Rattle.emission.proofs.BudgetLaws.{size-pos, leaf-room, variable-low, room-le, room-then}
 use Rattle.emission.proofs.PatternLaws.{good-row, object-row, raw-row, constant-row, opposite-row, key-of-row, signature-row, hash-row, above-four, seven-left}
-use Rattle.creating.specs.Creates.{keyCode, patternCode, Creates, Leaf}
+use Rattle.creating.specs.Creates.{keyCode, patternCode, Creates}
 use Rattle.creating.proofs.KeyLaws.{key-variable, second-low}
 use Rattle.creating.proofs.FormLaws.{raw-done, key-of-done}
 

@@ -7,13 +7,16 @@ use code::Object;
 use code::Raw;
 use emission::Code;
 use emission::Emission;
+use emission::Part;
 use emission::emit;
+use emission::parts_of;
 use emission::scratch;
 use emission::take;
 ghost use mathlib.Core.Path.{_≡_};
 ghost use Rattle.patterns.specs.Row.{fieldsOf};
-ghost use Rattle.emission.specs.Budget.{Row, RowAt};
-ghost use Rattle.creating.specs.Creates.{Creates, Leaf, PartsAt, CreatesParts};
+ghost use Rattle.emission.specs.Budget.{Row, RowAt, Leaf};
+ghost use Rattle.emission.specs.Parts.{PartsAt};
+ghost use Rattle.creating.specs.Creates.{Creates, CreatesParts};
 
 // s : S(key, r)
 fn create_signature(
@@ -120,9 +123,16 @@ fn create_tuple(
 {
     let t = patterns::variable(word);
     let n = patterns::count(word);
-    let children = patterns::slots(word);
     let first = take(emission, n);
-    create_parts(rows, kinds, code, emission, row, children, n, first, 0);
+    create_parts(
+        rows,
+        kinds,
+        code,
+        emission,
+        row,
+        parts_of(patterns::slots(word), first),
+        n,
+    );
     let cell = scratch(first);
     emit(
         code,
@@ -133,25 +143,30 @@ fn create_tuple(
     emit(code, emission, row, Instruction::Encode(Object(t)));
 }
 
-// The first n children from the kth on, each into the scratch cell of its number.
+// The parts of a tuple, from left to right, each into its scratch cell.
 fn create_parts(
     rows: &[u64],
     kinds: &[u8],
     code: &mut Code,
     emission: &mut Emission,
     row: u8,
-    children: [u8; 4],
+    parts: [Part; 4],
     n: u8,
-    first: u8,
-    k: u8,
 )
-    requires { ⌜ PartsAt (now rows) row children n first k (now emission) ⌝ }
-    ensures { λ _. ⌜ CreatesParts (now (rows .entry)) (now (kinds .entry)) row children n first k (now (emission .entry)) (now (code .entry)) (now (emission .exit)) (now (code .exit)) ⌝ }
+    requires { ⌜ PartsAt (now rows) row parts n (now emission) ⌝ }
+    ensures { λ _. ⌜ CreatesParts (now (rows .entry)) (now (kinds .entry)) row parts n (now (emission .entry)) (now (code .entry)) (now (emission .exit)) (now (code .exit)) ⌝ }
 {
-    if k < n {
-        create_row(rows, kinds, code, emission, children[k as usize]);
-        emit(code, emission, row, Instruction::Store(scratch(first + k)));
-        create_parts(rows, kinds, code, emission, row, children, n, first, k + 1);
+    let mut k: u8 = 0;
+    while k < n {
+        let part = parts[k as usize];
+        create_row(rows, kinds, code, emission, part.child);
+        emit(
+            code,
+            emission,
+            row,
+            Instruction::Store(scratch(part.scratch)),
+        );
+        k += 1;
     }
 }
 

@@ -36,6 +36,10 @@ pub room-then : {f : Env → Emitted} {w m x n y k : ℕ} {e code e′ code′ :
 room-then h g room d =
     record { long = d .long ∙ room .long; place = omega (arith, room .place, d .place); free = omega (arith, room .free, d .free) }
 
+-- a row whose pattern is known
+pub room-as : (rows : List ℕ) (row : ℕ) {e : List ℕ} (p : Pattern) → patternIn rows row ≡ p → Row rows row e → Room (words p) (scratches p) e
+room-as rows row p h asked = rw h at (asked .room)
+
 -- every row has room for a form with no part
 pub leaf-room : (rows : List ℕ) (row word : ℕ) (e : List ℕ) → RowAt rows row word e → Room 7 1 e
 leaf-room rows row word e m =

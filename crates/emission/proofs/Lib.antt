@@ -5,3 +5,4 @@ pub mod StepLaws
 pub mod SettleLaws
 pub mod BudgetLaws
 pub mod PatternLaws
+pub mod PartLaws

@@ -39,6 +39,12 @@ pub record RowAt (rows : List ℕ) (row word : ℕ) (e : List ℕ) : Type 0 wher
   pub here : word ≡ getD rows row 0
   pub whole : Row rows row e
 
+-- the forms with children have tags 5, 8 and 9
+pub record Leaf (tag : ℕ) : Type 0 where
+  pub encryption : tag ≡ 5 → ⊥
+  pub tuple : tag ≡ 8 → ⊥
+  pub letIn : tag ≡ 9 → ⊥
+
 -- room for the parts of a tuple, whose own scratch numbers are taken already
 pub record RoomParts (ps : Parts) (e : List ℕ) : Type 0 where
   pub long : length e ≡ 5

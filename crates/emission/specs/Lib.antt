@@ -3,3 +3,4 @@ pub mod Known
 pub mod Steps
 pub mod Meets
 pub mod Budget
+pub mod Parts

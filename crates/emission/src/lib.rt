@@ -15,6 +15,7 @@ ghost use Rattle.theory.specs.Emission.{ok, refuse, emit};
 ghost use Rattle.emission.specs.Known.{known};
 ghost use Rattle.emission.specs.Steps.{readObject, writeObject, readRaw, writeRaw, freeRaw, raise, settled, WritesLow};
 ghost use Rattle.emission.specs.Meets.{nextIn, refusing, Does, Quiet, Room};
+ghost use Rattle.emission.specs.Parts.{partsFrom};
 
 // The numbers at OBJECTS, RAWS, NEXT, WRITTEN and REFUSAL.
 pub type Emission = [u64; 5];
@@ -146,6 +147,36 @@ pub fn scratch(number: u8) -> Raw
     ensures { λ r. ⌜ r ≡ scratch number ⌝ }
 {
     Raw(64 + number)
+}
+
+// A part of a tuple: its row, and the scratch number that holds it.
+pub struct Part {
+    pub child: u8,
+    pub scratch: u8,
+}
+
+pub fn parts_of(children: [u8; 4], first: u8) -> [Part; 4]
+    requires { ⌜ first < 192 ⌝ }
+    ensures { λ r. ⌜ r ≡ partsFrom children first ⌝ }
+{
+    [
+        Part {
+            child: children[0],
+            scratch: first,
+        },
+        Part {
+            child: children[1],
+            scratch: first + 1,
+        },
+        Part {
+            child: children[2],
+            scratch: first + 2,
+        },
+        Part {
+            child: children[3],
+            scratch: first + 3,
+        },
+    ]
 }
 
 // What an instruction reads, and then what it writes.

@@ -13,11 +13,11 @@ use Rattle.theory.specs.Machine.{named}
 use Rattle.theory.specs.Emission.{emit}
 use Rattle.theory.specs.Compilers.{compile↓, verifying}
 use Rattle.emission.specs.Meets.{Does}
-use Rattle.emission.specs.Budget.{patternIn, RowAt}
+use Rattle.emission.specs.Budget.{patternIn, RowAt, Leaf}
 use Rattle.emission.proofs.MeetsLaws.{does-le, does-seq}
 use Rattle.emission.proofs.BudgetLaws.{size-pos, leaf-room, variable-low}
 use Rattle.emission.proofs.PatternLaws.{good-row, object-row, raw-row, constant-row, opposite-row, key-of-row, signature-row, hash-row, above-four, seven-left}
-use Rattle.matching.specs.Matches.{Matches, Leaf}
+use Rattle.matching.specs.Matches.{Matches}
 
 module _ (rows : List ℕ) (row word : ℕ) {e code e′ code′ : List ℕ} (asked : RowAt rows row word e) where
   as-leaf : (p : Pattern) → patternIn rows row ≡ p → Does (compile↓ p) 7 1 e code e′ code′ → Matches rows row e code e′ code′

@@ -6,17 +6,19 @@ use code::Object;
 use code::Raw;
 use emission::Code;
 use emission::Emission;
+use emission::Part;
 use emission::Rows;
 use emission::emit;
 use emission::free_raw;
+use emission::parts_of;
 use emission::scratch;
 use emission::take;
 use emission::wrong_kind;
 ghost use mathlib.Core.Path.{_≡_};
-ghost use Prim.Native.Nat.{_+_, _<_};
 ghost use Rattle.patterns.specs.Row.{fieldsOf};
-ghost use Rattle.emission.specs.Budget.{Row, RowAt};
-ghost use Rattle.matching.specs.Matches.{Matches, Leaf, partsFrom, PartsAt, MatchesParts};
+ghost use Rattle.emission.specs.Budget.{Row, RowAt, Leaf};
+ghost use Rattle.emission.specs.Parts.{PartsAt};
+ghost use Rattle.matching.specs.Matches.{Matches, MatchesParts};
 
 // s : S(key, r)
 fn match_signature(rows: &Rows, code: &mut Code, emission: &mut Emission, row: u8, word: u64)
@@ -62,36 +64,6 @@ fn match_leaf(rows: &Rows, code: &mut Code, emission: &mut Emission, row: u8, wo
         6 => match_signature(rows, code, emission, row, word),
         _ => forms::match_hash(code, emission, row, v, patterns::raw(word)),
     }
-}
-
-// A part of a tuple: its row, and the scratch number that holds it.
-pub struct Part {
-    pub child: u8,
-    pub scratch: u8,
-}
-
-fn parts_of(children: [u8; 4], first: u8) -> [Part; 4]
-    requires { ⌜ first < 192 ⌝ }
-    ensures { λ r. ⌜ r ≡ partsFrom children first ⌝ }
-{
-    [
-        Part {
-            child: children[0],
-            scratch: first,
-        },
-        Part {
-            child: children[1],
-            scratch: first + 1,
-        },
-        Part {
-            child: children[2],
-            scratch: first + 2,
-        },
-        Part {
-            child: children[3],
-            scratch: first + 3,
-        },
-    ]
 }
 
 // The pattern of a row.

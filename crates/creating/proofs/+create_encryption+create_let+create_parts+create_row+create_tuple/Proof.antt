@@ -2,9 +2,11 @@ use mathlib.Core.Path.{_≡_, refl, sym, _∙_}
 use native.Mathlib.Omega.{arith}
 use lib.ListN.{length}
 use Rattle.emission.proofs.BudgetLaws.{leaf-room, variable-low}
+use Rattle.emission.proofs.PartLaws.{Walked, parts-begin, parts-end}
+use Rattle.creating.specs.Creates.{partsCode}
 use Rattle.creating.proofs.LeafLaws.{key-room}
 use Rattle.creating.proofs.ChildLaws.{slot, encryption-key, encryption-below, encryption-inside, encrypt-room, seal-room, encryption-done, let-below, let-first, let-store, let-second, let-done}
-use Rattle.creating.proofs.PartLaws.{parts-none, part-index, part-below, part-row, part-store, part-rest, part-cell, part-done, tuple-parts, tuple-create, tuple-encode, tuple-done}
+use Rattle.creating.proofs.PartLaws.{in-turn, part-asks, part-stores, part-done, tuple-asks, tuple-create, tuple-encode, tuple-done}
 use Prim.Native.Nat.{ℕ, _+_, _-_, _*_, _<_}
 use borrow.Author.Needs.{needs}
 use borrow.Fn.Kinds.{In}
@@ -27,6 +29,7 @@ use Rattle.creating.proofs.+create_encryption+create_let+create_parts+c
 use Rattle.creating.proofs.create_leaf.Reads as create-leaf-reads
 use Rattle.creating.proofs.keys.create_key.Reads as create-key-reads
 use Rattle.emission.proofs.emit.Reads as emit-reads
+use Rattle.emission.proofs.parts_of.Reads as parts-of-reads
 use Rattle.emission.proofs.scratch.Reads as scratch-reads
 use Rattle.emission.proofs.take.Reads as take-reads
 use Rattle.patterns.proofs.count.Reads as count-reads
@@ -49,7 +52,7 @@ abbrev μ-create-let : Measures 4 create-let-kinds.ps ℕ
 μ-create-let κs a = 8 * a .1 .1 .1 .1 .0 + 6
 
 abbrev μ-create-parts : Measures 4 create-parts-kinds.ps ℕ
-μ-create-parts κs a = 8 * a .1 .1 .1 .1 .0 + (5 - a .1 .1 .1 .1 .1 .1 .1 .1 .0)
+μ-create-parts κs a = 8 * a .1 .1 .1 .1 .0 + 5
 
 abbrev μ-create-row : Measures 4 create-row-kinds.ps ℕ
 μ-create-row κs a = 8 * a .1 .1 .1 .1 .0 + 7
@@ -112,6 +115,12 @@ create-tuple-below t =
     create-tuple-kinds.ps
     (falls 4 create-tuple-kinds.ps _<_ μ-create-tuple t)
     create-tuple.Pre
+
+abbrev create-parts-Inv-loop : create-parts-lts.InvT-loop
+create-parts-Inv-loop rows kinds code₀ emission₀ row n parts k₀ code emission k = Walked (partsCode kinds) rows row parts n emission₀ code₀ k emission code
+
+abbrev create-parts-μ-loop : create-parts-lts.MeasureT-loop
+create-parts-μ-loop rows kinds code₀ emission₀ row n parts k₀ code emission k = n - k
 
 module _ (t : ℕ) where
   abbrev create-encryption-callees : create-encryption-lts.Claims
@@ -206,61 +215,59 @@ module _ (t : ℕ) where
 
   abbrev create-parts-callees : create-parts-lts.Claims
   create-parts-callees =
-      (create-row-below t, create-row.Post, scratch-reads.Asked, scratch-reads.Learnt, emit-reads.Asked, emit-reads.Learnt, create-parts-below t, create-parts.Post)
+      (create-row-below t, create-row.Post, scratch-reads.Asked, scratch-reads.Learnt, emit-reads.Asked, emit-reads.Learnt)
 
-  -- there are four children
-  parts-four : (s : create-parts-lts.Start create-parts-callees (create-parts-at t) create-parts.Post) → length (s .args .t6) ≡ 4
+  -- there are four parts
+  parts-four : (s : create-parts-lts.Start create-parts-callees (create-parts-at t) create-parts.Post create-parts-Inv-loop create-parts-μ-loop) → length (s .args .t6) ≡ 4
   parts-four s = search needs
 
-  create-parts-array-read-create-row : create-parts-lts.Need-array-read-create-row create-parts-callees (create-parts-at t) create-parts.Post
-  create-parts-array-read-create-row c =
-      let s = c .before .before .before .before .before in
-      let less = c .before .before .if1 .taken in
-      part-index _ _ _ _ _ _ (parts-four s) (s .pre .1) less
+  create-parts-loop-holds : create-parts-lts.Need-loop-holds create-parts-callees (create-parts-at t) create-parts.Post create-parts-Inv-loop create-parts-μ-loop
+  create-parts-loop-holds c =
+      let s = c .before .before in
+      parts-begin (in-turn _) _ _ _ _ (parts-four s) (s .pre .1) _
 
-  create-parts-create-row-requires : create-parts-lts.Need-create-row-requires create-parts-callees (create-parts-at t) create-parts.Post
+  create-parts-cast-part : create-parts-lts.Need-cast-part create-parts-callees (create-parts-at t) create-parts.Post create-parts-Inv-loop create-parts-μ-loop
+  create-parts-cast-part c = search needs
+
+  create-parts-mul-part : create-parts-lts.Need-mul-part create-parts-callees (create-parts-at t) create-parts.Post create-parts-Inv-loop create-parts-μ-loop
+  create-parts-mul-part c = search needs
+
+  create-parts-array-copy-out-part : create-parts-lts.Need-array-copy-out-part create-parts-callees (create-parts-at t) create-parts.Post create-parts-Inv-loop create-parts-μ-loop
+  create-parts-array-copy-out-part c = search needs
+
+  create-parts-create-row-requires : create-parts-lts.Need-create-row-requires create-parts-callees (create-parts-at t) create-parts.Post create-parts-Inv-loop create-parts-μ-loop
   create-parts-create-row-requires c κs =
-      let s = c .before .before .before .before .before in
-      let less = c .before .before .if1 .taken in
-      (omega (arith, s .pre .0, part-below _ _ _ _ _ _ (parts-four s) (s .pre .1) less), part-row _ _ _ _ _ _ (parts-four s) (s .pre .1) less)
+      let s = c .before .before .before .before .before .before .before in
+      let less = c .before .before .before .loop-test .taken in
+      (omega (arith, s .pre .0, s .pre .1 .below _ less), part-asks _ _ _ _ _ (parts-four s) (s .pre .1) _ (c .before .before .before .before .loop .inv) less)
 
-  create-parts-add-scratch : create-parts-lts.Need-add-scratch create-parts-callees (create-parts-at t) create-parts.Post
-  create-parts-add-scratch c =
-      let s = c .before .before .before .before .before .before .before .before in
-      let less = c .before .before .before .before .before .if1 .taken in
-      omega (arith, part-cell _ _ _ _ _ _ (parts-four s) (s .pre .1) less)
-
-  create-parts-scratch-requires : create-parts-lts.Need-scratch-requires create-parts-callees (create-parts-at t) create-parts.Post
+  create-parts-scratch-requires : create-parts-lts.Need-scratch-requires create-parts-callees (create-parts-at t) create-parts.Post create-parts-Inv-loop create-parts-μ-loop
   create-parts-scratch-requires c κs =
-      let s = c .before .before .before .before .before .before .before .before in
-      let less = c .before .before .before .before .before .if1 .taken in
-      omega (arith, part-cell _ _ _ _ _ _ (parts-four s) (s .pre .1) less)
+      let s = c .before .before .before .before .before .before .before .before .before .before in
+      let k = c .before .before .before .before .before .before .before .loop .k in
+      let less = c .before .before .before .before .before .before .loop-test .taken in
+      omega (arith, s .pre .1 .laid k less, s .pre .1 .cells, less)
 
-  create-parts-emit-requires : create-parts-lts.Need-emit-requires create-parts-callees (create-parts-at t) create-parts.Post
+  create-parts-emit-requires : create-parts-lts.Need-emit-requires create-parts-callees (create-parts-at t) create-parts.Post create-parts-Inv-loop create-parts-μ-loop
   create-parts-emit-requires c κs =
-      let s = c .before .before .before .before .before .before .before .before .before in
-      let less = c .before .before .before .before .before .before .if1 .taken in
-      (part-store _ _ _ _ _ _ (parts-four s) (s .pre .1) less (c .before .before .before .create-row .ensures), tt)
+      let s = c .before .before .before .before .before .before .before .before .before .before .before in
+      (part-stores _ _ _ _ _ (parts-four s) (s .pre .1) _ (c .before .before .before .before .before .before .before .before .loop .inv) (c .before .before .before .before .before .before .before .loop-test .taken) (c .before .before .before .create-row .ensures), tt)
 
-  create-parts-add-create-parts : create-parts-lts.Need-add-create-parts create-parts-callees (create-parts-at t) create-parts.Post
-  create-parts-add-create-parts c = search needs
+  create-parts-add-k : create-parts-lts.Need-add-k create-parts-callees (create-parts-at t) create-parts.Post create-parts-Inv-loop create-parts-μ-loop
+  create-parts-add-k c = search needs
 
-  create-parts-create-parts-requires : create-parts-lts.Need-create-parts-requires create-parts-callees (create-parts-at t) create-parts.Post
-  create-parts-create-parts-requires c κs =
+  create-parts-loop-less : create-parts-lts.Need-loop-less create-parts-callees (create-parts-at t) create-parts.Post create-parts-Inv-loop create-parts-μ-loop
+  create-parts-loop-less c = search needs
+
+  create-parts-loop-again : create-parts-lts.Need-loop-again create-parts-callees (create-parts-at t) create-parts.Post create-parts-Inv-loop create-parts-μ-loop
+  create-parts-loop-again c =
       let s = c .before .before .before .before .before .before .before .before .before .before .before .before in
-      let less = c .before .before .before .before .before .before .before .before .before .if1 .taken in
-      (omega (arith, s .pre .0, part-index _ _ _ _ _ _ (parts-four s) (s .pre .1) less), part-rest _ _ _ _ _ _ (parts-four s) (s .pre .1) less (c .before .before .before .before .before .before .create-row .ensures) (c .before .before .emit .ensures))
+      part-done _ _ _ _ _ (parts-four s) (s .pre .1) _ (c .before .before .before .before .before .before .before .before .before .loop .inv) (c .before .before .before .before .before .before .before .before .loop-test .taken) (c .before .before .before .before .create-row .ensures) (c .before .scratch .ensures) (c .emit .ensures)
 
-  create-parts-returns : create-parts-lts.Need-returns create-parts-callees (create-parts-at t) create-parts.Post
+  create-parts-returns : create-parts-lts.Need-returns create-parts-callees (create-parts-at t) create-parts.Post create-parts-Inv-loop create-parts-μ-loop
   create-parts-returns c =
-      let s = c .before .before .before .before .before .before .before .before .before .before .before .before .before in
-      let less = c .before .before .before .before .before .before .before .before .before .before .if1 .taken in
-      part-done _ _ _ _ _ _ (parts-four s) (s .pre .1) less _ _ (c .before .before .before .before .scratch .ensures) (c .before .before .before .before .before .before .before .create-row .ensures) (c .before .before .before .emit .ensures) (c .create-parts .ensures)
-
-  create-parts-returns-2 : create-parts-lts.Need-returns-2 create-parts-callees (create-parts-at t) create-parts.Post
-  create-parts-returns-2 c =
-      let s = c .before .before .before in
-      parts-none _ _ _ _ _ _ (parts-four s) (s .pre .1) (c .if1 .left) _
+      let s = c .before .before .before .before in
+      parts-end (in-turn _) _ _ _ _ (parts-four s) (s .pre .1) _ (c .before .loop .inv) (c .loop-test .left)
 
   abbrev create-row-callees : create-row-lts.Claims
   create-row-callees =
@@ -310,7 +317,7 @@ module _ (t : ℕ) where
 
   abbrev create-tuple-callees : create-tuple-lts.Claims
   create-tuple-callees =
-      (variable-reads.Asked, variable-reads.Learnt, count-reads.Asked, count-reads.Learnt, slots-reads.Asked, slots-reads.Learnt, take-reads.Asked, take-reads.Learnt, create-parts-below t, create-parts.Post, scratch-reads.Asked, scratch-reads.Learnt, emit-reads.Asked, emit-reads.Learnt)
+      (variable-reads.Asked, variable-reads.Learnt, count-reads.Asked, count-reads.Learnt, take-reads.Asked, take-reads.Learnt, slots-reads.Asked, slots-reads.Learnt, parts-of-reads.Asked, parts-of-reads.Learnt, create-parts-below t, create-parts.Post, scratch-reads.Asked, scratch-reads.Learnt, emit-reads.Asked, emit-reads.Learnt)
 
   create-tuple-variable-requires : create-tuple-lts.Need-variable-requires create-tuple-callees (create-tuple-at t) create-tuple.Post
   create-tuple-variable-requires c κs = search needs
@@ -318,40 +325,43 @@ module _ (t : ℕ) where
   create-tuple-count-requires : create-tuple-lts.Need-count-requires create-tuple-callees (create-tuple-at t) create-tuple.Post
   create-tuple-count-requires c κs = search needs
 
+  create-tuple-take-requires : create-tuple-lts.Need-take-requires create-tuple-callees (create-tuple-at t) create-tuple.Post
+  create-tuple-take-requires c κs =
+      let room = leaf-room _ _ _ _ (c .before .before .before .before .before .pre .1 .0) in
+      (room .long, omega (arith, room .free))
+
   create-tuple-slots-requires : create-tuple-lts.Need-slots-requires create-tuple-callees (create-tuple-at t) create-tuple.Post
   create-tuple-slots-requires c κs = search needs
 
-  create-tuple-take-requires : create-tuple-lts.Need-take-requires create-tuple-callees (create-tuple-at t) create-tuple.Post
-  create-tuple-take-requires c κs =
-      let room = leaf-room _ _ _ _ (c .before .before .before .before .before .before .pre .1 .0) in
-      (room .long, omega (arith, room .free))
+  create-tuple-parts-of-requires : create-tuple-lts.Need-parts-of-requires create-tuple-callees (create-tuple-at t) create-tuple.Post
+  create-tuple-parts-of-requires c κs = omega (arith, c .before .before .before .take .ensures .0, leaf-room _ _ _ _ (c .before .before .before .before .before .before .before .before .before .pre .1 .0) .free)
 
   create-tuple-create-parts-requires : create-tuple-lts.Need-create-parts-requires create-tuple-callees (create-tuple-at t) create-tuple.Post
   create-tuple-create-parts-requires c κs =
-      let asked = c .before .before .before .before .before .before .before .before .before .pre .1 in
-      let taken = c .before .before .take .ensures in
-      (omega (arith, c .before .before .before .before .before .before .before .before .before .pre .0), tuple-parts _ _ _ (asked .0) (asked .1) _ (c .before .before .before .before .before .count .ensures) _ (c .before .before .before .before .slots .ensures) _ (taken .0) (taken .1))
+      let asked = c .before .before .before .before .before .before .before .before .before .before .pre .1 in
+      let taken = c .before .before .before .before .take .ensures in
+      (omega (arith, c .before .before .before .before .before .before .before .before .before .before .pre .0), tuple-asks _ _ _ (asked .0) (asked .1) _ (c .before .before .before .before .before .before .count .ensures) _ (c .before .slots .ensures) _ _ (c .parts-of .ensures) (taken .0) (taken .1))
 
   create-tuple-scratch-requires : create-tuple-lts.Need-scratch-requires create-tuple-callees (create-tuple-at t) create-tuple.Post
-  create-tuple-scratch-requires c κs = omega (arith, c .before .before .before .take .ensures .0, leaf-room _ _ _ _ (c .before .before .before .before .before .before .before .before .before .before .pre .1 .0) .free)
+  create-tuple-scratch-requires c κs = omega (arith, c .before .before .before .before .before .take .ensures .0, leaf-room _ _ _ _ (c .before .before .before .before .before .before .before .before .before .before .before .pre .1 .0) .free)
 
   create-tuple-emit-requires : create-tuple-lts.Need-emit-requires create-tuple-callees (create-tuple-at t) create-tuple.Post
   create-tuple-emit-requires c κs =
-      let asked = c .before .before .before .before .before .before .before .before .before .before .before .before .before .pre .1 in
-      let taken = c .before .before .before .before .before .before .take .ensures in
-      (tuple-create _ _ _ (asked .0) (asked .1) _ (c .before .before .before .before .before .before .before .before .before .count .ensures) _ (c .before .before .before .before .before .before .before .before .slots .ensures) _ (taken .0) (taken .1) (c .before .before .before .create-parts .ensures), variable-low _ _ (c .before .before .before .before .before .before .before .before .before .before .variable .ensures))
+      let asked = c .before .before .before .before .before .before .before .before .before .before .before .before .before .before .pre .1 in
+      let taken = c .before .before .before .before .before .before .before .before .take .ensures in
+      (tuple-create _ _ _ (asked .0) (asked .1) _ (c .before .before .before .before .before .before .before .before .before .before .count .ensures) _ (c .before .before .before .before .before .slots .ensures) _ _ (c .before .before .before .before .parts-of .ensures) (taken .0) (taken .1) _ (c .before .before .before .create-parts .ensures), variable-low _ _ (c .before .before .before .before .before .before .before .before .before .before .before .variable .ensures))
 
   create-tuple-emit-requires-2 : create-tuple-lts.Need-emit-requires-2 create-tuple-callees (create-tuple-at t) create-tuple.Post
   create-tuple-emit-requires-2 c κs =
-      let asked = c .before .before .before .before .before .before .before .before .before .before .before .before .before .before .before .before .pre .1 in
-      let taken = c .before .before .before .before .before .before .before .before .before .take .ensures in
-      (tuple-encode _ _ _ (asked .0) (asked .1) _ (c .before .before .before .before .before .before .before .before .before .before .before .before .count .ensures) _ (c .before .before .before .before .before .before .before .before .before .before .before .slots .ensures) _ (taken .0) (taken .1) (c .before .before .before .before .before .before .create-parts .ensures) (c .before .before .emit .ensures), tt)
+      let asked = c .before .before .before .before .before .before .before .before .before .before .before .before .before .before .before .before .before .pre .1 in
+      let taken = c .before .before .before .before .before .before .before .before .before .before .before .take .ensures in
+      (tuple-encode _ _ _ (asked .0) (asked .1) _ (c .before .before .before .before .before .before .before .before .before .before .before .before .before .count .ensures) _ (c .before .before .before .before .before .before .before .before .slots .ensures) _ _ (c .before .before .before .before .before .before .before .parts-of .ensures) (taken .0) (taken .1) _ (c .before .before .before .before .before .before .create-parts .ensures) (c .before .before .emit .ensures), tt)
 
   create-tuple-returns : create-tuple-lts.Need-returns create-tuple-callees (create-tuple-at t) create-tuple.Post
   create-tuple-returns c =
-      let asked = c .before .before .before .before .before .before .before .before .before .before .before .before .before .before .before .before .before .pre .1 in
-      let taken = c .before .before .before .before .before .before .before .before .before .before .take .ensures in
-      tuple-done _ _ _ (asked .0) (asked .1) _ (c .before .before .before .before .before .before .before .before .before .before .before .before .before .count .ensures) _ (c .before .before .before .before .before .before .before .before .before .before .before .before .slots .ensures) _ (taken .0) (taken .1) _ _ _ (c .before .before .before .before .before .before .before .before .before .before .before .before .before .before .variable .ensures) (c .before .before .before .before .before .before .scratch .ensures) (c .before .before .before .before .before .before .before .create-parts .ensures) (c .before .before .before .emit .ensures) (c .emit2 .ensures)
+      let asked = c .before .before .before .before .before .before .before .before .before .before .before .before .before .before .before .before .before .before .pre .1 in
+      let taken = c .before .before .before .before .before .before .before .before .before .before .before .before .take .ensures in
+      tuple-done _ _ _ (asked .0) (asked .1) _ (c .before .before .before .before .before .before .before .before .before .before .before .before .before .before .count .ensures) _ (c .before .before .before .before .before .before .before .before .before .slots .ensures) _ _ (c .before .before .before .before .before .before .before .before .parts-of .ensures) (taken .0) (taken .1) _ _ _ (c .before .before .before .before .before .before .before .before .before .before .before .before .before .before .before .variable .ensures) (c .before .before .before .before .before .before .scratch .ensures) (c .before .before .before .before .before .before .before .create-parts .ensures) (c .before .before .before .emit .ensures) (c .emit2 .ensures)
 
 pub +create-encryption+create-let+create-parts+create-row+create-tuple-spec :
     {M : Type 1} → statement M
@@ -388,15 +398,19 @@ pub +create-encryption+create-let+create-parts+create-row+create-tuple-spec :
     (λ t. create-parts-lts.spec (create-parts-callees t)
     (create-parts-at t)
     create-parts.Post
-    (create-parts-array-read-create-row t)
+    create-parts-Inv-loop
+    create-parts-μ-loop
+    (create-parts-loop-holds t)
+    (create-parts-cast-part t)
+    (create-parts-mul-part t)
+    (create-parts-array-copy-out-part t)
     (create-parts-create-row-requires t)
-    (create-parts-add-scratch t)
     (create-parts-scratch-requires t)
     (create-parts-emit-requires t)
-    (create-parts-add-create-parts t)
-    (create-parts-create-parts-requires t)
-    (create-parts-returns t)
-    (create-parts-returns-2 t))
+    (create-parts-add-k t)
+    (create-parts-loop-less t)
+    (create-parts-loop-again t)
+    (create-parts-returns t))
     (λ t. create-row-lts.spec (create-row-callees t)
     (create-row-at t)
     create-row.Post
@@ -416,8 +430,9 @@ pub +create-encryption+create-let+create-parts+create-row+create-tuple-spec :
     create-tuple.Post
     (create-tuple-variable-requires t)
     (create-tuple-count-requires t)
-    (create-tuple-slots-requires t)
     (create-tuple-take-requires t)
+    (create-tuple-slots-requires t)
+    (create-tuple-parts-of-requires t)
     (create-tuple-create-parts-requires t)
     (create-tuple-scratch-requires t)
     (create-tuple-emit-requires t)

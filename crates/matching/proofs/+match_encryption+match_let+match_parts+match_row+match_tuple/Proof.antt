@@ -6,7 +6,9 @@ use lib.Dec.{lit≤}
 use lib.ListN.{length, getD}
 use borrow.Author.Needs.{needs}
 use Rattle.emission.proofs.BudgetLaws.{room-le, room-then, leaf-room, variable-low}
-use Rattle.matching.proofs.WalkLaws.{Walked, encryption-below, encryption-asks, encryption-done, encryption-wrong, let-below, let-second, let-loads, let-first, let-done, parts-begin, parts-end, part-loads, part-asks, parts-next, tuple-analyzes, tuple-asks, tuple-done}
+use Rattle.theory.specs.Compilers.{compile↓parts}
+use Rattle.emission.proofs.PartLaws.{Walked, parts-begin, parts-end, tuple-parts}
+use Rattle.matching.proofs.WalkLaws.{encryption-below, encryption-asks, encryption-done, encryption-wrong, let-below, let-second, let-loads, let-first, let-done, in-turn, part-loads, part-asks, part-done, tuple-analyzes, tuple-done}
 use borrow.Fn.Kinds.{In}
 use borrow.Fn.PlainCycle.{Measures, is, falls, and}
 use Rattle.matching.proofs.match_encryption.Reads as match-encryption
@@ -26,11 +28,11 @@ use Rattle.matching.proofs.match_tuple.Kinds as match-tuple-kinds
 use Rattle.matching.proofs.+match_encryption+match_let+match_parts+match_row+match_tuple.Lts-match_tuple as match-tuple-lts
 use Rattle.emission.proofs.emit.Reads as emit-reads
 use Rattle.emission.proofs.free_raw.Reads as free-raw-reads
+use Rattle.emission.proofs.parts_of.Reads as parts-of-reads
 use Rattle.emission.proofs.scratch.Reads as scratch-reads
 use Rattle.emission.proofs.take.Reads as take-reads
 use Rattle.emission.proofs.wrong_kind.Reads as wrong-kind-reads
 use Rattle.matching.proofs.match_leaf.Reads as match-leaf-reads
-use Rattle.matching.proofs.parts_of.Reads as parts-of-reads
 use Rattle.patterns.proofs.count.Reads as count-reads
 use Rattle.patterns.proofs.key_form.Reads as key-form-reads
 use Rattle.patterns.proofs.raw.Reads as raw-reads
@@ -107,7 +109,7 @@ match-tuple-below t =
     and 3 match-tuple-kinds.ps (falls 3 match-tuple-kinds.ps _<_ μ-match-tuple t) match-tuple.Pre
 
 abbrev match-parts-Inv-loop : match-parts-lts.InvT-loop
-match-parts-Inv-loop rows code₀ emission₀ row n parts k₀ code emission k = Walked rows row parts n emission₀ code₀ k emission code
+match-parts-Inv-loop rows code₀ emission₀ row n parts k₀ code emission k = Walked compile↓parts rows row parts n emission₀ code₀ k emission code
 
 abbrev match-parts-μ-loop : match-parts-lts.MeasureT-loop
 match-parts-μ-loop rows code₀ emission₀ row n parts k₀ code emission k = n - k
@@ -207,7 +209,7 @@ module _ (t : ℕ) where
   parts-four s = search needs
 
   match-parts-loop-holds : match-parts-lts.Need-loop-holds match-parts-callees (match-parts-at t) match-parts.Post match-parts-Inv-loop match-parts-μ-loop
-  match-parts-loop-holds c = parts-begin _ _ _ _ (parts-four c) (c .pre .1) _
+  match-parts-loop-holds c = parts-begin in-turn _ _ _ _ (parts-four c) (c .pre .1) _
 
   match-parts-cast-part : match-parts-lts.Need-cast-part match-parts-callees (match-parts-at t) match-parts.Post match-parts-Inv-loop match-parts-μ-loop
   match-parts-cast-part c = search needs
@@ -245,12 +247,12 @@ module _ (t : ℕ) where
   match-parts-loop-again : match-parts-lts.Need-loop-again match-parts-callees (match-parts-at t) match-parts.Post match-parts-Inv-loop match-parts-μ-loop
   match-parts-loop-again c =
       let s = c .before .before .before .before .before .before .before .before .before .before in
-      parts-next _ _ _ _ (parts-four s) (s .pre .1) _ (c .before .before .before .before .before .before .before .before .before .loop .inv) (c .before .before .before .before .before .before .before .before .loop-test .taken) (c .before .before .before .before .scratch .ensures) (c .before .before .before .emit .ensures) (c .match-row .ensures)
+      part-done _ _ _ _ (parts-four s) (s .pre .1) _ (c .before .before .before .before .before .before .before .before .before .loop .inv) (c .before .before .before .before .before .before .before .before .loop-test .taken) (c .before .before .before .before .scratch .ensures) (c .before .before .before .emit .ensures) (c .match-row .ensures)
 
   match-parts-returns : match-parts-lts.Need-returns match-parts-callees (match-parts-at t) match-parts.Post match-parts-Inv-loop match-parts-μ-loop
   match-parts-returns c =
       let s = c .before .before in
-      parts-end _ _ _ _ (parts-four s) (s .pre .1) _ (c .before .loop .inv) (c .loop-test .left)
+      parts-end in-turn _ _ _ _ (parts-four s) (s .pre .1) _ (c .before .loop .inv) (c .loop-test .left)
 
   abbrev match-row-callees : match-row-lts.Claims
   match-row-callees =
@@ -340,15 +342,15 @@ module _ (t : ℕ) where
   match-tuple-match-parts-requires c κs =
       let s = c .before .before .before .before .before .before .before .before .before .before .before .before .before .before .before in (
         omega (arith, s .pre .0),
-        tuple-asks _ _ _ (s .pre .1 .0) (s .pre .1 .1) _ (c .before .before .before .before .before .before .before .before .before .before .before .before .before .count .ensures) _ (c .before .slots .ensures) _ _ (c .parts-of .ensures) _ _ (c .before .before .before .before .before .before .before .before .before .before .emit .ensures)
+        tuple-parts _ _ _ (s .pre .1 .0) (s .pre .1 .1) _ (c .before .before .before .before .before .before .before .before .before .before .before .before .before .count .ensures) _ (c .before .slots .ensures) _ _ (c .parts-of .ensures) (c .before .before .before .before .before .before .before .before .before .before .emit .ensures)
             (c .before .before .before .before .before .before .before .before .take .ensures .0) (c .before .before .before .before .before .before .before .before .take .ensures .1) (c .before .before .before .before .emit2 .ensures),
       )
 
   match-tuple-returns : match-tuple-lts.Need-returns match-tuple-callees (match-tuple-at t) match-tuple.Post
   match-tuple-returns c =
       let s = c .before .before .before .before .before .before .before .before .before .before .before .before .before .before .before .before in
-      tuple-done _ _ _ (s .pre .1 .0) (s .pre .1 .1) _ (c .before .before .before .before .before .before .before .before .before .before .before .before .before .before .count .ensures) _ (c .before .before .slots .ensures) _ _ (c .before .parts-of .ensures) _ _ (c .before .before .before .before .before .before .before .before .before .before .before .emit .ensures)
-      (c .before .before .before .before .before .before .before .before .before .take .ensures .0) (c .before .before .before .before .before .before .before .before .before .take .ensures .1) (c .before .before .before .before .before .emit2 .ensures) (c .before .before .before .before .before .before .before .before .before .before .before .before .before .before .before .variable .ensures) (c .before .before .before .before .before .before .scratch .ensures) (c .match-parts .ensures)
+      tuple-done _ _ _ (s .pre .1 .0) (s .pre .1 .1) _ (c .before .before .before .before .before .before .before .before .before .before .before .before .before .before .count .ensures) _ (c .before .before .slots .ensures) _ _ (c .before .parts-of .ensures) _ _ (c .before .before .before .before .before .before .before .before .before .before .before .before .before .before .before .variable .ensures) (c .before .before .before .before .before .before .scratch .ensures)
+      (c .before .before .before .before .before .before .before .before .before .before .before .emit .ensures) (c .before .before .before .before .before .before .before .before .before .take .ensures .0) (c .before .before .before .before .before .before .before .before .before .take .ensures .1) (c .before .before .before .before .before .emit2 .ensures) (c .match-parts .ensures)
 
 pub +match-encryption+match-let+match-parts+match-row+match-tuple-spec : {M : Type 1} → statement M
 +match-encryption+match-let+match-parts+match-row+match-tuple-spec =
