@@ -58,6 +58,12 @@ pub fn no_words() -> [u32; 768]
     [0u32; 768]
 }
 
+pub fn few_rows() -> [u64; 256]
+    ensures { λ r. ⌜ 256 ≡ length r ⌝ }
+{
+    [0u64; 256]
+}
+
 pub fn no_rows() -> [u64; 4096]
     ensures { λ r. ⌜ 4096 ≡ length r ⌝ }
 {

@@ -92,18 +92,15 @@ pub extern "C" fn cram_run(
     }
     let certified = certificates.len() / 8;
     let count = code.len() / 4;
-    let lent = terms.len() / 8;
     let pairs = arrays::certificates(certificates);
     let words = arrays::code_words(code);
-    let mut rows = arrays::no_rows();
-    runs::over_rows(
+    runs::over_table(
         kinds,
         objects,
         messages,
         &pairs[..certified],
         accumulator,
         terms,
-        &mut rows[..lent],
         counter,
         &words[..count],
     )

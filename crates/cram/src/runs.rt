@@ -1,7 +1,7 @@
 // Run over cells and rows that are lent as bytes.
 ghost use mathlib.Core.Path.{_≡_};
 ghost use mathlib.Core.Bool.{_&&_};
-ghost use Prim.Native.Nat.{_*_, _%_, _≤_};
+ghost use Prim.Native.Nat.{_*_, _/_, _%_, _≤_};
 ghost use lib.Dec.{eqb, leb};
 ghost use lib.ListN.{length};
 ghost use Rattle.word.specs.Bytes.{elements};
@@ -81,7 +81,7 @@ fn over_cells(
 }
 
 // Run with the cells and the table as bytes; the rows are room for the table.
-pub fn over_rows(
+fn over_rows(
     kinds: &[u8],
     objects: &mut [u8],
     messages: &mut [u8],
@@ -112,4 +112,105 @@ pub fn over_rows(
     word::pack_words(rows, terms);
     let answer = ended.answer;
     numbers(answer, used as u32, ended.counter, ended.accumulator)
+}
+
+fn over_few(
+    kinds: &[u8],
+    objects: &mut [u8],
+    messages: &mut [u8],
+    certificates: &[u64],
+    accumulator: u32,
+    terms: &mut [u8],
+    counter: u32,
+    words: &[u32],
+) -> RunAnswer
+    requires { ⌜ (length (now objects) ≡ 128) × (length (now messages) ≡ 512) ⌝ }
+    requires { ⌜ (length (now terms) ≡ 8 * (length (now terms) / 8)) × (length (now terms) / 8 ≤ 256) ⌝ }
+    ensures { λ r. ⌜ record { answer = r; objects = now (objects .exit); messages = now (messages .exit); terms = now (terms .exit) }
+        ≡ runSpelled (run (record { kinds = now (kinds .entry); objects = elements 2 (now (objects .entry)); messages = elements 2 (now (messages .entry)); certificates = now (certificates .entry); accumulator = accumulator; terms = elements 8 (now (terms .entry)); counter = counter }) (now (words .entry))) ⌝ }
+{
+    let lent = terms.len() / 8;
+    let mut rows = arrays::few_rows();
+    over_rows(
+        kinds,
+        objects,
+        messages,
+        certificates,
+        accumulator,
+        terms,
+        &mut rows[..lent],
+        counter,
+        words,
+    )
+}
+
+fn over_many(
+    kinds: &[u8],
+    objects: &mut [u8],
+    messages: &mut [u8],
+    certificates: &[u64],
+    accumulator: u32,
+    terms: &mut [u8],
+    counter: u32,
+    words: &[u32],
+) -> RunAnswer
+    requires { ⌜ (length (now objects) ≡ 128) × (length (now messages) ≡ 512) ⌝ }
+    requires { ⌜ (length (now terms) ≡ 8 * (length (now terms) / 8)) × (length (now terms) / 8 ≤ 4096) ⌝ }
+    ensures { λ r. ⌜ record { answer = r; objects = now (objects .exit); messages = now (messages .exit); terms = now (terms .exit) }
+        ≡ runSpelled (run (record { kinds = now (kinds .entry); objects = elements 2 (now (objects .entry)); messages = elements 2 (now (messages .entry)); certificates = now (certificates .entry); accumulator = accumulator; terms = elements 8 (now (terms .entry)); counter = counter }) (now (words .entry))) ⌝ }
+{
+    let lent = terms.len() / 8;
+    let mut rows = arrays::no_rows();
+    over_rows(
+        kinds,
+        objects,
+        messages,
+        certificates,
+        accumulator,
+        terms,
+        &mut rows[..lent],
+        counter,
+        words,
+    )
+}
+
+// A small table is run in a small array: to clear a large one takes longer than most runs.
+pub fn over_table(
+    kinds: &[u8],
+    objects: &mut [u8],
+    messages: &mut [u8],
+    certificates: &[u64],
+    accumulator: u32,
+    terms: &mut [u8],
+    counter: u32,
+    words: &[u32],
+) -> RunAnswer
+    requires { ⌜ (length (now objects) ≡ 128) × (length (now messages) ≡ 512) ⌝ }
+    requires { ⌜ (length (now terms) ≡ 8 * (length (now terms) / 8)) × (length (now terms) / 8 ≤ 4096) ⌝ }
+    ensures { λ r. ⌜ record { answer = r; objects = now (objects .exit); messages = now (messages .exit); terms = now (terms .exit) }
+        ≡ runSpelled (run (record { kinds = now (kinds .entry); objects = elements 2 (now (objects .entry)); messages = elements 2 (now (messages .entry)); certificates = now (certificates .entry); accumulator = accumulator; terms = elements 8 (now (terms .entry)); counter = counter }) (now (words .entry))) ⌝ }
+{
+    if terms.len() <= 2048 {
+        over_few(
+            kinds,
+            objects,
+            messages,
+            certificates,
+            accumulator,
+            terms,
+            counter,
+            words,
+        )
+    } else {
+        over_many(
+            kinds,
+            objects,
+            messages,
+            certificates,
+            accumulator,
+            terms,
+            counter,
+            words,
+        )
+    }
 }

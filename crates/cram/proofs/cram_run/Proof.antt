@@ -49,32 +49,22 @@ certificates-requires c κs = fits c .few-certificates
 code-words-requires : tie.Need-code-words-requires
 code-words-requires c κs = fits (c .before) .few-words
 
-no-rows-requires : tie.Need-no-rows-requires
-no-rows-requires c κs = search needs
-
 array-share-prefix-pairs : tie.Need-array-share-prefix-pairs
-array-share-prefix-pairs c = omega (arith, fits (c .before .before .before .before .before) .few-certificates)
+array-share-prefix-pairs c = omega (arith, fits (c .before .before .before .before) .few-certificates)
 
-slice-aggregate-over-rows : tie.Need-slice-aggregate-over-rows
-slice-aggregate-over-rows c = sym (length-take-le _ _ (array-share-prefix-pairs (c .before)))
-
-array-borrow-prefix-rows : tie.Need-array-borrow-prefix-rows
-array-borrow-prefix-rows c = omega (arith, fits (c .before .before .before .before .before .before .before) .few-rows)
-
-slice-aggregate-over-rows-2 : tie.Need-slice-aggregate-over-rows-2
-slice-aggregate-over-rows-2 c = sym (length-take-le _ _ (array-borrow-prefix-rows (c .before)))
+slice-aggregate-over-table : tie.Need-slice-aggregate-over-table
+slice-aggregate-over-table c = sym (length-take-le _ _ (array-share-prefix-pairs (c .before)))
 
 array-share-prefix-words : tie.Need-array-share-prefix-words
-array-share-prefix-words c = omega (arith, fits (c .before .before .before .before .before .before .before .before) .few-words)
+array-share-prefix-words c = omega (arith, fits (c .before .before .before .before .before .before) .few-words)
 
-slice-aggregate-over-rows-3 : tie.Need-slice-aggregate-over-rows-3
-slice-aggregate-over-rows-3 c = sym (length-take-le _ _ (array-share-prefix-words (c .before)))
+slice-aggregate-over-table-2 : tie.Need-slice-aggregate-over-table-2
+slice-aggregate-over-table-2 c = sym (length-take-le _ _ (array-share-prefix-words (c .before)))
 
-over-rows-requires : tie.Need-over-rows-requires
-over-rows-requires c κs =
-    let f = fits (c .before .before .before .before .before .before .before .before .before) in
-    let room = array-borrow-prefix-rows (c .before .before) in
-    ((f .object-bytes, f .message-bytes), (rw length-take-le (f .row-bytes), rw length-take-le (f .few-rows)))
+over-table-requires : tie.Need-over-table-requires
+over-table-requires c κs =
+    let f = fits (c .before .before .before .before .before .before .before) in
+    ((f .object-bytes, f .message-bytes), (f .row-bytes, f .few-rows))
 
 same-length : tie.Need-same-length
 same-length c = search needs
@@ -87,11 +77,11 @@ same-length-3 c = search needs
 
 returns-2 : tie.Need-returns-2
 returns-2 c =
-    let ran = c .before .before .before .before .before .before .before in
-    let words = ran .before .before .before .before .before .before .before .before in
+    let ran = c .before .before .before .before .before .before in
+    let words = ran .before .before .before .before .before .before in
     let here = words .before .before in
     run-fits (lent (start here)) (start here .args .code .now) (fits here .all-whole) (words .before .certificates .ensures)
-    (words .code-words .ensures) (ran .over-rows .ensures)
+    (words .code-words .ensures) (ran .over-table .ensures)
 
 pub cram-run-spec : {M : Type 1} → statement M
 cram-run-spec =
@@ -102,14 +92,11 @@ cram-run-spec =
     returns
     certificates-requires
     code-words-requires
-    no-rows-requires
     array-share-prefix-pairs
-    slice-aggregate-over-rows
-    array-borrow-prefix-rows
-    slice-aggregate-over-rows-2
+    slice-aggregate-over-table
     array-share-prefix-words
-    slice-aggregate-over-rows-3
-    over-rows-requires
+    slice-aggregate-over-table-2
+    over-table-requires
     same-length
     same-length-2
     same-length-3
