@@ -1,69 +1,69 @@
 -- The set cells as a number, cell after cell.
-use Prim.Native.Nat.{ℕ, _+_, _-_, _/_, _%_, _^_, _<_, _≤_}
-use mathlib.Core.Path.{_≡_, refl, sym, _∙_, ap, fun-ext}
-use mathlib.Core.Bool.{Bool, true, false, cond, _&&_}
+use Prim.Native.Nat.{ℕ, suc, _+_, _-_, _*_, _/_, _%_, _^_, _<_}
+use mathlib.Core.Path.{_≡_, sym, fun-ext}
+use mathlib.Core.Bool.{Bool, true, false, cond}
 use mathlib.Core.List.{List}
 use native.Mathlib.Decide.{ℕ-discrete, decLt}
-use native.Mathlib.Nat.{zero-div}
+use native.Mathlib.Nat.{lt-of-lt-of-le, div-one, pow-suc}
+use native.Mathlib.Numerals.{add-one}
 use native.Mathlib.Omega.{arith}
-use lib.Dec.{eqb, ltb}
+use lib.Dec.{eqb}
 use lib.ListN.{length, getD, List·getD-eq-default}
+use lib.Pow.{pow-mono, shr-shr}
 use lib.Seq.{set-getD, getD-set-same}
-use borrow.Author.Tests.{lt-ltb, le-ltb}
+use borrow.Author.Tests.{lt-ltb, le-ltb, eq-eqb, ne-eqb}
 use Rattle.stores.specs.Cells.{isSet, unset}
-use Rattle.theory.specs.Store.{put}
-use Rattle.theory.proofs.StoreLaws.{put-same, put-other}
 use Rattle.emission.specs.Known.{known}
 
--- the cells below one are known as they are
+-- a bit for each cell below one, the last at the end
 pub record KnownBelow (cells : List ℕ) (mask cell : ℕ) : Type 0 where
-  pub at : (v : ℕ) → known mask v ≡ (ltb v cell && isSet (getD cells v unset))
+  pub few : mask < 2 ^ cell
+  pub at : (v : ℕ) → v < cell → eqb (mask / 2 ^ (cell - 1 - v) % 2) 1 ≡ isSet (getD cells v unset)
 
 pub known-none : {cells : List ℕ} → KnownBelow cells 0 0
-unfolding known
-known-none = record { at = λ v. rw (zero-div, le-ltb v 0 (omega arith)) (either (ltb v 64)) }
-  where
-    either : (b : Bool) → cond b false false ≡ false
-    either true = refl
-    either false = refl
+known-none = record { few = omega arith; at = λ v below. absurd (omega arith) }
+
+-- a bit behind a number
+module _ (mask : ℕ) where
+  half : (b : Bool) → (2 * mask + cond b 1 0) / 2 ^ 1 ≡ mask
+  half true = omega arith
+  half false = omega arith
+
+  last : (b : Bool) → eqb ((2 * mask + cond b 1 0) % 2) 1 ≡ b
+  last true = eq-eqb ((2 * mask + 1) % 2) 1 (omega arith)
+  last false = ne-eqb ((2 * mask + 0) % 2) 1 λ e. omega arith
+
+  bound : (cell : ℕ) (b : Bool) → mask < 2 ^ cell → 2 * mask + cond b 1 0 < 2 ^ suc cell
+  bound cell true few = rw (pow-suc 2 cell) (omega arith)
+  bound cell false few = rw (pow-suc 2 cell) (omega arith)
 
 module _ {cells : List ℕ} {mask cell : ℕ} (before : KnownBelow cells mask cell) where
-  -- the cell itself is not known yet
-  pub unknown : known mask cell ≡ false
-  unknown = before .at cell ∙ rw (le-ltb cell cell (omega arith))
-
-  later : (v : ℕ) → (cell ≡ v → ⊥) → ltb v cell ≡ ltb v (cell + 1)
-  later v other = by (decLt v cell)
-    where
-      by : Dec (v < cell) → ltb v cell ≡ ltb v (cell + 1)
-      by (yes l) = lt-ltb v cell l ∙ sym (lt-ltb v (cell + 1) (omega arith))
-      by (no g) = le-ltb v cell (omega (arith, g)) ∙ sym (le-ltb v (cell + 1) (omega (arith, g, other)))
+  -- there is room for one more
+  pub known-room : cell < 64 → mask < 2 ^ 63
+  known-room low = lt-of-lt-of-le (before .few) (pow-mono {i = cell} {j = 63} (omega arith))
 
   -- what is read in place, whatever stands for a cell that is not there
   in-place : cell < length cells → getD cells cell 0 ≡ getD cells cell unset
   in-place inside = sym (rw (set-getD cells cell 0) at (getD-set-same cells cell (getD cells cell 0) unset inside))
 
-  pub known-more : {more : ℕ} → cell < length cells → known more ≡ cond (isSet (getD cells cell 0)) (put (known mask) cell true) (known mask) → KnownBelow cells more (cell + 1)
-  known-more {more} inside read = record { at = λ v. by v (ℕ-discrete cell v) }
+  pub known-more : {more : ℕ} → cell < length cells → more ≡ 2 * mask + cond (isSet (getD cells cell 0)) 1 0 → KnownBelow cells more (cell + 1)
+  known-more {more} inside read = rw add-one (record { few = rw e (bound mask cell (isSet (getD cells cell unset)) (before .few)); at = λ v below. by v below (ℕ-discrete cell v) })
     where
-      e : known more ≡ cond (isSet (getD cells cell unset)) (put (known mask) cell true) (known mask)
+      e : more ≡ 2 * mask + cond (isSet (getD cells cell unset)) 1 0
       e = rw (← in-place inside) read
 
-      here : (b : Bool) → cond b (put (known mask) cell true) (known mask) cell ≡ b
-      here true = put-same (known mask) cell true
-      here false = unknown
+      by : (v : ℕ) → v < suc cell → Dec (cell ≡ v) → eqb (more / 2 ^ (suc cell - 1 - v) % 2) 1 ≡ isSet (getD cells v unset)
+      by v below (yes same) =
+          let none : suc cell - 1 - v ≡ 0 = omega arith in
+          rw (none, ← same, e, div-one) (last mask (isSet (getD cells cell unset)))
+      by v below (no other) =
+          let up : suc cell - 1 - v ≡ 1 + (cell - 1 - v) = omega (arith, other) in
+          rw (up, ← shr-shr more 1 (cell - 1 - v), e, half mask (isSet (getD cells cell unset))) (before .at v (omega (arith, other)))
 
-      elsewhere : (b : Bool) (v : ℕ) → (cell ≡ v → ⊥) → cond b (put (known mask) cell true) (known mask) v ≡ known mask v
-      elsewhere true v other = put-other (known mask) cell v true other
-      elsewhere false v other = refl
-
-      by : (v : ℕ) → Dec (cell ≡ v) → known more v ≡ (ltb v (cell + 1) && isSet (getD cells v unset))
-      by v (yes same) = rw (e, ← same, lt-ltb cell (cell + 1) (omega arith)) (here (isSet (getD cells cell unset)))
-      by v (no other) = rw (e, elsewhere (isSet (getD cells cell unset)) v other, ← later v other) (before .at v)
-
-  pub known-all : length cells ≤ cell → known mask ≡ (λ v. isSet (getD cells v unset))
-  known-all past = fun-ext (λ v. before .at v ∙ by v (decLt v cell))
+  pub known-all : cell ≡ 64 → length cells ≡ 64 → known mask ≡ (λ v. isSet (getD cells v unset))
+  unfolding known
+  known-all end long = fun-ext (λ v. by v (decLt v 64))
     where
-      by : (v : ℕ) → Dec (v < cell) → (ltb v cell && isSet (getD cells v unset)) ≡ isSet (getD cells v unset)
-      by v (yes l) = rw (lt-ltb v cell l)
-      by v (no g) = rw (le-ltb v cell (omega (arith, g)), List·getD-eq-default cells unset {n = v} (omega (arith, g)))
+      by : (v : ℕ) → Dec (v < 64) → known mask v ≡ isSet (getD cells v unset)
+      by v (yes l) = let all : KnownBelow cells mask 64 = rw end at before in rw (lt-ltb v 64 l) (all .at v l)
+      by v (no g) = rw (le-ltb v 64 (omega (arith, g)), List·getD-eq-default cells unset {n = v} (omega (arith, g)))

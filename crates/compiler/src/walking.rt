@@ -1,12 +1,11 @@
 // The walk over a pattern that passed the checks.
 ghost use mathlib.Core.Path.{_≡_};
-ghost use mathlib.Core.Bool.{true, false, cond};
+ghost use mathlib.Core.Bool.{cond};
 ghost use mathlib.Core.Option.{none};
 ghost use mathlib.Core.List.{_++_};
-ghost use Prim.Native.Nat.{_-_, _<_, _≤_};
+ghost use Prim.Native.Nat.{_+_, _-_, _*_, _^_, _<_, _≤_};
 ghost use lib.ListN.{length, getD, replicate};
 ghost use Rattle.stores.specs.Cells.{isSet, unset};
-ghost use Rattle.theory.specs.Store.{put};
 ghost use Rattle.theory.specs.Compile.{first, refusals};
 ghost use Rattle.emission.specs.Known.{known};
 ghost use Rattle.emission.specs.Meets.{writtenIn};
@@ -16,17 +15,16 @@ use answers::Compiled;
 use emission::Code;
 use emission::Emission;
 use emission::Rows;
-use emission::with_known;
 
-// The set of cells with one more, if that is set.
-fn with_cell(mask: u64, cell: u8, row: u16) -> u64
-    requires { ⌜ (cell < 64) × (known mask cell ≡ false) ⌝ }
-    ensures { λ r. ⌜ known r ≡ cond (isSet row) (put (known mask) cell true) (known mask) ⌝ }
+// The set of the cells so far with one more cell behind them.
+fn with_cell(mask: u64, row: u16) -> u64
+    requires { ⌜ mask < 2 ^ 63 ⌝ }
+    ensures { λ r. ⌜ r ≡ 2 * mask + cond (isSet row) 1 0 ⌝ }
 {
     if stores::cells::is_set(row as u32) {
-        with_known(mask, cell)
+        2 * mask + 1
     } else {
-        mask
+        2 * mask
     }
 }
 
@@ -37,7 +35,7 @@ fn set_cells(cells: &[u16]) -> u64
 {
     let mut mask: u64 = 0;
     for cell in 0..cells.len() {
-        mask = with_cell(mask, cell as u8, cells[cell]);
+        mask = with_cell(mask, cells[cell]);
     }
     mask
 }
