@@ -125,8 +125,6 @@ fn create_tuple(
     let t = patterns::variable(word);
     let n = patterns::count(word);
     let first = take(emission, n);
-    // made before the parts, so that a level keeps one word of it
-    let create = Instruction::CreateTuple(Object(t), scratch(first), n);
     create_parts(
         rows,
         kinds,
@@ -136,7 +134,13 @@ fn create_tuple(
         parts_of(patterns::slots(word), first),
         n,
     );
-    emit(code, emission, row, create);
+    let cell = scratch(first);
+    emit(
+        code,
+        emission,
+        row,
+        Instruction::CreateTuple(Object(t), cell, n),
+    );
     emit(code, emission, row, Instruction::Encode(Object(t)));
 }
 

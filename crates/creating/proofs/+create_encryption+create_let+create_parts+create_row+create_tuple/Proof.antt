@@ -317,7 +317,7 @@ module _ (t : ℕ) where
 
   abbrev create-tuple-callees : create-tuple-lts.Claims
   create-tuple-callees =
-      (variable-reads.Asked, variable-reads.Learnt, count-reads.Asked, count-reads.Learnt, take-reads.Asked, take-reads.Learnt, scratch-reads.Asked, scratch-reads.Learnt, slots-reads.Asked, slots-reads.Learnt, parts-of-reads.Asked, parts-of-reads.Learnt, create-parts-below t, create-parts.Post, emit-reads.Asked, emit-reads.Learnt)
+      (variable-reads.Asked, variable-reads.Learnt, count-reads.Asked, count-reads.Learnt, take-reads.Asked, take-reads.Learnt, slots-reads.Asked, slots-reads.Learnt, parts-of-reads.Asked, parts-of-reads.Learnt, create-parts-below t, create-parts.Post, scratch-reads.Asked, scratch-reads.Learnt, emit-reads.Asked, emit-reads.Learnt)
 
   create-tuple-variable-requires : create-tuple-lts.Need-variable-requires create-tuple-callees (create-tuple-at t) create-tuple.Post
   create-tuple-variable-requires c κs = search needs
@@ -330,38 +330,38 @@ module _ (t : ℕ) where
       let room = leaf-room _ _ _ _ (c .before .before .before .before .pre .1 .0) in
       (room .long, omega (arith, room .free))
 
-  create-tuple-scratch-requires : create-tuple-lts.Need-scratch-requires create-tuple-callees (create-tuple-at t) create-tuple.Post
-  create-tuple-scratch-requires c κs = omega (arith, c .take .ensures .0, leaf-room _ _ _ _ (c .before .before .before .before .before .pre .1 .0) .free)
-
   create-tuple-slots-requires : create-tuple-lts.Need-slots-requires create-tuple-callees (create-tuple-at t) create-tuple.Post
   create-tuple-slots-requires c κs = search needs
 
   create-tuple-parts-of-requires : create-tuple-lts.Need-parts-of-requires create-tuple-callees (create-tuple-at t) create-tuple.Post
-  create-tuple-parts-of-requires c κs = omega (arith, c .before .before .before .before .take .ensures .0, leaf-room _ _ _ _ (c .before .before .before .before .before .before .before .before .before .pre .1 .0) .free)
+  create-tuple-parts-of-requires c κs = omega (arith, c .before .before .before .take .ensures .0, leaf-room _ _ _ _ (c .before .before .before .before .before .before .before .before .pre .1 .0) .free)
 
   create-tuple-create-parts-requires : create-tuple-lts.Need-create-parts-requires create-tuple-callees (create-tuple-at t) create-tuple.Post
   create-tuple-create-parts-requires c κs =
-      let asked = c .before .before .before .before .before .before .before .before .before .before .pre .1 in
-      let taken = c .before .before .before .before .before .take .ensures in
-      (omega (arith, c .before .before .before .before .before .before .before .before .before .before .pre .0), tuple-asks _ _ _ (asked .0) (asked .1) _ (c .before .before .before .before .before .before .before .count .ensures) _ (c .before .slots .ensures) _ _ (c .parts-of .ensures) (taken .0) (taken .1))
+      let asked = c .before .before .before .before .before .before .before .before .before .pre .1 in
+      let taken = c .before .before .before .before .take .ensures in
+      (omega (arith, c .before .before .before .before .before .before .before .before .before .pre .0), tuple-asks _ _ _ (asked .0) (asked .1) _ (c .before .before .before .before .before .before .count .ensures) _ (c .before .slots .ensures) _ _ (c .parts-of .ensures) (taken .0) (taken .1))
+
+  create-tuple-scratch-requires : create-tuple-lts.Need-scratch-requires create-tuple-callees (create-tuple-at t) create-tuple.Post
+  create-tuple-scratch-requires c κs = omega (arith, c .before .before .before .before .before .take .ensures .0, leaf-room _ _ _ _ (c .before .before .before .before .before .before .before .before .before .before .pre .1 .0) .free)
 
   create-tuple-emit-requires : create-tuple-lts.Need-emit-requires create-tuple-callees (create-tuple-at t) create-tuple.Post
   create-tuple-emit-requires c κs =
       let asked = c .before .before .before .before .before .before .before .before .before .before .before .before .before .pre .1 in
       let taken = c .before .before .before .before .before .before .before .before .take .ensures in
-      (tuple-create _ _ _ (asked .0) (asked .1) _ (c .before .before .before .before .before .before .before .before .before .before .count .ensures) _ (c .before .before .before .before .slots .ensures) _ _ (c .before .before .before .parts-of .ensures) (taken .0) (taken .1) _ (c .before .before .create-parts .ensures), variable-low _ _ (c .before .before .before .before .before .before .before .before .before .before .before .variable .ensures))
+      (tuple-create _ _ _ (asked .0) (asked .1) _ (c .before .before .before .before .before .before .before .before .before .before .count .ensures) _ (c .before .before .before .before .before .slots .ensures) _ _ (c .before .before .before .before .parts-of .ensures) (taken .0) (taken .1) _ (c .before .before .before .create-parts .ensures), variable-low _ _ (c .before .before .before .before .before .before .before .before .before .before .before .variable .ensures))
 
   create-tuple-emit-requires-2 : create-tuple-lts.Need-emit-requires-2 create-tuple-callees (create-tuple-at t) create-tuple.Post
   create-tuple-emit-requires-2 c κs =
       let asked = c .before .before .before .before .before .before .before .before .before .before .before .before .before .before .before .before .pre .1 in
       let taken = c .before .before .before .before .before .before .before .before .before .before .before .take .ensures in
-      (tuple-encode _ _ _ (asked .0) (asked .1) _ (c .before .before .before .before .before .before .before .before .before .before .before .before .before .count .ensures) _ (c .before .before .before .before .before .before .before .slots .ensures) _ _ (c .before .before .before .before .before .before .parts-of .ensures) (taken .0) (taken .1) _ (c .before .before .before .before .before .create-parts .ensures) (c .before .before .emit .ensures), tt)
+      (tuple-encode _ _ _ (asked .0) (asked .1) _ (c .before .before .before .before .before .before .before .before .before .before .before .before .before .count .ensures) _ (c .before .before .before .before .before .before .before .before .slots .ensures) _ _ (c .before .before .before .before .before .before .before .parts-of .ensures) (taken .0) (taken .1) _ (c .before .before .before .before .before .before .create-parts .ensures) (c .before .before .emit .ensures), tt)
 
   create-tuple-returns : create-tuple-lts.Need-returns create-tuple-callees (create-tuple-at t) create-tuple.Post
   create-tuple-returns c =
       let asked = c .before .before .before .before .before .before .before .before .before .before .before .before .before .before .before .before .before .pre .1 in
       let taken = c .before .before .before .before .before .before .before .before .before .before .before .before .take .ensures in
-      tuple-done _ _ _ (asked .0) (asked .1) _ (c .before .before .before .before .before .before .before .before .before .before .before .before .before .before .count .ensures) _ (c .before .before .before .before .before .before .before .before .slots .ensures) _ _ (c .before .before .before .before .before .before .before .parts-of .ensures) (taken .0) (taken .1) _ _ _ (c .before .before .before .before .before .before .before .before .before .before .before .before .before .before .before .variable .ensures) (c .before .before .before .before .before .before .before .before .before .before .before .scratch .ensures) (c .before .before .before .before .before .before .create-parts .ensures) (c .before .before .before .emit .ensures) (c .emit2 .ensures)
+      tuple-done _ _ _ (asked .0) (asked .1) _ (c .before .before .before .before .before .before .before .before .before .before .before .before .before .before .count .ensures) _ (c .before .before .before .before .before .before .before .before .before .slots .ensures) _ _ (c .before .before .before .before .before .before .before .before .parts-of .ensures) (taken .0) (taken .1) _ _ _ (c .before .before .before .before .before .before .before .before .before .before .before .before .before .before .before .variable .ensures) (c .before .before .before .before .before .before .scratch .ensures) (c .before .before .before .before .before .before .before .create-parts .ensures) (c .before .before .before .emit .ensures) (c .emit2 .ensures)
 
 pub +create-encryption+create-let+create-parts+create-row+create-tuple-spec :
     {M : Type 1} → statement M
@@ -431,10 +431,10 @@ pub +create-encryption+create-let+create-parts+create-row+create-tuple-spec :
     (create-tuple-variable-requires t)
     (create-tuple-count-requires t)
     (create-tuple-take-requires t)
-    (create-tuple-scratch-requires t)
     (create-tuple-slots-requires t)
     (create-tuple-parts-of-requires t)
     (create-tuple-create-parts-requires t)
+    (create-tuple-scratch-requires t)
     (create-tuple-emit-requires t)
     (create-tuple-emit-requires-2 t)
     (create-tuple-returns t)
