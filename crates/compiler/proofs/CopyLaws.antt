@@ -36,7 +36,11 @@ module _ {from before to : List ℕ} {count : ℕ} (c : Copied from before to co
       c .same ∙ rw (all, take-all (length from) from (omega arith))
 
 -- what is left of equal elements
-pub drop-replicate : (n count a : ℕ) → drop n (replicate count a) ≡ replicate (count - n) a
+drop-replicate : (n count a : ℕ) → drop n (replicate count a) ≡ replicate (count - n) a
 drop-replicate zero count a = rw sub-zero
 drop-replicate (suc n) zero a = rw zero-sub
 drop-replicate (suc n) (suc count) a = let e : suc count - suc n ≡ count - n = omega arith in rw e (drop-replicate n count a)
+
+-- a list copied over equal elements
+pub laid : (from : List ℕ) (count a : ℕ) {before to : List ℕ} → before ≡ replicate count a → to ≡ from ++ drop (length from) before → to ≡ from ++ replicate (count - length from) a
+laid from count a h g = g ∙ rw (h, drop-replicate (length from) count a)

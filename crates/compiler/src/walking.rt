@@ -3,8 +3,8 @@ ghost use mathlib.Core.Path.{_≡_};
 ghost use mathlib.Core.Bool.{cond};
 ghost use mathlib.Core.Option.{none};
 ghost use mathlib.Core.List.{_++_};
-ghost use Prim.Native.Nat.{_+_, _-_, _*_, _^_, _<_, _≤_};
-ghost use lib.ListN.{length, getD, replicate};
+ghost use Prim.Native.Nat.{_+_, _*_, _^_, _<_, _≤_};
+ghost use lib.ListN.{length, getD, drop, replicate};
 ghost use Rattle.stores.specs.Cells.{isSet, unset};
 ghost use Rattle.theory.specs.Compile.{first, refusals};
 ghost use Rattle.emission.specs.Known.{known};
@@ -40,16 +40,22 @@ fn set_cells(cells: &[u16]) -> u64
     mask
 }
 
-// The pattern's rows, and zero rows behind them.
-fn rows_of(pattern: &[u64]) -> Rows
-    requires { ⌜ length (now pattern) ≤ 96 ⌝ }
-    ensures { λ r. ⌜ r ≡ now (pattern .entry) ++ replicate (96 - length (now (pattern .entry))) 0 ⌝ }
+// Zero rows, of which the pattern's take the front.
+fn no_rows() -> Rows
+    ensures { λ r. ⌜ r ≡ replicate 96 0 ⌝ }
 {
-    let mut rows = [0u64; 96];
+    [0u64; 96]
+}
+
+// The pattern's rows in front, where they are walked: returned, they would stand on the stack twice.
+fn lay_rows(pattern: &[u64], rows: &mut Rows)
+    requires { ⌜ length (now pattern) ≤ 96 ⌝ }
+    requires { ⌜ length (now rows) ≡ 96 ⌝ }
+    ensures { λ _. ⌜ now (rows .exit) ≡ now (pattern .entry) ++ drop (length (now (pattern .entry))) (now (rows .entry)) ⌝ }
+{
     for row in 0..pattern.len() {
         rows[row] = pattern[row];
     }
-    rows
 }
 
 // What emission answers.
@@ -99,7 +105,8 @@ pub fn walk(
     requires { ⌜ length (now buffer) ≡ 768 ⌝ }
     ensures { λ r. ⌜ Compiles create (now (pattern .entry)) (now (kinds .entry)) (now (objects .entry)) (now (named .entry)) r (now (buffer .exit)) ⌝ }
 {
-    let rows = rows_of(pattern);
+    let mut rows = no_rows();
+    lay_rows(pattern, &mut rows);
     let root = (pattern.len() - 1) as u8;
     let mut emission: Emission = [set_cells(objects), set_cells(named), 0, 0, 0];
     emit_row(create, &rows, kinds, buffer, &mut emission, root);

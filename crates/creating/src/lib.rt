@@ -8,6 +8,7 @@ use code::Raw;
 use emission::Code;
 use emission::Emission;
 use emission::Part;
+use emission::Rows;
 use emission::emit;
 use emission::parts_of;
 use emission::scratch;
@@ -20,7 +21,7 @@ ghost use Rattle.creating.specs.Creates.{Creates, CreatesParts};
 
 // s : S(key, r)
 fn create_signature(
-    rows: &[u64],
+    rows: &Rows,
     kinds: &[u8],
     code: &mut Code,
     emission: &mut Emission,
@@ -42,7 +43,7 @@ fn create_signature(
 
 // The pattern of a row with no children.
 fn create_leaf(
-    rows: &[u64],
+    rows: &Rows,
     kinds: &[u8],
     code: &mut Code,
     emission: &mut Emission,
@@ -72,7 +73,7 @@ fn create_leaf(
 }
 
 // The pattern of a row.
-pub fn create_row(rows: &[u64], kinds: &[u8], code: &mut Code, emission: &mut Emission, row: u8)
+pub fn create_row(rows: &Rows, kinds: &[u8], code: &mut Code, emission: &mut Emission, row: u8)
     requires { ⌜ Row (now rows) row (now emission) ⌝ }
     ensures { λ _. ⌜ Creates (now (rows .entry)) (now (kinds .entry)) row (now (emission .entry)) (now (code .entry)) (now (emission .exit)) (now (code .exit)) ⌝ }
 {
@@ -88,7 +89,7 @@ pub fn create_row(rows: &[u64], kinds: &[u8], code: &mut Code, emission: &mut Em
 
 // e : E(key, p)
 fn create_encryption(
-    rows: &[u64],
+    rows: &Rows,
     kinds: &[u8],
     code: &mut Code,
     emission: &mut Emission,
@@ -110,7 +111,7 @@ fn create_encryption(
 
 // t : [p1 .. pn]
 fn create_tuple(
-    rows: &[u64],
+    rows: &Rows,
     kinds: &[u8],
     code: &mut Code,
     emission: &mut Emission,
@@ -145,7 +146,7 @@ fn create_tuple(
 
 // The parts of a tuple, from left to right, each into its scratch cell.
 fn create_parts(
-    rows: &[u64],
+    rows: &Rows,
     kinds: &[u8],
     code: &mut Code,
     emission: &mut Emission,
@@ -172,7 +173,7 @@ fn create_parts(
 
 // let r = p1 in p2
 fn create_let(
-    rows: &[u64],
+    rows: &Rows,
     kinds: &[u8],
     code: &mut Code,
     emission: &mut Emission,

@@ -11,7 +11,7 @@ match-row-requires : tie.Need-match-row-requires
 match-row-requires c κs = search needs
 
 returns : tie.Need-returns
-returns c = creates-emits _ _ (c .before .before .before .before .if1 .taken) (c .create-row .ensures)
+returns c = creates-emits _ _ (c .before .before .before .if1 .taken) (c .create-row .ensures)
 
 returns-2 : tie.Need-returns-2
 returns-2 c = let s = c .before .before .before .before .before in matches-emits (s .args .kinds .now) (patternIn (s .args .rows .now) (s .args .row)) (c .before .before .before .if1 .left) (c .match-row .ensures)

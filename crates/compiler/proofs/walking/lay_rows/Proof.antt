@@ -1,11 +1,10 @@
 -- Up to the row the pattern's rows are copied.
 use Prim.Native.Nat.{_-_}
 use native.Mathlib.Omega.{arith}
-use borrow.Author.Needs.{scaled-fits}
-use lib.ListN.{length}
-use Rattle.compiler.proofs.CopyLaws.{Copied, copied-none, copied-more, copied-all, drop-replicate}
-use Rattle.compiler.proofs.walking.rows_of.Statement.{statement}
-use Rattle.compiler.proofs.walking.rows_of.Tie as tie
+use borrow.Author.Needs.{needs, scaled-fits}
+use Rattle.compiler.proofs.CopyLaws.{Copied, copied-none, copied-more, copied-all}
+use Rattle.compiler.proofs.walking.lay_rows.Statement.{statement}
+use Rattle.compiler.proofs.walking.lay_rows.Tie as tie
 
 abbrev Inv-loop : tie.InvT-loop
 Inv-loop pattern rows₀ row₀ row-end rows row = Copied pattern rows₀ rows row
@@ -14,7 +13,7 @@ abbrev μ-loop : tie.MeasureT-loop
 μ-loop pattern rows₀ row₀ row-end rows row = row-end - row
 
 loop-holds : tie.Need-loop-holds Inv-loop μ-loop
-loop-holds c = copied-none (omega (arith, c .pre))
+loop-holds c = copied-none (omega (arith, c .pre .0, c .pre .1))
 
 mul-rows : tie.Need-mul-rows Inv-loop μ-loop
 mul-rows c = scaled-fits (c .before .loop .row) _ 8 (c .loop-test .taken) (c .before .before .good .0 .1)
@@ -23,10 +22,10 @@ shared-slice-read-rows : tie.Need-shared-slice-read-rows Inv-loop μ-loop
 shared-slice-read-rows c = c .before .loop-test .taken
 
 mul-rows-2 : tie.Need-mul-rows-2 Inv-loop μ-loop
-mul-rows-2 c = scaled-fits (c .before .before .loop .row) _ 8 (c .before .loop-test .taken) (c .before .before .before .good .0 .1)
+mul-rows-2 c = search needs
 
-array-write-rows : tie.Need-array-write-rows Inv-loop μ-loop
-array-write-rows c = omega (arith, c .before .before .loop .inv .most, c .before .before .loop .inv .long, c .before .loop-test .taken)
+element-write-rows : tie.Need-element-write-rows Inv-loop μ-loop
+element-write-rows c = omega (arith, c .before .loop-test .taken, c .before .before .before .pre .0)
 
 add-row : tie.Need-add-row Inv-loop μ-loop
 add-row c = omega arith
@@ -38,10 +37,10 @@ loop-again : tie.Need-loop-again Inv-loop μ-loop
 loop-again c = copied-more (c .before .before .loop .inv) (c .before .loop-test .taken)
 
 returns : tie.Need-returns Inv-loop μ-loop
-returns c = rw (← drop-replicate (length (c .before .before .args .pattern .now)) 96 0) (copied-all (c .before .loop .inv) (c .loop-test .left))
+returns c = copied-all (c .before .loop .inv) (c .loop-test .left)
 
-pub rows-of-spec : {M : Type 1} → statement M
-rows-of-spec =
+pub lay-rows-spec : {M : Type 1} → statement M
+lay-rows-spec =
     tie.close
     (tie.spec
     Inv-loop
@@ -50,7 +49,7 @@ rows-of-spec =
     mul-rows
     shared-slice-read-rows
     mul-rows-2
-    array-write-rows
+    element-write-rows
     add-row
     loop-less
     loop-again
