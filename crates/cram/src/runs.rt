@@ -65,7 +65,7 @@ fn over_cells(
 {
     let mut object_cells = arrays::cells(objects);
     let mut message_cells = arrays::message_cells(messages);
-    let ended = running::run(
+    let ended = running::attempt(
         kinds,
         &mut object_cells,
         &mut message_cells,
@@ -75,8 +75,11 @@ fn over_cells(
         counter,
         words,
     );
-    word::pack_pairs(&object_cells, objects);
-    word::pack_pairs(&message_cells, messages);
+    let answer = ended.answer;
+    if answer.number() == 0 {
+        word::pack_pairs(&object_cells, objects);
+        word::pack_pairs(&message_cells, messages);
+    }
     ended
 }
 

@@ -5,4 +5,5 @@ pub mod CellLaws
 pub mod WordLaws
 pub mod GoingLaws
 pub mod LookLaws
+pub mod AttemptLaws
 pub mod Coincide

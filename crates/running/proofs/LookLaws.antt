@@ -8,7 +8,7 @@ use mathlib.Core.List.{List, [], _∷_}
 use native.Mathlib.Omega.{arith}
 use lib.Dec.{T, eqb, leb, ltb}
 use lib.ListN.{length}
-use Rattle.word.proofs.TestLaws.{equals, at-most}
+use Rattle.word.proofs.TestLaws.{both, twice, equals, at-most}
 use Rattle.answers.specs.declared.Ran.{Ran}
 use Rattle.answers.specs.declared.Ran.the-variants.{Limit, BadTerm, BadStore, BadWord}
 use Rattle.code.specs.Words.{badWord}
@@ -54,27 +54,10 @@ pub record Lengths (x : Lent) (code : List ℕ) : Type 0 where
   pub few-rows : length (x .terms) ≤ 4096
   pub few-words : length code ≤ 768
 
-seven : (a b c d e f g : Bool) → T (a && b && c && d && e && f && g) → T b × T c × T e × T g
-seven true true true true true true true h = (tt, tt, tt, tt)
-seven false b c d e f g h = absurd h
-seven true false c d e f g h = absurd h
-seven true true false d e f g h = absurd h
-seven true true true false e f g h = absurd h
-seven true true true true false f g h = absurd h
-seven true true true true true false g h = absurd h
-seven true true true true true true false h = absurd h
-
 pub lengths : {x : Lent} {code : List ℕ} → T (lengthsFit x code) → Lengths x code
 lengths {x} {code} h =
-    let (objects, messages, rows, words) =
-    seven (eqb (length (x .kinds)) 64) (eqb (length (x .objects)) 64) (eqb (length (x .messages)) 256) (leb (length (x .certificates)) 32)
-    (leb (length (x .terms)) 4096) (leb (x .counter) 65536) (leb (length code) 768) h in
-    record {
-      objects-length = equals (length (x .objects)) 64 .0 objects;
-      messages-length = equals (length (x .messages)) 256 .0 messages;
-      few-rows = at-most (length (x .terms)) 4096 .0 rows;
-      few-words = at-most (length code) 768 .0 words;
-    }
+    let t = simp (both, equals, at-most) at h in
+    record { objects-length = t .0 .0 .0 .0 .0 .1; messages-length = t .0 .0 .0 .0 .1; few-rows = t .0 .0 .1; few-words = t .1 }
 
 module _ (x : Lent) (code : List ℕ) where
   abbrev finding : Finding
@@ -82,6 +65,12 @@ module _ (x : Lent) (code : List ℕ) where
 
   abbrev pub storesFit : Bool
   storesFit = valid (x .terms) (usedRows (x .terms)) (x .kinds) (x .objects) (x .messages) (x .certificates) (x .accumulator)
+
+  abbrev pub cellsWhole : Bool
+  cellsWhole = eqb (length (x .objects)) 64 && eqb (length (x .messages)) 256
+
+  pub whole-cells : cellsWhole ≡ true → (length (x .objects) ≡ 64) × (length (x .messages) ≡ 256)
+  whole-cells e = simp (both, equals) at (true-holds e)
 
   pub found-limit : lengthsFit x code ≡ false → Refused Limit ≡ finding
   unfolding first
@@ -111,6 +100,17 @@ module _ (x : Lent) (code : List ℕ) where
   unfolding run
   run-refused e = rw e
 
+  -- 1, by the lengths of the cells
+  pub run-limit : cellsWhole ≡ false → unchanged Limit x ≡ run x code
+  run-limit short = go (lengthsFit x code) refl
+    where
+      go : (b : Bool) → lengthsFit x code ≡ b → unchanged Limit x ≡ run x code
+      go true e =
+          let long = lengths {x = x} {code = code} (true-holds e) in
+          let whole : T cellsWhole = simp (both, equals) (long .objects-length, long .messages-length) in
+          absurd (rw short at whole)
+      go false e = run-refused (found-some (x .terms) _ (found-limit e))
+
   pub run-stepped : first (refusals x code) ≡ none → runBy x code none ≡ run x code
   unfolding run
   run-stepped e = rw e
@@ -129,15 +129,11 @@ module _ (x : Lent) (code : List ℕ) where
       let (stores, e) = first-none _ _ e in
       let (words, e) = first-none _ _ e in
       record {
-        long = lengths (holds (lengthsFit x code) (when-none (not (lengthsFit x code)) Limit limits));
+        long = lengths (twice (lengthsFit x code) .0 (when-none (not (lengthsFit x code)) Limit limits));
         rows = map-none BadTerm (badTerm (x .terms) (x .counter)) rows;
-        stores = holds storesFit (when-none (not storesFit) BadStore stores);
+        stores = twice storesFit .0 (when-none (not storesFit) BadStore stores);
         words = map-none BadWord (badWord (kindIn (x .kinds)) code) words;
       }
-    where
-      holds : (b : Bool) → T (not (not b)) → T b
-      holds true h = tt
-      holds false h = h
 
 module _ {x : Lent} {code : List ℕ} (p : Passed x code) where
   -- unset, or a used row

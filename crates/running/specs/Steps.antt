@@ -1,9 +1,12 @@
 -- What run's steps start from and leave, and rows that are unused again.
 use Prim.Native.Nat.{ℕ, _<_, _≤_}
 use mathlib.Core.Path.{_≡_}
+use mathlib.Core.Bool.{cond}
 use mathlib.Core.Option.{Option, none, some}
 use mathlib.Core.List.{List}
+use lib.Dec.{eqb}
 use lib.ListN.{length, getD}
+use Rattle.answers.specs.Numbers.{ranNumber}
 use Rattle.answers.specs.declared.Ran.{Ran}
 use Rattle.code.specs.Instruction.{instructionOf}
 use Rattle.code.specs.Words.{badWord}
@@ -46,6 +49,10 @@ lent g kinds objects messages certificates rows = record {
 abbrev pub leaves : Ran → Registers → List ℕ → List ℕ → List ℕ → RunOutcome
 leaves answer g objects messages rows =
     record { answer = answer; objects = objects; messages = messages; accumulator = g .accumulator .0; terms = rows; counter = g .counter }
+
+-- cells after an answer, from those before and those that the steps left: a run that is not done keeps those before
+abbrev pub cellsOf : Ran → List ℕ → List ℕ → List ℕ
+cellsOf answer before after = cond (eqb (ranNumber answer) 0) after before
 
 -- what 1, 2, 3 and 9 leave true, as far as the steps need it
 pub record Ready (x : Lent) (used : ℕ) (code : List ℕ) : Type 0 where

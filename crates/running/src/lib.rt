@@ -1,6 +1,7 @@
 // Run: its checks in their order, then a step for each word on copies of the cells.
 ghost use mathlib.Core.Path.{_≡_};
 ghost use Rattle.theory.specs.Run.{run};
+ghost use Rattle.running.specs.Steps.{cellsOf};
 use answers::Ran;
 use cells::copy;
 use cells::message_cells;
@@ -26,7 +27,8 @@ pub struct Ended {
     pub counter: u32,
 }
 
-pub fn run(
+// Run over cells that may be lost where it is not done.
+pub fn attempt(
     kinds: &[u8],
     objects: &mut [u16],
     messages: &mut [u16],
@@ -36,7 +38,7 @@ pub fn run(
     counter: u32,
     code: &[u32],
 ) -> Ended
-    ensures { λ r. ⌜ record { answer = r .answer; objects = now (objects .exit); messages = now (messages .exit); accumulator = r .accumulator; terms = now (terms .exit); counter = r .counter }
+    ensures { λ r. ⌜ record { answer = r .answer; objects = cellsOf (r .answer) (now (objects .entry)) (now (objects .exit)); messages = cellsOf (r .answer) (now (messages .entry)) (now (messages .exit)); accumulator = r .accumulator; terms = now (terms .exit); counter = r .counter }
         ≡ run (record { kinds = now (kinds .entry); objects = now (objects .entry); messages = now (messages .entry); certificates = now (certificates .entry); accumulator = accumulator; terms = now (terms .entry); counter = counter }) (now (code .entry)) ⌝ }
 {
     let found = look(
@@ -62,19 +64,7 @@ pub fn run(
                 used: used,
                 counter: counter,
             };
-            let left = steps(
-                start,
-                kinds,
-                object_cells(objects),
-                message_cells(messages),
-                certificates,
-                terms,
-                code,
-            );
-            let after_objects = left.objects;
-            let after_messages = left.messages;
-            copy(&after_objects, objects);
-            copy(&after_messages, messages);
+            let left = steps(start, kinds, objects, messages, certificates, terms, code);
             let answer = left.answer;
             let registers = left.registers;
             let row = registers.accumulator;
@@ -85,4 +75,45 @@ pub fn run(
             }
         }
     }
+}
+
+pub fn run(
+    kinds: &[u8],
+    objects: &mut [u16],
+    messages: &mut [u16],
+    certificates: &[u64],
+    accumulator: u32,
+    terms: &mut [u64],
+    counter: u32,
+    code: &[u32],
+) -> Ended
+    ensures { λ r. ⌜ record { answer = r .answer; objects = now (objects .exit); messages = now (messages .exit); accumulator = r .accumulator; terms = now (terms .exit); counter = r .counter }
+        ≡ run (record { kinds = now (kinds .entry); objects = now (objects .entry); messages = now (messages .entry); certificates = now (certificates .entry); accumulator = accumulator; terms = now (terms .entry); counter = counter }) (now (code .entry)) ⌝ }
+{
+    let whole = (objects.len() == 64) & (messages.len() == 256);
+    if !whole {
+        return Ended {
+            answer: Ran::Limit,
+            accumulator: accumulator,
+            counter: counter,
+        };
+    }
+    let mut new_objects = object_cells(objects);
+    let mut new_messages = message_cells(messages);
+    let ended = attempt(
+        kinds,
+        &mut new_objects,
+        &mut new_messages,
+        certificates,
+        accumulator,
+        terms,
+        counter,
+        code,
+    );
+    let answer = ended.answer;
+    if answer.number() == 0 {
+        copy(&new_objects, objects);
+        copy(&new_messages, messages);
+    }
+    ended
 }

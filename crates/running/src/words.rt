@@ -8,18 +8,16 @@ ghost use Rattle.code.specs.Words.{goodWord};
 ghost use Rattle.theory.specs.Compile.{kindIn};
 ghost use Rattle.theory.specs.Run.{runBy};
 ghost use Rattle.machine.specs.Machine.{slices, Within};
-ghost use Rattle.running.specs.Steps.{Cleared, placed, lent, leaves, Ready, DoesWord};
+ghost use Rattle.running.specs.Steps.{Cleared, placed, lent, leaves, cellsOf, Ready, DoesWord};
 use answers::Ran;
 use code::Read;
 use machine::Registers;
 use machine::Step;
 
-// An answer, with the registers and the cells after it.
+// An answer, with the registers after it.
 pub struct Stepped {
     pub answer: Ran,
     pub registers: Registers,
-    pub objects: [u16; 64],
-    pub messages: [u16; 256],
 }
 
 // Rows from one on to another are unused again.
@@ -81,37 +79,28 @@ fn one(
     )
 }
 
+// The cells are changed where they stand, and are not those on entry after an answer other than done.
 pub fn steps(
     start: Registers,
     kinds: &[u8],
-    objects: [u16; 64],
-    messages: [u16; 256],
+    objects: &mut [u16],
+    messages: &mut [u16],
     certificates: &[u64],
     rows: &mut [u64],
     code: &[u32],
 ) -> Stepped
-    requires { ⌜ Ready (lent start (now kinds) objects messages (now certificates) (now rows)) (start .used) (now code) ⌝ }
-    ensures { λ r. ⌜ leaves (r .answer) (r .registers) (r .objects) (r .messages) (now (rows .exit))
-        ≡ runBy (lent start (now (kinds .entry)) objects messages (now (certificates .entry)) (now (rows .entry))) (now (code .entry)) none ⌝ }
+    requires { ⌜ (length (now objects) ≡ 64) × (length (now messages) ≡ 256) ⌝ }
+    requires { ⌜ Ready (lent start (now kinds) (now objects) (now messages) (now certificates) (now rows)) (start .used) (now code) ⌝ }
+    ensures { λ r. ⌜ leaves (r .answer) (r .registers) (cellsOf (r .answer) (now (objects .entry)) (now (objects .exit))) (cellsOf (r .answer) (now (messages .entry)) (now (messages .exit))) (now (rows .exit))
+        ≡ runBy (lent start (now (kinds .entry)) (now (objects .entry)) (now (messages .entry)) (now (certificates .entry)) (now (rows .entry))) (now (code .entry)) none ⌝ }
 {
     let from = start.used as usize;
-    let mut new_objects = objects;
-    let mut new_messages = messages;
     let mut g = start;
     let mut i: usize = 0;
     while i < code.len() {
         let place = i as u32;
         let word = code[i];
-        let step = one(
-            g,
-            place,
-            word,
-            kinds,
-            &mut new_objects,
-            &mut new_messages,
-            certificates,
-            rows,
-        );
+        let step = one(g, place, word, kinds, objects, messages, certificates, rows);
         match step {
             Step::Next(next) => {
                 g = next;
@@ -119,33 +108,24 @@ pub fn steps(
             Step::Stuck(reason) => {
                 let to = g.used as usize;
                 clear(rows, from, to);
-                let answer = Ran::Stuck(place, reason);
                 return Stepped {
-                    answer: answer,
+                    answer: Ran::Stuck(place, reason),
                     registers: start,
-                    objects: objects,
-                    messages: messages,
                 };
             }
             Step::NoRoom => {
                 let upto = g.used as usize;
                 clear(rows, from, upto);
-                let answer = Ran::NoRoom(place);
                 return Stepped {
-                    answer: answer,
+                    answer: Ran::NoRoom(place),
                     registers: start,
-                    objects: objects,
-                    messages: messages,
                 };
             }
         }
         i += 1;
     }
-    let answer = Ran::Done(code.len() as u32);
     Stepped {
-        answer: answer,
+        answer: Ran::Done(code.len() as u32),
         registers: g,
-        objects: new_objects,
-        messages: new_messages,
     }
 }

@@ -1,8 +1,8 @@
 -- How loops go through variables and certificates: what is left gives the answer.
 use Prim.Native.Nat.{ℕ, suc, _+_, _<_, _≤_, min}
-use mathlib.Core.Path.{_≡_, refl, _∙_}
+use mathlib.Core.Path.{_≡_, refl, sym, _∙_}
 use mathlib.Core.Logic.{⊎-elim}
-use mathlib.Core.Bool.{Bool, true, false, not, _&&_}
+use mathlib.Core.Bool.{Bool, true, false, not, _&&_, and-assoc, and-true}
 use mathlib.Core.Option.{none, some}
 use mathlib.Core.List.{List, [], _∷_}
 use native.Mathlib.Numerals.{add-one}
@@ -30,6 +30,12 @@ module _ (test : ℕ → ℕ → Bool) where
   no-cells [] = refl
   no-cells (kind ∷ kinds) = refl
 
+  no-variables : (kinds cells : List ℕ) (v : ℕ) → min (length kinds) (length cells) ≤ v → eachVariable test (drop v kinds) (drop v cells) ≡ true
+  no-variables kinds cells v past =
+      ⊎-elim (λ (inside : v < length kinds). let c : length cells ≤ v = omega arith in rw (drop-of-length-le cells {i = v} c) (no-cells (drop v kinds)))
+      (λ (k : length kinds ≤ v). rw (drop-of-length-le kinds {i = v} k) (no-kinds (drop v cells)))
+      (lt-or-ge v (length kinds))
+
   module _ (kinds cells : List ℕ) (v : ℕ) (left : eachVariable test kinds cells ≡ eachVariable test (drop v kinds) (drop v cells)) where
     variable-here : v < length kinds → v < length cells → eachVariable test kinds cells ≡ (test (getD kinds v 0) (getD cells v 0) && eachVariable test (drop (suc v) kinds) (drop (suc v) cells))
     variable-here k c = left ∙ rw (drop-cons kinds v 0, drop-cons cells v 0, variables-more)
@@ -42,10 +48,18 @@ module _ (test : ℕ → ℕ → Bool) where
     variable-next k c h = variable-here k c ∙ rw (h, add-one)
 
     pub variables-end : min (length kinds) (length cells) ≤ v → eachVariable test kinds cells ≡ true
-    variables-end past =
-        ⊎-elim (λ (inside : v < length kinds). let c : length cells ≤ v = omega arith in left ∙ rw (drop-of-length-le cells {i = v} c) (no-cells (drop v kinds)))
-        (λ (k : length kinds ≤ v). left ∙ rw (drop-of-length-le kinds {i = v} k) (no-kinds (drop v cells)))
-        (lt-or-ge v (length kinds))
+    variables-end past = left ∙ no-variables kinds cells v past
+
+  -- a loop that does not stop: what is gathered so far and what is left give the answer
+  module _ (gathered : Bool) (kinds cells : List ℕ) (v : ℕ) (left : eachVariable test kinds cells ≡ (gathered && eachVariable test (drop v kinds) (drop v cells))) where
+    pub variables-gather : v < length kinds → v < length cells
+        → eachVariable test kinds cells ≡ ((gathered && test (getD kinds v 0) (getD cells v 0)) && eachVariable test (drop (v + 1) kinds) (drop (v + 1) cells))
+    variables-gather k c =
+        left ∙ rw (drop-cons kinds v 0, drop-cons cells v 0, variables-more, add-one)
+        (sym (and-assoc gathered (test (getD kinds v 0) (getD cells v 0)) (eachVariable test (drop (suc v) kinds) (drop (suc v) cells))))
+
+    pub variables-gathered : min (length kinds) (length cells) ≤ v → gathered ≡ eachVariable test kinds cells
+    variables-gathered past = sym (left ∙ rw (no-variables kinds cells v past) (and-true gathered))
 
 module _ (agent word : ℕ) (rest : List ℕ) where
   certified-same : agentOf word ≡ agent → certified (word ∷ rest) agent ≡ some (keyOf word)

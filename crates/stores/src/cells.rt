@@ -19,31 +19,26 @@ pub fn cell_fits(used: u16, cell: u32) -> bool
     !is_set(cell) | (cell < used as u32)
 }
 
+// All are looked at: a loop that does not stop early is done several cells at a time. So too below.
 pub fn cells_fit(used: u16, cells: &[u16]) -> bool
     ensures { λ r. ⌜ r ≡ each (cellFits used) (now (cells .entry)) ⌝ }
 {
-    let mut i = 0;
-    while i < cells.len() {
-        if !cell_fits(used, cells[i] as u32) {
-            return false;
-        }
-        i += 1;
+    let mut fit = true;
+    for i in 0..cells.len() {
+        fit = fit & cell_fits(used, cells[i] as u32);
     }
-    true
+    fit
 }
 
 // A kind is at most 10.
 pub fn kinds_fit(kinds: &[u8]) -> bool
     ensures { λ r. ⌜ r ≡ kindsFit (now (kinds .entry)) ⌝ }
 {
-    let mut i = 0;
-    while i < kinds.len() {
-        if 10 < kinds[i] {
-            return false;
-        }
-        i += 1;
+    let mut fit = true;
+    for i in 0..kinds.len() {
+        fit = fit & (kinds[i] <= 10);
     }
-    true
+    fit
 }
 
 // The number of variables with a kind and a cell.
@@ -68,14 +63,11 @@ fn all_declared(kinds: &[u8], objects: &[u16]) -> bool
     ensures { λ r. ⌜ r ≡ eachVariable undeclaredUnset (now (kinds .entry)) (now (objects .entry)) ⌝ }
 {
     let count = variables(kinds, objects);
-    let mut v = 0;
-    while v < count {
-        if !undeclared_unset(kinds[v], objects[v] as u32) {
-            return false;
-        }
-        v += 1;
+    let mut declared = true;
+    for v in 0..count {
+        declared = declared & undeclared_unset(kinds[v], objects[v] as u32);
     }
-    true
+    declared
 }
 
 // 3, as compile sees it.

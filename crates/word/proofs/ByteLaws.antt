@@ -208,6 +208,16 @@ unpacked-more size bytes before out count value so-far more fits is =
           );
     }
 
+pub unpacked-two : (size : ℕ) (bytes before out : List ℕ) (count first second : ℕ) → Unpacked size bytes before out count
+    → count + 1 < length bytes / size → length bytes / size ≤ length before → first ≡ number (take size (drop (size * count) bytes))
+    → second ≡ number (take size (drop (size * count + size) bytes)) → Unpacked size bytes before (set (set out count first) (count + 1) second) (count + 2)
+unpacked-two size bytes before out count first second so-far more fits one other =
+    let place : size * count + size ≡ size * (count + 1) = omega arith in
+    let after : count + 1 + 1 ≡ count + 2 = omega arith in
+    rw after at
+    (unpacked-more size bytes before (set out count first) (count + 1) second (unpacked-more size bytes before out count first so-far (omega arith) fits one) more fits
+    (other ∙ rw place))
+
 pub unpacked-all : (size : ℕ) (bytes before out : List ℕ) (count : ℕ) → Unpacked size bytes before out count → length bytes / size ≤ count
     → out ≡ elements size bytes ++ drop (length bytes / size) before
 unpacked-all size bytes before out count so-far all =
@@ -254,6 +264,6 @@ packed-all size values before bytes count so-far fits all =
     let here : count ≡ length values = omega arith in
     so-far .written ∙ rw (here, take-length, drop-of-length-le before {i = size * length values} (omega arith), append-nil)
 
-pub ruleset unpacking = (unpacked-none, unpacked-more, unpacked-all)
+pub ruleset unpacking = (unpacked-none, unpacked-more, unpacked-two, unpacked-all)
 
 pub ruleset packing = (packed-none, packed-more, packed-all)

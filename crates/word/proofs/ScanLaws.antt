@@ -2,7 +2,7 @@
 use Prim.Native.Nat.{ℕ, suc, _+_, _<_, _≤_}
 use mathlib.Core.Path.{_≡_, refl, sym, _∙_}
 use mathlib.Core.Logic.{_↔_, _⊎_, inl, inr}
-use mathlib.Core.Bool.{Bool, true, false, _&&_}
+use mathlib.Core.Bool.{Bool, true, false, _&&_, and-assoc, and-true}
 use mathlib.Core.Option.{Option, none, some}
 use mathlib.Core.List.{List, [], _∷_}
 use native.Mathlib.Numerals.{add-one}
@@ -144,3 +144,11 @@ module _ {A : Type 0} (test : A → Bool) where
 
     pub each-end : length all ≤ i → whole ≡ true
     each-end past = left ∙ rw (drop-of-length-le all {i = i} past, each-none)
+
+  -- a loop that does not stop: what is gathered so far and what is left give the answer
+  module _ (whole gathered : Bool) (all : List A) (default : A) (i : ℕ) (left : whole ≡ (gathered && each test (drop i all))) where
+    pub each-gather : i < length all → whole ≡ ((gathered && test (getD all i default)) && each test (drop (i + 1) all))
+    each-gather inside = left ∙ rw (drop-cons all i default, each-more, add-one) (sym (and-assoc gathered (test (getD all i default)) (each test (drop (suc i) all))))
+
+    pub each-gathered : length all ≤ i → gathered ≡ whole
+    each-gathered past = sym (left ∙ rw (drop-of-length-le all {i = i} past, each-none) (and-true gathered))

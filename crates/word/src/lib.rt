@@ -70,13 +70,19 @@ pub fn put_word(bytes: &mut [u8], at: usize, value: u64)
     put_quad(bytes, at + 4, (value % 4294967296) as u32);
 }
 
-// The elements of two bytes to the front of a slice.
+// The elements of two bytes to the front of a slice, two at a time: one at a time, the compiler takes the bytes apart.
 pub fn unpack_pairs(bytes: &[u8], out: &mut [u16])
     requires { ⌜ length (now bytes) / 2 ≤ length (now out) ⌝ }
     ensures { λ _. ⌜ now (out .exit) ≡ elements 2 (now (bytes .entry)) ++ drop (length (now (bytes .entry)) / 2) (now (out .entry)) ⌝ }
 {
     let count = bytes.len() / 2;
-    for place in 0..count {
+    let mut place: usize = 0;
+    while place + 1 < count {
+        out[place] = pair_at(bytes, 2 * place);
+        out[place + 1] = pair_at(bytes, 2 * place + 2);
+        place += 2;
+    }
+    if place < count {
         out[place] = pair_at(bytes, 2 * place);
     }
 }

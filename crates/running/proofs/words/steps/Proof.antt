@@ -10,36 +10,30 @@ use Rattle.running.proofs.words.steps.Statement.{statement}
 use Rattle.running.proofs.words.steps.Tie as tie
 
 abbrev Inv-loop : tie.InvT-loop
-Inv-loop start kinds objects messages certificates rows₀ code from new-objects₀ new-messages₀ g₀ i₀ rows new-objects new-messages g i =
-    Going (lent start kinds objects messages certificates rows₀) code g new-objects new-messages rows i
+Inv-loop start kinds objects₀ messages₀ certificates rows₀ code from g₀ i₀ objects messages rows g i =
+    Going (lent start kinds objects₀ messages₀ certificates rows₀) code g objects messages rows i
 
 abbrev μ-loop : tie.MeasureT-loop
-μ-loop start kinds objects messages certificates rows₀ code from new-objects₀ new-messages₀ g₀ i₀ rows new-objects new-messages g i =
+μ-loop start kinds objects₀ messages₀ certificates rows₀ code from g₀ i₀ objects messages rows g i =
     length code - i
 
 cast-from : tie.Need-cast-from Inv-loop μ-loop
 cast-from c = search needs
 
 loop-holds : tie.Need-loop-holds Inv-loop μ-loop
-loop-holds c = going-start (c .before .before .before .before .before .pre) (search needs) (search needs)
+loop-holds c = going-start (c .before .before .before .before .before .before .before .pre .1) (c .before .before .before .before .before .before .before .pre .0 .0) (c .before .before .before .before .before .before .before .pre .0 .1)
 
 cast-place : tie.Need-cast-place Inv-loop μ-loop
-cast-place c = omega (arith, c .before .before .before .before .before .before .before .pre .few-words)
+cast-place c = omega (arith, c .before .before .before .before .before .before .before .before .before .pre .1 .few-words)
 
 mul-word : tie.Need-mul-word Inv-loop μ-loop
-mul-word c = scaled-fits (c .before .loop .i) _ 4 (c .loop-test .taken) (c .before .before .before .before .before .before .before .good .1 .1 .1 .1 .1 .1 .0 .1)
+mul-word c = scaled-fits (c .before .loop .i) _ 4 (c .loop-test .taken) (c .before .before .before .before .before .before .before .before .before .good .1 .1 .1 .1 .1 .1 .0 .1)
 
 shared-slice-read-word : tie.Need-shared-slice-read-word Inv-loop μ-loop
 shared-slice-read-word c = c .before .loop-test .taken
 
-slice-aggregate-one : tie.Need-slice-aggregate-one Inv-loop μ-loop
-slice-aggregate-one c = sym (c .before .before .before .loop .inv .objects-length)
-
-slice-aggregate-one-2 : tie.Need-slice-aggregate-one-2 Inv-loop μ-loop
-slice-aggregate-one-2 c = sym (c .before .before .before .before .loop .inv .messages-length)
-
 one-requires : tie.Need-one-requires Inv-loop μ-loop
-one-requires c κs = let l = c .before .before .before .before .before .loop in let ready = c .before .before .before .before .before .before .before .before .before .before .before .pre in (going-good _ _ (l .inv) ready (c .before .before .before .before .loop-test .taken), ((l .inv .objects-length, l .inv .messages-length), going-within _ _ (l .inv) ready))
+one-requires c κs = let l = c .before .before .before .before .before .loop in let ready = c .before .before .before .before .before .before .before .before .before .before .before .before .before .pre .1 in (going-good _ _ (l .inv) ready (c .before .before .before .before .loop-test .taken), ((l .inv .objects-length, l .inv .messages-length), going-within _ _ (l .inv) ready))
 
 enum-known-step : tie.Need-enum-known-step Inv-loop μ-loop
 enum-known-step c = search needs
@@ -51,13 +45,19 @@ cast-to : tie.Need-cast-to Inv-loop μ-loop
 cast-to c = search needs
 
 clear-requires : tie.Need-clear-requires Inv-loop μ-loop
-clear-requires c κs = let p = c .before .before .before .before .before .before .before .before .before in stuck-spans _ _ (p .before .before .before .before .before .before .loop .inv) (p .before .before .before .before .before .before .before .before .before .before .before .before .pre) (p .before .before .before .before .before .loop-test .taken) (p .one .ensures) (c .before .before .before .step2 .given .1)
+clear-requires c κs = stuck-spans _ _ (c .before .before .before .before .before .before .before .before .before .before .before .before .before .before .before .before .before .loop .inv) (c .before .before .before .before .before .before .before .before .before .before .before .before .before .before .before .before .before .before .before .before .before .before .before .before .before .pre .1) (c .before .before .before .before .before .before .before .before .before .before .before .before .before .before .before .before .loop-test .taken) (c .before .before .before .before .before .before .before .before .before .before .before .one .ensures) (c .before .before .before .step2 .given .1)
 
 same-length : tie.Need-same-length Inv-loop μ-loop
-same-length c = c .before .before .clear .ensures .long ∙ c .before .before .before .before .before .before .before .before .before .before .before .before .one .kept .1 .1 .1 .1 .1 .1 .1 .0 ∙ c .before .before .before .before .before .before .before .before .before .before .before .before .before .before .before .before .before .before .loop .inv .grown .same-length
+same-length c = c .before .before .before .before .before .before .before .before .before .before .before .before .before .before .one .kept .1 .1 .1 .1 .0 ∙ c .before .before .before .before .before .before .before .before .before .before .before .before .before .before .before .before .before .before .before .before .loop .inv .objects-length ∙ sym (c .before .before .before .before .before .before .before .before .before .before .before .before .before .before .before .before .before .before .before .before .before .before .before .before .before .before .before .before .pre .0 .0)
+
+same-length-2 : tie.Need-same-length-2 Inv-loop μ-loop
+same-length-2 c = c .before .before .before .before .before .before .before .before .before .before .before .before .before .before .one .kept .1 .1 .1 .1 .1 .0 ∙ c .before .before .before .before .before .before .before .before .before .before .before .before .before .before .before .before .before .before .before .before .loop .inv .messages-length ∙ sym (c .before .before .before .before .before .before .before .before .before .before .before .before .before .before .before .before .before .before .before .before .before .before .before .before .before .before .before .before .pre .0 .1)
+
+same-length-3 : tie.Need-same-length-3 Inv-loop μ-loop
+same-length-3 c = c .before .before .clear .ensures .long ∙ c .before .before .before .before .before .before .before .before .before .before .before .before .before .before .one .kept .1 .1 .1 .1 .1 .1 .1 .0 ∙ c .before .before .before .before .before .before .before .before .before .before .before .before .before .before .before .before .before .before .before .before .loop .inv .grown .same-length
 
 returns : tie.Need-returns Inv-loop μ-loop
-returns c = let p = c .before .before .before .before .before .before .before .before .before .before .before .before in stuck-ends _ _ (p .before .before .before .before .before .before .loop .inv) (p .before .before .before .before .before .before .before .before .before .before .before .before .pre) (p .before .before .before .before .before .loop-test .taken) (p .one .ensures) (c .before .before .before .before .before .before .step2 .given .1) (c .before .before .clear .ensures)
+returns c = stuck-ends _ _ (c .before .before .before .before .before .before .before .before .before .before .before .before .before .before .before .before .before .before .before .before .loop .inv) (c .before .before .before .before .before .before .before .before .before .before .before .before .before .before .before .before .before .before .before .before .before .before .before .before .before .before .before .before .pre .1) (c .before .before .before .before .before .before .before .before .before .before .before .before .before .before .before .before .before .before .before .loop-test .taken) (c .before .before .before .before .before .before .before .before .before .before .before .before .before .before .one .ensures) (c .before .before .before .before .before .before .step2 .given .1) (c .before .before .clear .ensures)
 
 enum-told : tie.Need-enum-told Inv-loop μ-loop
 enum-told c = search needs
@@ -66,13 +66,19 @@ cast-upto : tie.Need-cast-upto Inv-loop μ-loop
 cast-upto c = search needs
 
 clear-requires-2 : tie.Need-clear-requires-2 Inv-loop μ-loop
-clear-requires-2 c κs = let p = c .before .before .before .before .before .before .before .before in room-spans _ _ (p .before .before .before .before .before .before .loop .inv) (p .before .before .before .before .before .before .before .before .before .before .before .before .pre) (p .before .before .before .before .before .loop-test .taken) (p .one .ensures) (c .before .before .enum-told .given .1)
+clear-requires-2 c κs = room-spans _ _ (c .before .before .before .before .before .before .before .before .before .before .before .before .before .before .before .before .loop .inv) (c .before .before .before .before .before .before .before .before .before .before .before .before .before .before .before .before .before .before .before .before .before .before .before .before .pre .1) (c .before .before .before .before .before .before .before .before .before .before .before .before .before .before .before .loop-test .taken) (c .before .before .before .before .before .before .before .before .before .before .one .ensures) (c .before .before .enum-told .given .1)
 
-same-length-2 : tie.Need-same-length-2 Inv-loop μ-loop
-same-length-2 c = c .before .before .clear2 .ensures .long ∙ c .before .before .before .before .before .before .before .before .before .before .before .one .kept .1 .1 .1 .1 .1 .1 .1 .0 ∙ c .before .before .before .before .before .before .before .before .before .before .before .before .before .before .before .before .before .loop .inv .grown .same-length
+same-length-4 : tie.Need-same-length-4 Inv-loop μ-loop
+same-length-4 c = c .before .before .before .before .before .before .before .before .before .before .before .before .before .one .kept .1 .1 .1 .1 .0 ∙ c .before .before .before .before .before .before .before .before .before .before .before .before .before .before .before .before .before .before .before .loop .inv .objects-length ∙ sym (c .before .before .before .before .before .before .before .before .before .before .before .before .before .before .before .before .before .before .before .before .before .before .before .before .before .before .before .pre .0 .0)
+
+same-length-5 : tie.Need-same-length-5 Inv-loop μ-loop
+same-length-5 c = c .before .before .before .before .before .before .before .before .before .before .before .before .before .one .kept .1 .1 .1 .1 .1 .0 ∙ c .before .before .before .before .before .before .before .before .before .before .before .before .before .before .before .before .before .before .before .loop .inv .messages-length ∙ sym (c .before .before .before .before .before .before .before .before .before .before .before .before .before .before .before .before .before .before .before .before .before .before .before .before .before .before .before .pre .0 .1)
+
+same-length-6 : tie.Need-same-length-6 Inv-loop μ-loop
+same-length-6 c = c .before .before .clear2 .ensures .long ∙ c .before .before .before .before .before .before .before .before .before .before .before .before .before .one .kept .1 .1 .1 .1 .1 .1 .1 .0 ∙ c .before .before .before .before .before .before .before .before .before .before .before .before .before .before .before .before .before .before .before .loop .inv .grown .same-length
 
 returns-2 : tie.Need-returns-2 Inv-loop μ-loop
-returns-2 c = let p = c .before .before .before .before .before .before .before .before .before .before .before in room-ends _ _ (p .before .before .before .before .before .before .loop .inv) (p .before .before .before .before .before .before .before .before .before .before .before .before .pre) (p .before .before .before .before .before .loop-test .taken) (p .one .ensures) (c .before .before .before .before .before .enum-told .given .1) (c .before .before .clear2 .ensures)
+returns-2 c = room-ends _ _ (c .before .before .before .before .before .before .before .before .before .before .before .before .before .before .before .before .before .before .before .loop .inv) (c .before .before .before .before .before .before .before .before .before .before .before .before .before .before .before .before .before .before .before .before .before .before .before .before .before .before .before .pre .1) (c .before .before .before .before .before .before .before .before .before .before .before .before .before .before .before .before .before .before .loop-test .taken) (c .before .before .before .before .before .before .before .before .before .before .before .before .before .one .ensures) (c .before .before .before .before .before .enum-told .given .1) (c .before .before .clear2 .ensures)
 
 add-i : tie.Need-add-i Inv-loop μ-loop
 add-i c = omega arith
@@ -81,13 +87,19 @@ loop-less : tie.Need-loop-less Inv-loop μ-loop
 loop-less c = omega arith
 
 loop-again : tie.Need-loop-again Inv-loop μ-loop
-loop-again c = let p = c .before .before .before .before .before .before .before in going-next _ _ (p .before .before .before .before .before .before .loop .inv) (p .before .before .before .before .before .before .before .before .before .before .before .before .pre) (p .before .before .before .before .before .loop-test .taken) (p .one .ensures) (c .before .step .given .1)
+loop-again c = going-next _ _ (c .before .before .before .before .before .before .before .before .before .before .before .before .before .before .before .loop .inv) (c .before .before .before .before .before .before .before .before .before .before .before .before .before .before .before .before .before .before .before .before .before .before .before .pre .1) (c .before .before .before .before .before .before .before .before .before .before .before .before .before .before .loop-test .taken) (c .before .before .before .before .before .before .before .before .before .one .ensures) (c .before .step .given .1)
 
-cast-t40 : tie.Need-cast-t40 Inv-loop μ-loop
-cast-t40 c = omega (arith, c .before .before .before .before .before .before .before .pre .few-words)
+cast-t37 : tie.Need-cast-t37 Inv-loop μ-loop
+cast-t37 c = omega (arith, c .before .before .before .before .before .before .before .before .before .pre .1 .few-words)
 
-same-length-3 : tie.Need-same-length-3 Inv-loop μ-loop
-same-length-3 c = c .before .loop .inv .grown .same-length
+same-length-7 : tie.Need-same-length-7 Inv-loop μ-loop
+same-length-7 c = c .before .loop .inv .objects-length ∙ sym (c .before .before .before .before .before .before .before .before .before .pre .0 .0)
+
+same-length-8 : tie.Need-same-length-8 Inv-loop μ-loop
+same-length-8 c = c .before .loop .inv .messages-length ∙ sym (c .before .before .before .before .before .before .before .before .before .pre .0 .1)
+
+same-length-9 : tie.Need-same-length-9 Inv-loop μ-loop
+same-length-9 c = c .before .loop .inv .grown .same-length
 
 returns-3 : tie.Need-returns-3 Inv-loop μ-loop
 returns-3 c = going-end _ _ (c .before .loop .inv) (c .loop-test .left)
@@ -103,23 +115,27 @@ steps-spec =
     cast-place
     mul-word
     shared-slice-read-word
-    slice-aggregate-one
-    slice-aggregate-one-2
     one-requires
     enum-known-step
     enum-known-step-2
     cast-to
     clear-requires
     same-length
+    same-length-2
+    same-length-3
     returns
     enum-told
     cast-upto
     clear-requires-2
-    same-length-2
+    same-length-4
+    same-length-5
+    same-length-6
     returns-2
     add-i
     loop-less
     loop-again
-    cast-t40
-    same-length-3
+    cast-t37
+    same-length-7
+    same-length-8
+    same-length-9
     returns-3)

@@ -1,19 +1,19 @@
 use Prim.Native.Nat.{_-_, _≤_}
-use mathlib.Core.Path.{_≡_, refl, sym, _∙_}
+use mathlib.Core.Path.{_≡_, refl, _∙_}
+use mathlib.Core.Bool.{_&&_}
 use native.Mathlib.Omega.{arith}
 use lib.ListN.{drop}
 use borrow.Author.Needs.{needs, scaled-fits}
-use borrow.Author.Tests.{not-true, not-false}
 use Rattle.stores.specs.Valid.{eachVariable, undeclaredUnset}
-use Rattle.stores.proofs.LoopLaws.{variable-stop, variable-next, variables-end}
+use Rattle.stores.proofs.LoopLaws.{variables-gather, variables-gathered}
 use Rattle.stores.proofs.cells.all_declared.Statement.{statement}
 use Rattle.stores.proofs.cells.all_declared.Tie as tie
 
 abbrev Inv-loop : tie.InvT-loop
-Inv-loop kinds objects count v₀ v = (v ≤ count) × (eachVariable undeclaredUnset kinds objects ≡ eachVariable undeclaredUnset (drop v kinds) (drop v objects))
+Inv-loop kinds objects count declared₀ v₀ declared v = (v ≤ count) × (eachVariable undeclaredUnset kinds objects ≡ (declared && eachVariable undeclaredUnset (drop v kinds) (drop v objects)))
 
 abbrev μ-loop : tie.MeasureT-loop
-μ-loop kinds objects count v₀ v = count - v
+μ-loop kinds objects count declared₀ v₀ declared v = count - v
 
 variables-requires : tie.Need-variables-requires Inv-loop μ-loop
 variables-requires c κs = search needs
@@ -37,15 +37,6 @@ cast-undeclared-unset c = omega (arith, c .shared-slice-known4 .given (c .before
 undeclared-unset-requires : tie.Need-undeclared-unset-requires Inv-loop μ-loop
 undeclared-unset-requires c κs = search needs
 
-returns : tie.Need-returns Inv-loop μ-loop
-returns c =
-    let loop = c .before .before .before .before .before in
-    let args = loop .before .before .before .before .args in
-    let count = loop .before .variables .ensures in
-    sym
-    (variable-stop undeclaredUnset (args .kinds .now) (args .objects .now) (loop .loop .v) (loop .loop .inv .1) (omega (arith, count)) (omega (arith, count))
-    (sym (c .before .undeclared-unset .ensures) ∙ not-true _ (c .if1 .taken)))
-
 add-v : tie.Need-add-v Inv-loop μ-loop
 add-v c = omega arith
 
@@ -54,18 +45,19 @@ loop-less c = omega arith
 
 loop-again : tie.Need-loop-again Inv-loop μ-loop
 loop-again c =
-    let loop = c .before .before .before .before .before in
-    let args = loop .before .before .before .before .args in
-    let count = loop .before .variables .ensures in (
+    let loop = c .before .before .before .before .loop in
+    let args = c .before .before .before .before .before .before .before .before .args in
+    let count = c .before .before .before .before .before .variables .ensures in (
       omega arith,
-      variable-next undeclaredUnset (args .kinds .now) (args .objects .now) (loop .loop .v) (loop .loop .inv .1) (omega (arith, count)) (omega (arith, count))
-          (sym (c .before .undeclared-unset .ensures) ∙ not-false _ (c .if1 .left)),
+      variables-gather undeclaredUnset (loop .declared) (args .kinds .now) (args .objects .now) (loop .v) (loop .inv .1) (omega (arith, count)) (omega (arith, count))
+          ∙ rw (c .undeclared-unset .ensures),
     )
 
-returns-2 : tie.Need-returns-2 Inv-loop μ-loop
-returns-2 c =
+returns : tie.Need-returns Inv-loop μ-loop
+returns c =
+    let loop = c .before .loop in
     let args = c .before .before .before .before .before .args in
-    sym (variables-end undeclaredUnset (args .kinds .now) (args .objects .now) (c .before .loop .v) (c .before .loop .inv .1) (omega (arith, c .before .before .variables .ensures)))
+    variables-gathered undeclaredUnset (loop .declared) (args .kinds .now) (args .objects .now) (loop .v) (loop .inv .1) (omega (arith, c .before .before .variables .ensures))
 
 pub all-declared-spec : {M : Type 1} → statement M
 all-declared-spec =
@@ -80,8 +72,7 @@ all-declared-spec =
     shared-slice-read-undeclared-unset-2
     cast-undeclared-unset
     undeclared-unset-requires
-    returns
     add-v
     loop-less
     loop-again
-    returns-2)
+    returns)

@@ -1,20 +1,20 @@
 use Prim.Native.Nat.{_-_, _≤_}
-use mathlib.Core.Path.{_≡_, refl, sym, _∙_}
+use mathlib.Core.Path.{_≡_, refl, _∙_}
+use mathlib.Core.Bool.{_&&_}
 use native.Mathlib.Omega.{arith}
 use lib.ListN.{length, drop}
 use borrow.Author.Needs.{needs, scaled-fits}
-use borrow.Author.Tests.{not-true, not-false}
 use Rattle.word.specs.Lowest.{each}
-use Rattle.word.proofs.ScanLaws.{each-stop, each-next, each-end}
+use Rattle.word.proofs.ScanLaws.{each-gather, each-gathered}
 use Rattle.stores.specs.Valid.{cellFits}
 use Rattle.stores.proofs.cells.cells_fit.Statement.{statement}
 use Rattle.stores.proofs.cells.cells_fit.Tie as tie
 
 abbrev Inv-loop : tie.InvT-loop
-Inv-loop used cells i₀ i = (i ≤ length cells) × (each (cellFits used) cells ≡ each (cellFits used) (drop i cells))
+Inv-loop used cells fit₀ i₀ i-end fit i = (i ≤ length cells) × (each (cellFits used) cells ≡ (fit && each (cellFits used) (drop i cells)))
 
 abbrev μ-loop : tie.MeasureT-loop
-μ-loop used cells i₀ i = length cells - i
+μ-loop used cells fit₀ i₀ i-end fit i = i-end - i
 
 loop-holds : tie.Need-loop-holds Inv-loop μ-loop
 loop-holds c = (omega arith, refl)
@@ -31,12 +31,6 @@ cast-cell-fits c = omega (arith, c .shared-slice-known2 .given (c .before .befor
 cell-fits-requires : tie.Need-cell-fits-requires Inv-loop μ-loop
 cell-fits-requires c κs = search needs
 
-returns : tie.Need-returns Inv-loop μ-loop
-returns c =
-    let loop = c .before .before .before .before .loop in
-    let args = c .before .before .before .before .before .before .args in
-    sym (each-stop (cellFits (args .used)) _ (args .cells .now) 0 (loop .i) (loop .inv .1) (omega arith) (sym (c .before .cell-fits .ensures) ∙ not-true _ (c .if1 .taken)))
-
 add-i : tie.Need-add-i Inv-loop μ-loop
 add-i c = omega arith
 
@@ -45,15 +39,15 @@ loop-less c = omega arith
 
 loop-again : tie.Need-loop-again Inv-loop μ-loop
 loop-again c =
-    let loop = c .before .before .before .before .loop in
-    let args = c .before .before .before .before .before .before .args in
-    (omega arith, each-next (cellFits (args .used)) _ (args .cells .now) 0 (loop .i) (loop .inv .1) (omega arith) (sym (c .before .cell-fits .ensures) ∙ not-false _ (c .if1 .left)))
+    let loop = c .before .before .before .loop in
+    let args = c .before .before .before .before .before .args in
+    (omega arith, each-gather (cellFits (args .used)) _ (loop .fit) (args .cells .now) 0 (loop .i) (loop .inv .1) (omega arith) ∙ rw (c .cell-fits .ensures))
 
-returns-2 : tie.Need-returns-2 Inv-loop μ-loop
-returns-2 c =
+returns : tie.Need-returns Inv-loop μ-loop
+returns c =
     let loop = c .before .loop in
     let args = c .before .before .before .args in
-    sym (each-end (cellFits (args .used)) _ (args .cells .now) 0 (loop .i) (loop .inv .1) (omega arith))
+    each-gathered (cellFits (args .used)) _ (loop .fit) (args .cells .now) 0 (loop .i) (loop .inv .1) (omega arith)
 
 pub cells-fit-spec : {M : Type 1} → statement M
 cells-fit-spec =
@@ -66,8 +60,7 @@ cells-fit-spec =
     shared-slice-read-cell-fits
     cast-cell-fits
     cell-fits-requires
-    returns
     add-i
     loop-less
     loop-again
-    returns-2)
+    returns)
