@@ -1,13 +1,13 @@
 -- Run over lent bytes: lengths that fit or are refused, and what is packed back.
 use Prim.Native.Nat.{ℕ, _*_, _/_, _%_, _≤_}
-use mathlib.Core.Path.{_≡_, sym, _∙_, ap}
+use mathlib.Core.Path.{_≡_, refl, sym, _∙_, ap, ap₂}
 use mathlib.Core.Bool.{Bool, true, false, _&&_}
 use mathlib.Core.List.{List}
 use native.Mathlib.Omega.{arith}
 use borrow.Author.Tests.{eq-eqb, ne-eqb}
 use lib.Dec.{T, eqb, leb}
 use lib.ListN.{length}
-use Rattle.word.specs.Bytes.{elements, spelled}
+use Rattle.word.specs.Bytes.{whole, elements, spelled}
 use Rattle.word.proofs.ByteLaws.{Below, length-words, spelled-elements}
 use Rattle.word.proofs.TestLaws.{both, equals, at-most}
 use Rattle.answers.specs.Numbers.{ranNumber, ranPlace, ranReason}
@@ -17,6 +17,7 @@ use Rattle.terms.specs.Rules.{usedRows}
 use Rattle.terms.proofs.TableLaws.{used-rows}
 use Rattle.theory.specs.Run.{Lent, RunOutcome, unchanged, lengthsFit, run}
 use Rattle.running.proofs.LookLaws.{true-holds, found-some, found-limit, run-refused}
+use Rattle.running.proofs.AttemptLaws.{attempted, withCells, copies-done, copies-not-done}
 use Rattle.cram.specs.declared.RunAnswer.{RunAnswer}
 use Rattle.cram.specs.Entries.{RunLeft, ranNumbers, runWhole, lentElements, cellsSpelled, rowsSpelled, runSpelled, runRefused, runEntry}
 use Rattle.cram.proofs.ChoiceLaws.{is-false, where-true, either-way}
@@ -86,18 +87,6 @@ module _ (answer : Ran) {number place reason : ℕ} (n : number ≡ ranNumber an
       → record { number = number; place = place; reason = reason; used = used; counter = counter; accumulator = accumulator } ≡ ranNumbers answer used counter accumulator
   numbers-counted other = rw (n, p, r, ne-eqb (ranNumber answer) 1 (λ e. other (n ∙ e)))
 
--- what was lent, with other cells
-abbrev withCells : Lent → List ℕ → List ℕ → Lent
-withCells x objects messages = record {
-  kinds = x .kinds;
-  objects = objects;
-  messages = messages;
-  certificates = x .certificates;
-  accumulator = x .accumulator;
-  terms = x .terms;
-  counter = x .counter;
-}
-
 abbrev withRows : Lent → List ℕ → Lent
 withRows x rows = record {
   kinds = x .kinds;
@@ -109,14 +98,31 @@ withRows x rows = record {
   counter = x .counter;
 }
 
+-- cells that a run leaves: packed back where it is done, and otherwise as they were
+module _ (x : Lent) (words : List ℕ) (answer : Ran) (objects′ messages′ : List ℕ) {objects messages terms′ : List ℕ} {accumulator′ counter′ : ℕ}
+    (o : objects ≡ elements 2 (x .objects)) (m : messages ≡ elements 2 (x .messages))
+    (e : attempted answer objects messages objects′ messages′ accumulator′ terms′ counter′ ≡ run (withCells x objects messages) words) where
+  abbrev unpacked : Lent
+  unpacked = withCells x (elements 2 (x .objects)) (elements 2 (x .messages))
+
+  abbrev leaving : List ℕ → List ℕ → RunOutcome
+  leaving objects″ messages″ = record { answer = answer; objects = objects″; messages = messages″; accumulator = accumulator′; terms = terms′; counter = counter′ }
+
+  pub cells-packed : {objects″ messages″ : List ℕ} → ranNumber answer ≡ 0 → objects″ ≡ spelled 2 objects′ → messages″ ≡ spelled 2 messages′
+      → leaving objects″ messages″ ≡ cellsSpelled (run unpacked words)
+  cells-packed done o″ m″ = rw (o″, m″) (ap cellsSpelled (copies-done unpacked words answer objects′ messages′ o m e done refl refl))
+
+  pub cells-left : (ranNumber answer ≡ 0 → ⊥) → length (x .objects) ≡ 128 → length (x .messages) ≡ 512 → Below 256 (x .objects) → Below 256 (x .messages)
+      → leaving (x .objects) (x .messages) ≡ cellsSpelled (run unpacked words)
+  cells-left other few named objects-below messages-below =
+      sym (ap₂ leaving (spelled-elements 2 (x .objects) (pairs (x .objects) 64 few) objects-below) (spelled-elements 2 (x .messages) (pairs (x .messages) 256 named) messages-below))
+      ∙ ap cellsSpelled (copies-not-done unpacked words answer objects′ messages′ o m e other)
+    where
+      pairs : (bytes : List ℕ) (count : ℕ) → length bytes ≡ 2 * count → T (whole 2 bytes)
+      pairs bytes count long = simp equals (omega (arith, long))
+
 -- what is packed back
 module _ (x : Lent) (words : List ℕ) {ran : RunOutcome} where
-  pub cells-packed : {objects messages objects′ messages′ : List ℕ} → objects ≡ elements 2 (x .objects) → messages ≡ elements 2 (x .messages)
-      → ran ≡ run (withCells x objects messages) words → objects′ ≡ spelled 2 (ran .objects) → messages′ ≡ spelled 2 (ran .messages)
-      → record { answer = ran .answer; objects = objects′; messages = messages′; accumulator = ran .accumulator; terms = ran .terms; counter = ran .counter }
-      ≡ cellsSpelled (run (withCells x (elements 2 (x .objects)) (elements 2 (x .messages))) words)
-  cells-packed o m e o′ m′ = rw (o′, m′) (ap cellsSpelled (rw (o, m) at e))
-
   pub rows-packed : {rows terms′ : List ℕ} {used : ℕ} {answer : RunAnswer} → rows ≡ elements 8 (x .terms)
       → ran ≡ cellsSpelled (run (withRows (withCells x (elements 2 (x .objects)) (elements 2 (x .messages))) rows) words)
       → used ≡ usedRows (ran .terms) → terms′ ≡ spelled 8 (ran .terms) → answer ≡ ranNumbers (ran .answer) used (ran .counter) (ran .accumulator)
