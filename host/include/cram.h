@@ -14,7 +14,8 @@
  *   memory that was lent. A slice of length 0 is never read or written, so any other pointer will do for it.
  * - Slices given as const are only read. Nothing is kept after the return.
  * - With any answer but 0 every lent byte is as it was before the call.
- * - Stack: each call takes less than CRAM_STACK_BYTES, its own frames included.
+ * - Stack: cram_compile takes at most CRAM_COMPILE_STACK_BYTES, cram_run at most CRAM_RUN_STACK_BYTES, each with all
+ *   its frames.
  *
  * Elements; fields are listed from the most significant bit down, unused fields are zero
  *
@@ -80,7 +81,8 @@ extern "C" {
 #define CRAM_CERTIFICATES 32u    /* at most */
 #define CRAM_COUNTER 65536u      /* the name counter's highest value; CREATE then finds no name */
 #define CRAM_UNSET 65535u        /* a cell or an accumulator that is unset */
-#define CRAM_STACK_BYTES 65536u  /* see above */
+#define CRAM_COMPILE_STACK_BYTES 16384u /* see above */
+#define CRAM_RUN_STACK_BYTES 65536u     /* see above */
 
 /* What a number says, in both calls. */
 enum {
