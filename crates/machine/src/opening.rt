@@ -78,9 +78,9 @@ impl Registers {
         if !goes_with(rows, terms::part(word, 0), key) {
             return Step::Stuck(Reason::NotVerified);
         }
-        if terms::part(word, 1) != body {
-            return Step::Stuck(Reason::NotVerified);
+        if terms::part(word, 1) == body {
+            return Step::Next(self);
         }
-        Step::Next(self)
+        Step::Stuck(Reason::NotVerified)
     }
 }
