@@ -3,8 +3,8 @@ use mathlib.Core.Path.{_≡_}
 use native.Mathlib.Omega.{arith}
 use borrow.Author.Needs.{needs}
 use lib.ListN.{length}
-use Rattle.cases.proofs.compiled.stored.Statement.{statement}
-use Rattle.cases.proofs.compiled.stored.Tie as tie
+use Rattle.forms.proofs.limits.stored.Statement.{statement}
+use Rattle.forms.proofs.limits.stored.Tie as tie
 
 abbrev Inv-loop : tie.InvT-loop
 Inv-loop words₀ i₀ words i = (99 ≡ length words) × (i ≤ 47)

@@ -1,14 +1,14 @@
 // Compile at its limits.
 ghost use mathlib.Core.Path.{_≡_};
 ghost use lib.ListN.{length};
-use crate::lent::Stores;
-use crate::lent::empty;
-use crate::lent::with_object;
 use crate::report::compile;
 use code::Instruction;
 use code::Object;
 use code::Raw;
 use code::word_of;
+use reports::Stores;
+use reports::empty;
+use reports::with_object;
 
 // Row 0 a nonce; 47 lets, each of a nonce in the one before; E of the last.
 fn lets() -> [u64; 96]
@@ -58,61 +58,46 @@ fn sealed() -> Stores {
 
 // 96 rows.
 pub fn most_rows() {
-    let mut code = [7u32; 99];
     let rows = lets();
     let left = stored();
-    compile(b"96 rows", true, &rows, sealed(), &mut code, &left);
+    compile(b"96 rows", true, &rows, sealed(), &left);
 }
 
 // 97 rows.
 pub fn too_many_rows() {
-    let mut code = [7u32; 1];
-    compile(b"97 rows", false, &[0; 97], sealed(), &mut code, &[7]);
+    compile(b"97 rows", false, &[0; 97], sealed(), &[7]);
 }
 
-// The pattern of the scope's listing into a slice of just its words.
-pub fn just_fits() {
+// The pattern of the scope's listing into a slice of so many words.
+fn listed(name: &[u8], left: &[u32]) {
     let stores = with_object(with_object(empty(), 0, 2, 65535), 1, 10, 65535);
-    let mut code = [7u32; 6];
     compile(
-        b"just fits",
+        name,
         false,
         &[0, 0x1000_0000_0000_0000, 0x8040_0000_4000_8000],
         stores,
-        &mut code,
-        &[
-            word_of(Instruction::Decode(Object(1))),
-            word_of(Instruction::AnalyzeTuple(Object(1), Raw(64), 2)),
-            word_of(Instruction::Load(Raw(64))),
-            word_of(Instruction::Decode(Object(0))),
-            word_of(Instruction::Load(Raw(65))),
-            word_of(Instruction::Store(Raw(0))),
-        ],
+        left,
     );
+}
+
+// A slice of just its words.
+pub fn just_fits() {
+    let left = [
+        word_of(Instruction::Decode(Object(1))),
+        word_of(Instruction::AnalyzeTuple(Object(1), Raw(64), 2)),
+        word_of(Instruction::Load(Raw(64))),
+        word_of(Instruction::Decode(Object(0))),
+        word_of(Instruction::Load(Raw(65))),
+        word_of(Instruction::Store(Raw(0))),
+    ];
+    listed(b"just fits", &left);
 }
 
 // One word short: nothing is written.
 pub fn one_short() {
-    let stores = with_object(with_object(empty(), 0, 2, 65535), 1, 10, 65535);
-    let mut code = [7u32; 5];
-    compile(
-        b"one short",
-        false,
-        &[0, 0x1000_0000_0000_0000, 0x8040_0000_4000_8000],
-        stores,
-        &mut code,
-        &[7, 7, 7, 7, 7],
-    );
+    listed(b"one short", &[7, 7, 7, 7, 7]);
 }
 
 pub fn no_slice() {
-    let stores = with_object(with_object(empty(), 0, 2, 65535), 1, 10, 65535);
-    compile(
-        b"no slice",
-        false,
-        &[0, 0x1000_0000_0000_0000, 0x8040_0000_4000_8000],
-        stores,
-        &mut [],
-        &[],
-    );
+    listed(b"no slice", &[]);
 }
