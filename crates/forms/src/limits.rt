@@ -1,11 +1,8 @@
 // Compile at its limits.
 ghost use mathlib.Core.Path.{_≡_};
 ghost use lib.ListN.{length};
-use crate::report::compile;
-use code::Instruction;
-use code::Object;
-use code::Raw;
-use code::word_of;
+use crate::report::compiled;
+use reports::Left;
 use reports::Stores;
 use reports::empty;
 use reports::with_object;
@@ -28,25 +25,6 @@ fn lets() -> [u64; 96]
     rows
 }
 
-// Key and nonce are created, the nonce is stored by each let, and sealed.
-fn stored() -> [u32; 99]
-    ensures { λ r. ⌜ 99 ≡ length r ⌝ }
-{
-    let mut words = [0u32; 99];
-    words[0] = word_of(Instruction::Create(Object(1)));
-    words[1] = word_of(Instruction::Create(Object(0)));
-    let mut i: usize = 0;
-    while i < 47 {
-        words[2 * i + 2] = word_of(Instruction::Encode(Object(0)));
-        words[2 * i + 3] = word_of(Instruction::Store(Raw(46 - i as u8)));
-        i += 1;
-    }
-    words[96] = word_of(Instruction::Encode(Object(0)));
-    words[97] = word_of(Instruction::Encrypt(Object(1)));
-    words[98] = word_of(Instruction::Decode(Object(2)));
-    words
-}
-
 fn sealed() -> Stores {
     with_object(
         with_object(with_object(empty(), 0, 2, 65535), 1, 6, 65535),
@@ -56,48 +34,57 @@ fn sealed() -> Stores {
     )
 }
 
-// 96 rows.
+// The nonce is stored by each let.
+fn stored(left: Left) -> Left {
+    let mut words = left;
+    let mut i: u8 = 0;
+    while i < 47 {
+        words = words.encode(0).store(46 - i);
+        i += 1;
+    }
+    words
+}
+
+// 96 rows: key and nonce are created, and what the lets lead to is sealed.
 pub fn most_rows() {
     let rows = lets();
-    let left = stored();
-    compile(b"96 rows", true, &rows, sealed(), &left);
+    let left = compiled(b"96 rows", true, &rows, sealed(), 99);
+    stored(left.create(1).create(0))
+        .encode(0)
+        .encrypt(1)
+        .decode(2)
+        .end();
 }
 
 // 97 rows.
 pub fn too_many_rows() {
-    compile(b"97 rows", false, &[0; 97], sealed(), &[7]);
+    compiled(b"97 rows", false, &[0; 97], sealed(), 1).end();
 }
 
 // The pattern of the scope's listing into a slice of so many words.
-fn listed(name: &[u8], left: &[u32]) {
+fn listed(name: &[u8], lent: usize) -> Left {
     let stores = with_object(with_object(empty(), 0, 2, 65535), 1, 10, 65535);
-    compile(
-        name,
-        false,
-        &[0, 0x1000_0000_0000_0000, 0x8040_0000_4000_8000],
-        stores,
-        left,
-    );
+    let pattern = [0, 0x1000_0000_0000_0000, 0x8040_0000_4000_8000];
+    compiled(name, false, &pattern, stores, lent)
 }
 
 // A slice of just its words.
 pub fn just_fits() {
-    let left = [
-        word_of(Instruction::Decode(Object(1))),
-        word_of(Instruction::AnalyzeTuple(Object(1), Raw(64), 2)),
-        word_of(Instruction::Load(Raw(64))),
-        word_of(Instruction::Decode(Object(0))),
-        word_of(Instruction::Load(Raw(65))),
-        word_of(Instruction::Store(Raw(0))),
-    ];
-    listed(b"just fits", &left);
+    listed(b"just fits", 6)
+        .decode(1)
+        .analyze_tuple(1, 64, 2)
+        .load(64)
+        .decode(0)
+        .load(65)
+        .store(0)
+        .end();
 }
 
 // One word short: nothing is written.
 pub fn one_short() {
-    listed(b"one short", &[7, 7, 7, 7, 7]);
+    listed(b"one short", 5).end();
 }
 
 pub fn no_slice() {
-    listed(b"no slice", &[]);
+    listed(b"no slice", 0).end();
 }

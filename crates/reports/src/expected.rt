@@ -7,15 +7,15 @@ use code::Raw;
 use code::word_of;
 
 pub struct Left {
-    words: [u32; 24],
-    expected: [u32; 24],
+    words: [u32; 104],
+    expected: [u32; 104],
     count: usize,
 }
 
 impl Left {
     // Before the compilation all words are sevens, and so are those that it should not write.
-    pub fn of(words: [u32; 24]) -> Left {
-        let sevens = [7u32; 24];
+    pub fn of(words: [u32; 104]) -> Left {
+        let sevens = [7u32; 104];
         Left {
             words: words,
             expected: sevens,
@@ -27,7 +27,7 @@ impl Left {
         let words = self.words;
         let mut expected = self.expected;
         let at = self.count;
-        if at >= 24 {
+        if at >= 104 {
             return self;
         }
         expected[at] = word_of(instruction);
