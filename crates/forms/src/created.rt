@@ -1,4 +1,4 @@
-// Figure 6, a function a form: its code, and what is refused where a variable is set or unset, or a key has another form.
+// Figure 6, form by form: its code, and refusals 5, 6 and 7.
 use crate::report::created;
 use crate::variables::AGENT;
 use crate::variables::BYTE;
@@ -15,7 +15,6 @@ use crate::variables::raw_set;
 use crate::variables::raw_set_and;
 use crate::variables::set;
 use crate::variables::unset;
-use crate::variables::with_set;
 use reports::certified;
 use reports::op;
 use reports::plain;
@@ -30,16 +29,8 @@ fn object() {
     created(b"v set", pattern, set(NONCE)).encode(NONCE).end();
 }
 
-// Keys of one's own are creatable as a nonce is, an agent is not.
-fn other_objects() {
-    created(b"K unset", rows().object(PRIVATE), unset())
-        .create(PRIVATE)
-        .encode(PRIVATE)
-        .end();
-    created(b"sh unset", rows().object(SHARED), unset())
-        .create(SHARED)
-        .encode(SHARED)
-        .end();
+// 7: an agent is not created.
+fn uncreatable() {
     created(b"a unset", rows().object(AGENT), unset()).end();
 }
 
@@ -69,7 +60,6 @@ fn opposite() {
         .opposite(PRIVATE, PUBLIC)
         .encode(PUBLIC)
         .end();
-    created(b"k : op(K), k set", pattern, with_set(set(PRIVATE), PUBLIC)).end();
 }
 
 fn key_of() {
@@ -79,12 +69,6 @@ fn key_of() {
         .key_of()
         .decode(PUBLIC)
         .end();
-    created(b"k : keyOf(a), a unset", pattern, unset()).end();
-    created(
-        b"k : keyOf(a), k set",
-        pattern,
-        with_set(set(AGENT), PUBLIC),
-    ).end();
 }
 
 fn encryption_under_public() {
@@ -94,7 +78,6 @@ fn encryption_under_public() {
         .encrypt(PUBLIC)
         .decode(SEALED)
         .end();
-    created(b"e : E(k, r), k unset", pattern, raw_set()).end();
 }
 
 fn encryption_under_shared() {
@@ -110,7 +93,6 @@ fn encryption_under_shared() {
         .encrypt(SHARED)
         .decode(SEALED)
         .end();
-    created(b"e : E(sh, r), e set", pattern, raw_set_and(SEALED)).end();
 }
 
 fn encryption_under_opposite() {
@@ -131,8 +113,8 @@ fn encryption_under_opposite() {
 }
 
 fn encryption_for_agent() {
-    let pattern = rows().raw(0)
-        .encryption(SEALED, certified(PUBLIC, AGENT), 0);
+    let body = rows().raw(0);
+    let pattern = body.encryption(SEALED, certified(PUBLIC, AGENT), 0);
     created(b"e : E(k : keyOf(a), r)", pattern, raw_set_and(AGENT))
         .encode(AGENT)
         .key_of()
@@ -141,7 +123,6 @@ fn encryption_for_agent() {
         .encrypt(PUBLIC)
         .decode(SEALED)
         .end();
-    created(b"e : E(k : keyOf(a), r), a unset", pattern, raw_set()).end();
 }
 
 fn signature_by_private() {
@@ -157,7 +138,6 @@ fn signature_by_private() {
         .sign(PRIVATE)
         .decode(SIGNED)
         .end();
-    created(b"s : S(K, r), r unset", pattern, set(PRIVATE)).end();
 }
 
 fn signature_by_shared() {
@@ -167,20 +147,12 @@ fn signature_by_shared() {
         .sign(SHARED)
         .decode(SIGNED)
         .end();
-    created(b"s : S(sh, r), sh unset", pattern, raw_set())
-        .create(SHARED)
-        .load(0)
-        .sign(SHARED)
-        .decode(SIGNED)
-        .end();
 }
 
 // 5: what signs is a key of one's own.
-fn signature_by_others() {
-    let opposite = rows().signature(SIGNED, op(PUBLIC, PRIVATE), 0);
-    created(b"s : S(k : op(K), r)", opposite, raw_set_and(PRIVATE)).end();
-    let named = rows().signature(SIGNED, certified(PUBLIC, AGENT), 0);
-    created(b"s : S(k : keyOf(a), r)", named, raw_set_and(AGENT)).end();
+fn signature_by_opposite() {
+    let pattern = rows().signature(SIGNED, op(PUBLIC, PRIVATE), 0);
+    created(b"s : S(k : op(K), r)", pattern, raw_set_and(PRIVATE)).end();
 }
 
 fn hash() {
@@ -190,8 +162,6 @@ fn hash() {
         .hash(HASHED)
         .decode(HASHED)
         .end();
-    created(b"h : H(r), r unset", pattern, unset()).end();
-    created(b"h : H(r), h set", pattern, raw_set_and(HASHED)).end();
 }
 
 fn empty_tuple() {
@@ -200,16 +170,12 @@ fn empty_tuple() {
         .create_tuple(TUPLE, 64, 0)
         .encode(TUPLE)
         .end();
-    created(b"t : [], t set", pattern, set(TUPLE)).end();
 }
 
 fn full_tuple() {
     let parts = rows().raw(0).raw(0).raw(0).raw(0);
-    created(
-            b"t : [r, r, r, r]",
-            parts.tuple(TUPLE, 4, 0, 1, 2, 3),
-            raw_set(),
-        )
+    let pattern = parts.tuple(TUPLE, 4, 0, 1, 2, 3);
+    created(b"t : [r, r, r, r]", pattern, raw_set())
         .load(0)
         .store(64)
         .load(0)
@@ -232,18 +198,13 @@ fn let_in() {
         .load(0)
         .end();
     created(b"let r = v in r, r set", pattern, raw_set()).end();
-    let another = rows().raw(1).raw(0).let_in(0, 0, 1);
-    created(b"let r = r1 in r", another, unset()).end();
 }
 
 // The let's r is read behind it.
 fn let_stays() {
-    let pattern = rows().object(NONCE).raw(0).let_in(0, 0, 1).raw(0);
-    created(
-            b"t : [let r = v in r, r]",
-            pattern.tuple(TUPLE, 2, 2, 3, 0, 0),
-            unset(),
-        )
+    let parts = rows().object(NONCE).raw(0).let_in(0, 0, 1).raw(0);
+    let pattern = parts.tuple(TUPLE, 2, 2, 3, 0, 0);
+    created(b"t : [let r = v in r, r]", pattern, unset())
         .create(NONCE)
         .encode(NONCE)
         .store(0)
@@ -256,30 +217,18 @@ fn let_stays() {
         .end();
 }
 
-fn written_twice() {
-    let itself = rows().tuple(TUPLE, 0, 0, 0, 0, 0)
-        .tuple(TUPLE, 1, 0, 0, 0, 0);
-    created(b"t : [t : []]", itself, unset()).end();
-    let constants = rows().constant(BYTE, 5).constant(BYTE, 5);
-    created(
-        b"t : [c : C, c : C]",
-        constants.tuple(TUPLE, 2, 0, 1, 0, 0),
-        unset(),
-    ).end();
+// 6: the outer t, written behind the inner one.
+fn tuple_in_itself() {
+    let inner = rows().tuple(TUPLE, 0, 0, 0, 0, 0);
+    created(b"t : [t : []]", inner.tuple(TUPLE, 1, 0, 0, 0, 0), unset()).end();
 }
 
 // Scratch 64 to 66 is the outer tuple's, 67 and 68 the inner tuple's.
 fn composed() {
-    let inner = rows().object(NONCE)
-        .constant(BYTE, 5)
-        .raw(0)
-        .tuple(INNER, 2, 1, 2, 0, 0);
+    let parts = rows().object(NONCE).constant(BYTE, 5).raw(0);
+    let inner = parts.tuple(INNER, 2, 1, 2, 0, 0);
     let outer = inner.hash(HASHED, 0).tuple(TUPLE, 3, 0, 3, 4, 0);
-    created(
-            b"t : [v, t : [c : C, r], h : H(r)], r set",
-            outer,
-            raw_set(),
-        )
+    created(b"t : [v, t : [c : C, r], h : H(r)]", outer, raw_set())
         .create(NONCE)
         .encode(NONCE)
         .store(64)
@@ -302,7 +251,7 @@ fn composed() {
 
 pub fn all() {
     object();
-    other_objects();
+    uncreatable();
     raw();
     constant();
     opposite();
@@ -313,12 +262,12 @@ pub fn all() {
     encryption_for_agent();
     signature_by_private();
     signature_by_shared();
-    signature_by_others();
+    signature_by_opposite();
     hash();
     empty_tuple();
     full_tuple();
     let_in();
     let_stays();
-    written_twice();
+    tuple_in_itself();
     composed();
 }
