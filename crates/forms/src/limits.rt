@@ -1,8 +1,8 @@
 // Compile at its limits.
 ghost use mathlib.Core.Path.{_≡_};
 ghost use lib.ListN.{length};
-use crate::report::compiled;
-use reports::Left;
+use compilations::Left;
+use compilations::compiled;
 use reports::Stores;
 use reports::empty;
 use reports::with_object;

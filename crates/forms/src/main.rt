@@ -3,8 +3,6 @@
 mod created;
 mod limits;
 mod matched;
-mod report;
-mod variables;
 
 fn main() {
     limits::most_rows();

@@ -1,24 +1,24 @@
 // Figure 5, form by form: its code, and refusals 5, 6 and 7.
-use crate::report::matched;
-use crate::variables::AGENT;
-use crate::variables::BYTE;
-use crate::variables::HASHED;
-use crate::variables::INNER;
-use crate::variables::NONCE;
-use crate::variables::PRIVATE;
-use crate::variables::PUBLIC;
-use crate::variables::SEALED;
-use crate::variables::SHARED;
-use crate::variables::SIGNED;
-use crate::variables::TUPLE;
-use crate::variables::raw_set;
-use crate::variables::raw_set_and;
-use crate::variables::set;
-use crate::variables::unset;
-use reports::certified;
-use reports::op;
-use reports::plain;
-use reports::rows;
+use compilations::certified;
+use compilations::matched;
+use compilations::op;
+use compilations::plain;
+use compilations::rows;
+use compilations::variables::AGENT;
+use compilations::variables::BYTE;
+use compilations::variables::HASHED;
+use compilations::variables::INNER;
+use compilations::variables::NONCE;
+use compilations::variables::PRIVATE;
+use compilations::variables::PUBLIC;
+use compilations::variables::SEALED;
+use compilations::variables::SHARED;
+use compilations::variables::SIGNED;
+use compilations::variables::TUPLE;
+use compilations::variables::raw_set;
+use compilations::variables::raw_set_and;
+use compilations::variables::set;
+use compilations::variables::unset;
 
 fn object() {
     let pattern = rows().object(NONCE);

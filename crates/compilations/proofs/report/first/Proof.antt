@@ -2,8 +2,8 @@ use mathlib.Core.Path.{sym}
 use native.Mathlib.Omega.{arith}
 use borrow.Table.Elements.{length-take-le}
 use borrow.Author.Needs.{needs}
-use Rattle.forms.proofs.report.first.Statement.{statement}
-use Rattle.forms.proofs.report.first.Tie as tie
+use Rattle.compilations.proofs.report.first.Statement.{statement}
+use Rattle.compilations.proofs.report.first.Tie as tie
 
 slice-aggregate-result : tie.Need-slice-aggregate-result
 slice-aggregate-result c = sym (length-take-le (c .before .before .args .count) (c .before .before .args .rows .now) (omega (arith, c .before .if1 .taken)))

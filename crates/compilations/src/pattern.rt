@@ -53,13 +53,16 @@ pub fn certified(key: u8, agent: u8) -> Key {
     }
 }
 
+// The longest pattern of a case has six rows.
+const ROOM: usize = 8;
+
 pub struct Pattern {
-    pub rows: [u64; 8],
+    pub rows: [u64; ROOM],
     pub count: usize,
 }
 
 pub fn rows() -> Pattern {
-    let none = [0u64; 8];
+    let none = [0u64; ROOM];
     Pattern {
         rows: none,
         count: 0,
@@ -70,7 +73,7 @@ impl Pattern {
     fn row(self, word: u64) -> Pattern {
         let mut rows = self.rows;
         let at = self.count;
-        if at >= 8 {
+        if at >= ROOM {
             return self;
         }
         rows[at] = word;

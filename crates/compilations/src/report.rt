@@ -1,9 +1,10 @@
 // A compilation, and the start of its line.
+use crate::expected::Left;
+use crate::expected::ROOM;
+use crate::pattern::Pattern;
 use answers::Compiled;
 use compiler::used;
 use libc::STDOUT_FILENO;
-use reports::Left;
-use reports::Pattern;
 use reports::Stores;
 use reports::number;
 
@@ -25,7 +26,7 @@ fn answered(create: bool, pattern: &[u64], stores: Stores, code: &mut [u32]) -> 
 
 // A slice of so many sevens is lent.
 pub fn compiled(name: &[u8], create: bool, pattern: &[u64], stores: Stores, lent: usize) -> Left {
-    let mut words = [7u32; 104];
+    let mut words = [7u32; ROOM];
     let answer = answered(create, pattern, stores, used(&mut words, lent));
     io::write_all(STDOUT_FILENO, name);
     number(answer.number());
@@ -33,7 +34,7 @@ pub fn compiled(name: &[u8], create: bool, pattern: &[u64], stores: Stores, lent
     Left::of(words)
 }
 
-// The first rows of all that there is room for.
+// The rows of a pattern, of all that there is room for.
 fn first(rows: &[u64], count: usize) -> &[u64] {
     if count <= rows.len() {
         &rows[..count]
@@ -45,11 +46,11 @@ fn first(rows: &[u64], count: usize) -> &[u64] {
 pub fn matched(name: &[u8], pattern: Pattern, stores: Stores) -> Left {
     let rows = pattern.rows;
     io::write_all(STDOUT_FILENO, b"matched ");
-    compiled(name, false, first(&rows, pattern.count), stores, 104)
+    compiled(name, false, first(&rows, pattern.count), stores, ROOM)
 }
 
 pub fn created(name: &[u8], pattern: Pattern, stores: Stores) -> Left {
     let rows = pattern.rows;
     io::write_all(STDOUT_FILENO, b"created ");
-    compiled(name, true, first(&rows, pattern.count), stores, 104)
+    compiled(name, true, first(&rows, pattern.count), stores, ROOM)
 }

@@ -45,7 +45,7 @@ pub fn unset() -> Stores {
 }
 
 // Any row will do: compile sees only that the cell is set.
-pub fn with_set(stores: Stores, v: u8) -> Stores {
+fn with_set(stores: Stores, v: u8) -> Stores {
     with_object(stores, v, v, 0)
 }
 

@@ -1,21 +1,24 @@
 // The code that a compilation left, beside the code that it should have left.
-use crate::line::verdict;
-use crate::sameness::same_words;
 use code::Instruction;
 use code::Object;
 use code::Raw;
 use code::word_of;
+use reports::same_words;
+use reports::verdict;
+
+// The longest code of a case has 99 words.
+pub const ROOM: usize = 104;
 
 pub struct Left {
-    words: [u32; 104],
-    expected: [u32; 104],
+    words: [u32; ROOM],
+    expected: [u32; ROOM],
     count: usize,
 }
 
 impl Left {
     // Before the compilation all words are sevens, and so are those that it should not write.
-    pub fn of(words: [u32; 104]) -> Left {
-        let sevens = [7u32; 104];
+    pub fn of(words: [u32; ROOM]) -> Left {
+        let sevens = [7u32; ROOM];
         Left {
             words: words,
             expected: sevens,
@@ -23,11 +26,12 @@ impl Left {
         }
     }
 
+    // The next word that should be there.
     fn then(self, instruction: Instruction) -> Left {
         let words = self.words;
         let mut expected = self.expected;
         let at = self.count;
-        if at >= 104 {
+        if at >= ROOM {
             return self;
         }
         expected[at] = word_of(instruction);
@@ -38,6 +42,7 @@ impl Left {
         }
     }
 
+    // No further word: the rest should be sevens.
     pub fn end(self) {
         let words = self.words;
         let expected = self.expected;

@@ -2,8 +2,8 @@ use mathlib.Core.Path.{sym}
 use native.Mathlib.Omega.{arith}
 use borrow.Table.Elements.{length-take-le}
 use borrow.Author.Needs.{needs}
-use Rattle.forms.proofs.report.named.Statement.{statement}
-use Rattle.forms.proofs.report.named.Tie as tie
+use Rattle.compilations.proofs.report.named.Statement.{statement}
+use Rattle.compilations.proofs.report.named.Tie as tie
 
 slice-aggregate-result : tie.Need-slice-aggregate-result
 slice-aggregate-result c = sym (length-take-le 64 (c .before .before .args .messages .now) (omega (arith, c .before .if1 .taken)))
