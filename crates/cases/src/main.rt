@@ -1,7 +1,5 @@
-// Run and compile at the edges of document 01, a line a case: its name, the answer's number and place, of a run also reason, counter and
-// accumulator, and whether every lent cell, row and word is as it should be.
-mod compiled;
-mod lent;
+// Run at the edges of document 01, a line a case: its name, the answer's number, place and reason, counter, accumulator, and whether
+// every lent cell and row is as it should be.
 mod refused;
 mod report;
 mod room;
@@ -25,9 +23,4 @@ fn main() {
     refused::bad_term();
     refused::bad_store();
     refused::bad_word();
-    compiled::most_rows();
-    compiled::too_many_rows();
-    compiled::just_fits();
-    compiled::one_short();
-    compiled::no_slice();
 }

@@ -1,10 +1,10 @@
 // What run refuses before it steps.
-use crate::lent::empty;
-use crate::lent::with_object;
 use crate::report::run;
 use code::Instruction;
 use code::Object;
 use code::word_of;
+use reports::empty;
+use reports::with_object;
 
 // 1: 769 words.
 pub fn limit() {

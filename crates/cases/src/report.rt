@@ -1,22 +1,17 @@
-// A run or a compilation, and its line.
-use crate::lent::Stores;
-use crate::lent::are_those_of;
-use crate::lent::same_rows;
-use crate::lent::same_words;
+// A run, and its line.
 use answers::Ran;
 use libc::STDOUT_FILENO;
+use reports::Stores;
+use reports::number;
+use reports::same_cells;
+use reports::same_rows;
+use reports::verdict;
 
-fn number(n: u32) {
-    io::write_all(STDOUT_FILENO, b" ");
-    io::print_decimal(STDOUT_FILENO, n as u64);
-}
-
-fn verdict(right: bool) {
-    if right {
-        io::write_all(STDOUT_FILENO, b" right\n");
-    } else {
-        io::write_all(STDOUT_FILENO, b" WRONG\n");
-    }
+// The cells are those of some stores.
+fn are_those_of(objects: &[u16], messages: &[u16], stores: Stores) -> bool {
+    let other_objects = stores.objects;
+    let other_messages = stores.messages;
+    same_cells(objects, &other_objects) & same_cells(messages, &other_messages)
 }
 
 fn line(name: &[u8], answer: Ran, counter: u32, accumulator: u32, right: bool) {
@@ -57,23 +52,4 @@ pub fn run(
     let right = are_those_of(&objects, &messages, after) & same_rows(rows, left);
     let answer = ended.answer;
     line(name, answer, ended.counter, ended.accumulator, right);
-}
-
-// A compilation with every named cell unset, which should leave such words.
-pub fn compile(
-    name: &[u8],
-    create: bool,
-    pattern: &[u64],
-    stores: Stores,
-    code: &mut [u32],
-    left: &[u32],
-) {
-    let kinds = stores.kinds;
-    let objects = stores.objects;
-    let named = [65535u16; 64];
-    let answer = compiler::compile(create, pattern, &kinds, &objects, &named, code);
-    io::write_all(STDOUT_FILENO, name);
-    number(answer.number());
-    number(answer.place());
-    verdict(same_words(code, left));
 }

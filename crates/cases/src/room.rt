@@ -1,14 +1,14 @@
 // Runs that end, and runs that want room.
 ghost use mathlib.Core.Path.{_≡_};
 ghost use lib.ListN.{length};
-use crate::lent::empty;
-use crate::lent::with_message;
-use crate::lent::with_object;
 use crate::report::run;
 use code::Instruction;
 use code::Object;
 use code::Raw;
 use code::word_of;
+use reports::empty;
+use reports::with_message;
+use reports::with_object;
 
 // The code of the scope's listing.
 pub fn ends() {

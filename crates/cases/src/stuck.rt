@@ -1,12 +1,12 @@
 // Each reason. What the words before the stuck one did is undone.
-use crate::lent::empty;
-use crate::lent::with_message;
-use crate::lent::with_object;
 use crate::report::run;
 use code::Instruction;
 use code::Object;
 use code::Raw;
 use code::word_of;
+use reports::empty;
+use reports::with_message;
+use reports::with_object;
 
 // 1: LOAD of an unset cell, after a new nonce was made and stored.
 pub fn unset() {

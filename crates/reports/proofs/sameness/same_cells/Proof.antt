@@ -2,9 +2,9 @@ use Prim.Native.Nat.{_-_}
 use native.Mathlib.Omega.{arith}
 use borrow.Author.Needs.{needs}
 use lib.ListN.{length}
-use Rattle.cases.proofs.SameLaws.{Agree, other-element, sameness}
-use Rattle.cases.proofs.lent.same_cells.Statement.{statement}
-use Rattle.cases.proofs.lent.same_cells.Tie as tie
+use Rattle.reports.proofs.SameLaws.{Agree, other-element, sameness}
+use Rattle.reports.proofs.sameness.same_cells.Statement.{statement}
+use Rattle.reports.proofs.sameness.same_cells.Tie as tie
 
 abbrev Inv-loop : tie.InvT-loop
 Inv-loop cells others i₀ i = Agree cells others i

@@ -3,8 +3,8 @@ use mathlib.Core.Path.{_≡_}
 use native.Mathlib.Omega.{arith}
 use borrow.Author.Needs.{needs}
 use lib.ListN.{length}
-use Rattle.cases.proofs.compiled.lets.Statement.{statement}
-use Rattle.cases.proofs.compiled.lets.Tie as tie
+use Rattle.forms.proofs.limits.lets.Statement.{statement}
+use Rattle.forms.proofs.limits.lets.Tie as tie
 
 abbrev Inv-loop : tie.InvT-loop
 Inv-loop rows₀ i₀ rows i = (96 ≡ length rows) × (i ≤ 47)

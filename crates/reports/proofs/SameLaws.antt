@@ -7,7 +7,7 @@ use native.Mathlib.Omega.{arith}
 use borrow.Author.Count.{below-none, below-more}
 use lib.ListN.{length, getD}
 use lib.Seq.{ext-getD}
-use Rattle.cases.specs.Same.{Tells}
+use Rattle.reports.specs.Same.{Tells}
 
 -- up to a place the two agree
 pub record Agree (all others : List ℕ) (place : ℕ) : Type 0 where

@@ -1,2 +1,0 @@
--- What the cases compare.
-pub mod Same

@@ -1,0 +1,56 @@
+// A compilation, and the start of its line.
+use crate::expected::Left;
+use crate::expected::ROOM;
+use crate::pattern::Pattern;
+use answers::Compiled;
+use compiler::used;
+use libc::STDOUT_FILENO;
+use reports::Stores;
+use reports::number;
+
+// The named ones of all message cells.
+fn named(messages: &[u16]) -> &[u16] {
+    if 64 <= messages.len() {
+        &messages[..64]
+    } else {
+        messages
+    }
+}
+
+fn answered(create: bool, pattern: &[u64], stores: Stores, code: &mut [u32]) -> Compiled {
+    let kinds = stores.kinds;
+    let objects = stores.objects;
+    let messages = stores.messages;
+    compiler::compile(create, pattern, &kinds, &objects, named(&messages), code)
+}
+
+// A slice of so many sevens is lent.
+pub fn compiled(name: &[u8], create: bool, pattern: &[u64], stores: Stores, lent: usize) -> Left {
+    let mut words = [7u32; ROOM];
+    let answer = answered(create, pattern, stores, used(&mut words, lent));
+    io::write_all(STDOUT_FILENO, name);
+    number(answer.number());
+    number(answer.place());
+    Left::of(words)
+}
+
+// The rows of a pattern, of all that there is room for.
+fn first(rows: &[u64], count: usize) -> &[u64] {
+    if count <= rows.len() {
+        &rows[..count]
+    } else {
+        rows
+    }
+}
+
+pub fn matched(name: &[u8], pattern: Pattern, stores: Stores) -> Left {
+    let rows = pattern.rows;
+    io::write_all(STDOUT_FILENO, b"matched ");
+    compiled(name, false, first(&rows, pattern.count), stores, ROOM)
+}
+
+pub fn created(name: &[u8], pattern: Pattern, stores: Stores) -> Left {
+    let rows = pattern.rows;
+    io::write_all(STDOUT_FILENO, b"created ");
+    compiled(name, true, first(&rows, pattern.count), stores, ROOM)
+}
