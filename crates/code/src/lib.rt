@@ -1,4 +1,6 @@
 // The instruction, over numbers of three sorts that are never taken for each other, and its word.
+pub mod words;
+
 use word::Place;
 ghost use mathlib.Core.Path.{_≡_};
 ghost use mathlib.Core.List.{[], _∷_};
@@ -44,35 +46,26 @@ pub enum Read {
     Not,
 }
 
-// Operation, A, B and n in their fields; the sum fits even where n is too wide for its own.
-fn packed(operation: u32, a: u8, b: u8, n: u8) -> u32
-    requires { ⌜ operation < 18 ⌝ }
-    ensures { λ r. ⌜ r ≡ join wordWidths (operation ∷ a ∷ b ∷ n ∷ 0 ∷ []) ⌝ }
-{
-    operation * 134217728 + (a as u32) * 524288 + (b as u32) * 2048 + (n as u32) * 256
-}
-
-// Operands go into A, then B.
 pub fn word_of(instruction: Instruction) -> u32
     ensures { λ r. ⌜ r ≡ wordOf instruction ⌝ }
 {
     match instruction {
-        Instruction::Load(r) => packed(2, r.0, 0, 0),
-        Instruction::Store(r) => packed(3, r.0, 0, 0),
-        Instruction::StoreConst(c, byte) => packed(4, c.0, byte, 0),
-        Instruction::Decode(v) => packed(5, v.0, 0, 0),
-        Instruction::Encode(v) => packed(6, v.0, 0, 0),
-        Instruction::Create(v) => packed(7, v.0, 0, 0),
-        Instruction::AnalyzeTuple(t, first, n) => packed(8, t.0, first.0, n),
-        Instruction::CreateTuple(t, first, n) => packed(9, t.0, first.0, n),
-        Instruction::Opposite(private, public) => packed(10, private.0, public.0, 0),
-        Instruction::KeyOf => packed(11, 0, 0, 0),
-        Instruction::Match(r) => packed(12, r.0, 0, 0),
-        Instruction::Encrypt(v) => packed(13, v.0, 0, 0),
-        Instruction::Decrypt(v) => packed(14, v.0, 0, 0),
-        Instruction::Sign(v) => packed(15, v.0, 0, 0),
-        Instruction::Verify(v, r) => packed(16, v.0, r.0, 0),
-        Instruction::Hash(h) => packed(17, h.0, 0, 0),
+        Instruction::Load(r) => words::load(r),
+        Instruction::Store(r) => words::store(r),
+        Instruction::StoreConst(c, byte) => words::store_const(c, byte),
+        Instruction::Decode(v) => words::decode(v),
+        Instruction::Encode(v) => words::encode(v),
+        Instruction::Create(v) => words::create(v),
+        Instruction::AnalyzeTuple(t, first, n) => words::analyze_tuple(t, first, n),
+        Instruction::CreateTuple(t, first, n) => words::create_tuple(t, first, n),
+        Instruction::Opposite(private, public) => words::opposite(private, public),
+        Instruction::KeyOf => words::key_of(),
+        Instruction::Match(r) => words::compare(r),
+        Instruction::Encrypt(v) => words::encrypt(v),
+        Instruction::Decrypt(v) => words::decrypt(v),
+        Instruction::Sign(v) => words::sign(v),
+        Instruction::Verify(v, r) => words::verify(v, r),
+        Instruction::Hash(h) => words::hash(h),
     }
 }
 

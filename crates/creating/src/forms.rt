@@ -1,11 +1,10 @@
 // The forms with no part: at most seven words each.
 use crate::keys;
-use code::Instruction;
 use code::Object;
 use code::Raw;
 use emission::Code;
 use emission::Emission;
-use emission::emit;
+use emission::instructions;
 ghost use mathlib.Core.List.{List};
 ghost use Prim.Native.Nat.{ℕ, _<_};
 ghost use Rattle.patterns.specs.Pattern.{object, constant, opposite, hash};
@@ -19,7 +18,7 @@ pub fn create_object(kinds: &[u8], code: &mut Code, emission: &mut Emission, row
     ensures { λ _. ⌜ Does (patternCode (now (kinds .entry)) (object row v)) 7 1 (now (emission .entry)) (now (code .entry)) (now (emission .exit)) (now (code .exit)) ⌝ }
 {
     keys::get_variable(kinds, code, emission, row, v);
-    emit(code, emission, row, Instruction::Encode(Object(v)));
+    instructions::encode(code, emission, row, Object(v));
 }
 
 // c : C, whatever the kinds
@@ -28,13 +27,8 @@ pub fn create_constant(code: &mut Code, emission: &mut Emission, row: u8, c: u8,
     requires { ⌜ Room 7 1 (now emission) ⌝ }
     ensures { λ _. ⌜ ((kinds : List ℕ) → Does (patternCode kinds (constant row c byte)) 7 1 (now (emission .entry)) (now (code .entry)) (now (emission .exit)) (now (code .exit))) ⌝ }
 {
-    emit(
-        code,
-        emission,
-        row,
-        Instruction::StoreConst(Object(c), byte),
-    );
-    emit(code, emission, row, Instruction::Encode(Object(c)));
+    instructions::store_const(code, emission, row, Object(c), byte);
+    instructions::encode(code, emission, row, Object(c));
 }
 
 // k : op(K)
@@ -51,7 +45,7 @@ pub fn create_opposite(
     ensures { λ _. ⌜ Does (patternCode (now (kinds .entry)) (opposite row public private)) 7 1 (now (emission .entry)) (now (code .entry)) (now (emission .exit)) (now (code .exit)) ⌝ }
 {
     keys::opposite_key(kinds, code, emission, row, public, private);
-    emit(code, emission, row, Instruction::Encode(Object(public)));
+    instructions::encode(code, emission, row, Object(public));
 }
 
 // h : H(r), whatever the kinds
@@ -60,7 +54,7 @@ pub fn create_hash(code: &mut Code, emission: &mut Emission, row: u8, h: u8, r: 
     requires { ⌜ Room 7 1 (now emission) ⌝ }
     ensures { λ _. ⌜ ((kinds : List ℕ) → Does (patternCode kinds (hash row h r)) 7 1 (now (emission .entry)) (now (code .entry)) (now (emission .exit)) (now (code .exit))) ⌝ }
 {
-    emit(code, emission, row, Instruction::Load(Raw(r)));
-    emit(code, emission, row, Instruction::Hash(Object(h)));
-    emit(code, emission, row, Instruction::Decode(Object(h)));
+    instructions::load(code, emission, row, Raw(r));
+    instructions::hash(code, emission, row, Object(h));
+    instructions::decode(code, emission, row, Object(h));
 }

@@ -1,10 +1,9 @@
 // Variables and keys, each with at most three words.
-use code::Instruction;
 use code::Object;
 use emission::Code;
 use emission::Emission;
 use emission::OBJECTS;
-use emission::emit;
+use emission::instructions;
 use emission::is_known;
 use emission::refuse;
 ghost use mathlib.Core.Path.{_≡_};
@@ -39,7 +38,7 @@ pub fn get_variable(kinds: &[u8], code: &mut Code, emission: &mut Emission, row:
 {
     if is_known(emission[OBJECTS], v) {} else {
         if creatable(kinds, v) {
-            emit(code, emission, row, Instruction::Create(Object(v)));
+            instructions::create(code, emission, row, Object(v));
         } else {
             refuse(emission, 7, row);
         }
@@ -60,12 +59,7 @@ pub fn opposite_key(
     ensures { λ _. ⌜ Does (keyCode (now (kinds .entry)) row (opKey public private)) 3 0 (now (emission .entry)) (now (code .entry)) (now (emission .exit)) (now (code .exit)) ⌝ }
 {
     get_variable(kinds, code, emission, row, private);
-    emit(
-        code,
-        emission,
-        row,
-        Instruction::Opposite(Object(private), Object(public)),
-    );
+    instructions::opposite(code, emission, row, Object(private), Object(public));
 }
 
 // k : keyOf(a), whatever the kinds
@@ -74,9 +68,9 @@ pub fn certified_key(code: &mut Code, emission: &mut Emission, row: u8, key: u8,
     requires { ⌜ Room 3 0 (now emission) ⌝ }
     ensures { λ _. ⌜ ((kinds : List ℕ) → Does (keyCode kinds row (certifiedKey key agent)) 3 0 (now (emission .entry)) (now (code .entry)) (now (emission .exit)) (now (code .exit))) ⌝ }
 {
-    emit(code, emission, row, Instruction::Encode(Object(agent)));
-    emit(code, emission, row, Instruction::KeyOf);
-    emit(code, emission, row, Instruction::Decode(Object(key)));
+    instructions::encode(code, emission, row, Object(agent));
+    instructions::key_of(code, emission, row);
+    instructions::decode(code, emission, row, Object(key));
 }
 
 // The key of E and S, by its form.

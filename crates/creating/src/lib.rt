@@ -2,14 +2,13 @@
 pub mod forms;
 pub mod keys;
 
-use code::Instruction;
 use code::Object;
 use code::Raw;
 use emission::Code;
 use emission::Emission;
 use emission::Part;
 use emission::Rows;
-use emission::emit;
+use emission::instructions;
 use emission::parts_of;
 use emission::scratch;
 use emission::take;
@@ -36,9 +35,9 @@ fn create_signature(
     let key = patterns::x(word);
     let r = patterns::raw(word);
     keys::create_key(kinds, code, emission, row, word);
-    emit(code, emission, row, Instruction::Load(Raw(r)));
-    emit(code, emission, row, Instruction::Sign(Object(key)));
-    emit(code, emission, row, Instruction::Decode(Object(s)));
+    instructions::load(code, emission, row, Raw(r));
+    instructions::sign(code, emission, row, Object(key));
+    instructions::decode(code, emission, row, Object(s));
 }
 
 // The pattern of a row with no children.
@@ -58,12 +57,7 @@ fn create_leaf(
     let v = patterns::variable(word);
     match tag {
         0 => forms::create_object(kinds, code, emission, row, v),
-        1 => emit(
-            code,
-            emission,
-            row,
-            Instruction::Load(Raw(patterns::raw(word))),
-        ),
+        1 => instructions::load(code, emission, row, Raw(patterns::raw(word))),
         2 => forms::create_constant(code, emission, row, v, patterns::x(word)),
         3 => forms::create_opposite(kinds, code, emission, row, v, patterns::y(word)),
         4 => keys::certified_key(code, emission, row, v, patterns::y(word)),
@@ -105,8 +99,8 @@ fn create_encryption(
     let children = patterns::slots(word);
     keys::create_key(kinds, code, emission, row, word);
     create_row(rows, kinds, code, emission, children[0]);
-    emit(code, emission, row, Instruction::Encrypt(Object(key)));
-    emit(code, emission, row, Instruction::Decode(Object(e)));
+    instructions::encrypt(code, emission, row, Object(key));
+    instructions::decode(code, emission, row, Object(e));
 }
 
 // t : [p1 .. pn]
@@ -135,13 +129,8 @@ fn create_tuple(
         n,
     );
     let cell = scratch(first);
-    emit(
-        code,
-        emission,
-        row,
-        Instruction::CreateTuple(Object(t), cell, n),
-    );
-    emit(code, emission, row, Instruction::Encode(Object(t)));
+    instructions::create_tuple(code, emission, row, Object(t), cell, n);
+    instructions::encode(code, emission, row, Object(t));
 }
 
 // The parts of a tuple, from left to right, each into its scratch cell.
@@ -161,12 +150,7 @@ fn create_parts(
     while k < n {
         let part = parts[k as usize];
         create_row(rows, kinds, code, emission, part.child);
-        emit(
-            code,
-            emission,
-            row,
-            Instruction::Store(scratch(part.scratch)),
-        );
+        instructions::store(code, emission, row, scratch(part.scratch));
         k += 1;
     }
 }
@@ -187,6 +171,6 @@ fn create_let(
     let r = patterns::raw(word);
     let children = patterns::slots(word);
     create_row(rows, kinds, code, emission, children[0]);
-    emit(code, emission, row, Instruction::Store(Raw(r)));
+    instructions::store(code, emission, row, Raw(r));
     create_row(rows, kinds, code, emission, children[1]);
 }

@@ -2,7 +2,7 @@
 pub mod KnownLaws
 pub mod MeetsLaws
 pub mod StepLaws
-pub mod SettleLaws
+pub mod InstructionLaws
 pub mod BudgetLaws
 pub mod PatternLaws
 pub mod PartLaws

@@ -138,7 +138,7 @@ does-take f {n} {code = code} k l =
     (does-as (λ env. sym (after-nil (take n f env))) (does-env (λ env. raise n then f (env .next)) (does-seq (k .does code) l)))
 
 -- a raw variable is unset, and then
-then-free : (row : ℕ) (known : Bool) (f : Env → Emitted) (env : Env) → writes row known (f env) ≡ andThen (writes row known (ok [] env)) f
+pub then-free : (row : ℕ) (known : Bool) (f : Env → Emitted) (env : Env) → writes row known (f env) ≡ andThen (writes row known (ok [] env)) f
 unfolding andThen
 then-free row true f env = refl
 then-free row false f env = sym (after-nil (f env))

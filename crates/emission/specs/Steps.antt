@@ -1,9 +1,9 @@
 -- The parts of an instruction's emission, each without a word.
-use Prim.Native.Nat.{ℕ, _+_, _<_}
+use Prim.Native.Nat.{ℕ, _+_}
 use mathlib.Core.List.{[]}
 use Rattle.code.specs.declared.Instruction.{Instruction}
 use Rattle.code.specs.declared.Instruction.the-variants.{Load, Store, StoreConst, Decode, Encode, Create, AnalyzeTuple, CreateTuple, Opposite, KeyOf, Match, Encrypt, Decrypt, Sign, Verify, Hash}
-use Rattle.theory.specs.Emission.{Env, Emitted, ok, refuse, reads, writes, readable, occupied, addObject, addRaw}
+use Rattle.theory.specs.Emission.{Env, Emitted, ok, _then_, reads, writes, readable, occupied, addObject, addRaw}
 
 abbrev pub readObject : ℕ → ℕ → Env → Emitted
 readObject row v e = reads row (e .objects v) (ok [] e)
@@ -25,26 +25,21 @@ freeRaw row r e = writes row (e .raws r) (ok [] e)
 abbrev pub raise : ℕ → Env → Emitted
 raise n e = ok [] (record { objects = e .objects; raws = e .raws; next = e .next + n })
 
--- what is left of an emission without its lines
-unfoldable pub settled : Emitted → Emitted
-settled (ok lines e) = ok [] e
-settled (refuse answer) = refuse answer
-
--- an object that is written is one of the 64
-abbrev pub WritesLow : Instruction → Type 0
-WritesLow (Load r) = Unit {0}
-WritesLow (Store r) = Unit {0}
-WritesLow (StoreConst c b) = c .0 < 64
-WritesLow (Decode v) = v .0 < 64
-WritesLow (Encode v) = Unit {0}
-WritesLow (Create v) = v .0 < 64
-WritesLow (AnalyzeTuple t b n) = Unit {0}
-WritesLow (CreateTuple t b n) = t .0 < 64
-WritesLow (Opposite K k) = k .0 < 64
-WritesLow KeyOf = Unit {0}
-WritesLow (Match r) = Unit {0}
-WritesLow (Encrypt v) = Unit {0}
-WritesLow (Decrypt v) = Unit {0}
-WritesLow (Sign v) = Unit {0}
-WritesLow (Verify v r) = Unit {0}
-WritesLow (Hash h) = Unit {0}
+-- what an instruction reads and then writes
+abbrev pub looks : ℕ → Instruction → Env → Emitted
+looks row (Load r) = readRaw row (r .0)
+looks row (Store r) = writeRaw row (r .0)
+looks row (StoreConst c b) = writeObject row (c .0)
+looks row (Decode v) = writeObject row (v .0)
+looks row (Encode v) = readObject row (v .0)
+looks row (Create v) = writeObject row (v .0)
+looks row (AnalyzeTuple t b n) = readObject row (t .0)
+looks row (CreateTuple t b n) = writeObject row (t .0)
+looks row (Opposite K k) = readObject row (K .0) then writeObject row (k .0)
+looks row KeyOf = ok []
+looks row (Match r) = readRaw row (r .0)
+looks row (Encrypt v) = readObject row (v .0)
+looks row (Decrypt v) = readObject row (v .0)
+looks row (Sign v) = readObject row (v .0)
+looks row (Verify v r) = readObject row (v .0) then readRaw row (r .0)
+looks row (Hash h) = ok []

@@ -1,5 +1,6 @@
 // What the compiler knows while it emits, and one instruction after another.
-use code::Instruction;
+pub mod instructions;
+
 use code::Object;
 use code::Raw;
 ghost use mathlib.Core.Path.{_≡_};
@@ -11,9 +12,9 @@ ghost use Rattle.answers.specs.declared.Compiled.the-variants.{WrongKind};
 ghost use Rattle.code.specs.Instruction.{wordOf};
 ghost use Rattle.theory.specs.Store.{put};
 ghost use Rattle.theory.specs.Machine.{Line, scratch};
-ghost use Rattle.theory.specs.Emission.{ok, refuse, emit};
+ghost use Rattle.theory.specs.Emission.{ok, refuse};
 ghost use Rattle.emission.specs.Known.{known};
-ghost use Rattle.emission.specs.Steps.{readObject, writeObject, readRaw, writeRaw, freeRaw, raise, settled, WritesLow};
+ghost use Rattle.emission.specs.Steps.{readObject, writeObject, readRaw, writeRaw, freeRaw, raise};
 ghost use Rattle.emission.specs.Meets.{nextIn, refusing, Does, Quiet, Room};
 ghost use Rattle.emission.specs.Parts.{partsFrom};
 
@@ -179,37 +180,6 @@ pub fn parts_of(children: [u8; 4], first: u8) -> [Part; 4]
     ]
 }
 
-// What an instruction reads, and then what it writes.
-fn settle(emission: &mut Emission, row: u8, instruction: Instruction)
-    requires { ⌜ (length (now emission) ≡ 5) × WritesLow instruction ⌝ }
-    ensures { λ _. ⌜ Quiet (λ env. settled (emit row instruction env)) 0 (now (emission .entry)) (now (emission .exit)) ⌝ }
-{
-    match instruction {
-        Instruction::Load(r) => read_raw(emission, row, r),
-        Instruction::Store(r) => write_raw(emission, row, r),
-        Instruction::StoreConst(c, _) => write_object(emission, row, c),
-        Instruction::Decode(v) => write_object(emission, row, v),
-        Instruction::Encode(v) => read_object(emission, row, v),
-        Instruction::Create(v) => write_object(emission, row, v),
-        Instruction::AnalyzeTuple(t, _, _) => read_object(emission, row, t),
-        Instruction::CreateTuple(t, _, _) => write_object(emission, row, t),
-        Instruction::Opposite(private, public) => {
-            read_object(emission, row, private);
-            write_object(emission, row, public)
-        }
-        Instruction::KeyOf => {}
-        Instruction::Match(r) => read_raw(emission, row, r),
-        Instruction::Encrypt(v) => read_object(emission, row, v),
-        Instruction::Decrypt(v) => read_object(emission, row, v),
-        Instruction::Sign(v) => read_object(emission, row, v),
-        Instruction::Verify(v, r) => {
-            read_object(emission, row, v);
-            read_raw(emission, row, r)
-        }
-        Instruction::Hash(_) => {}
-    }
-}
-
 fn append(code: &mut Code, emission: &mut Emission, word: u32)
     requires { ⌜ Room 1 0 (now emission) ⌝ }
     ensures { λ _. ⌜ ((l : Line) → word ≡ wordOf (l .instruction) → Does (ok (l ∷ [])) 1 0 (now (emission .entry)) (now (code .entry)) (now (emission .exit)) (now (code .exit))) ⌝ }
@@ -217,14 +187,4 @@ fn append(code: &mut Code, emission: &mut Emission, word: u32)
     let at = emission[WRITTEN];
     code[at as usize] = word;
     emission[WRITTEN] = at + 1;
-}
-
-// One instruction for a pattern row.
-pub fn emit(code: &mut Code, emission: &mut Emission, row: u8, instruction: Instruction)
-    requires { ⌜ Room 1 0 (now emission) ⌝ }
-    requires { ⌜ WritesLow instruction ⌝ }
-    ensures { λ _. ⌜ Does (emit row instruction) 1 0 (now (emission .entry)) (now (code .entry)) (now (emission .exit)) (now (code .exit)) ⌝ }
-{
-    settle(emission, row, instruction);
-    append(code, emission, code::word_of(instruction));
 }

@@ -1,12 +1,11 @@
 // The forms with no part: at most seven words and one scratch number each.
-use code::Instruction;
 use code::Object;
 use code::Raw;
 use emission::Code;
 use emission::Emission;
 use emission::OBJECTS;
 use emission::RAWS;
-use emission::emit;
+use emission::instructions;
 use emission::is_known;
 use emission::scratch;
 use emission::take;
@@ -23,11 +22,11 @@ pub fn match_object(code: &mut Code, emission: &mut Emission, row: u8, v: u8)
 {
     if is_known(emission[OBJECTS], v) {
         let s = scratch(take(emission, 1));
-        emit(code, emission, row, Instruction::Store(s));
-        emit(code, emission, row, Instruction::Encode(Object(v)));
-        emit(code, emission, row, Instruction::Match(s));
+        instructions::store(code, emission, row, s);
+        instructions::encode(code, emission, row, Object(v));
+        instructions::compare(code, emission, row, s);
     } else {
-        emit(code, emission, row, Instruction::Decode(Object(v)));
+        instructions::decode(code, emission, row, Object(v));
     }
 }
 
@@ -37,9 +36,9 @@ pub fn match_raw(code: &mut Code, emission: &mut Emission, row: u8, r: u8)
     ensures { λ _. ⌜ Does (compile↓ (raw row r)) 7 1 (now (emission .entry)) (now (code .entry)) (now (emission .exit)) (now (code .exit)) ⌝ }
 {
     if is_known(emission[RAWS], r) {
-        emit(code, emission, row, Instruction::Match(Raw(r)));
+        instructions::compare(code, emission, row, Raw(r));
     } else {
-        emit(code, emission, row, Instruction::Store(Raw(r)));
+        instructions::store(code, emission, row, Raw(r));
     }
 }
 
@@ -50,15 +49,10 @@ pub fn match_constant(code: &mut Code, emission: &mut Emission, row: u8, c: u8, 
     ensures { λ _. ⌜ Does (compile↓ (constant row c byte)) 7 1 (now (emission .entry)) (now (code .entry)) (now (emission .exit)) (now (code .exit)) ⌝ }
 {
     let s = scratch(take(emission, 1));
-    emit(code, emission, row, Instruction::Store(s));
-    emit(
-        code,
-        emission,
-        row,
-        Instruction::StoreConst(Object(c), byte),
-    );
-    emit(code, emission, row, Instruction::Encode(Object(c)));
-    emit(code, emission, row, Instruction::Match(s));
+    instructions::store(code, emission, row, s);
+    instructions::store_const(code, emission, row, Object(c), byte);
+    instructions::encode(code, emission, row, Object(c));
+    instructions::compare(code, emission, row, s);
 }
 
 // k : op(K)
@@ -68,15 +62,10 @@ pub fn match_opposite(code: &mut Code, emission: &mut Emission, row: u8, public:
     ensures { λ _. ⌜ Does (compile↓ (opposite row public private)) 7 1 (now (emission .entry)) (now (code .entry)) (now (emission .exit)) (now (code .exit)) ⌝ }
 {
     let s = scratch(take(emission, 1));
-    emit(code, emission, row, Instruction::Store(s));
-    emit(
-        code,
-        emission,
-        row,
-        Instruction::Opposite(Object(private), Object(public)),
-    );
-    emit(code, emission, row, Instruction::Encode(Object(public)));
-    emit(code, emission, row, Instruction::Match(s));
+    instructions::store(code, emission, row, s);
+    instructions::opposite(code, emission, row, Object(private), Object(public));
+    instructions::encode(code, emission, row, Object(public));
+    instructions::compare(code, emission, row, s);
 }
 
 // k : keyOf(a)
@@ -85,12 +74,12 @@ pub fn match_key_of(code: &mut Code, emission: &mut Emission, row: u8, key: u8, 
     requires { ⌜ Room 7 1 (now emission) ⌝ }
     ensures { λ _. ⌜ Does (compile↓ (keyOf row key agent)) 7 1 (now (emission .entry)) (now (code .entry)) (now (emission .exit)) (now (code .exit)) ⌝ }
 {
-    emit(code, emission, row, Instruction::Decode(Object(key)));
+    instructions::decode(code, emission, row, Object(key));
     let s = scratch(take(emission, 1));
-    emit(code, emission, row, Instruction::Store(s));
-    emit(code, emission, row, Instruction::Encode(Object(agent)));
-    emit(code, emission, row, Instruction::KeyOf);
-    emit(code, emission, row, Instruction::Match(s));
+    instructions::store(code, emission, row, s);
+    instructions::encode(code, emission, row, Object(agent));
+    instructions::key_of(code, emission, row);
+    instructions::compare(code, emission, row, s);
 }
 
 // h : H(r)
@@ -99,12 +88,12 @@ pub fn match_hash(code: &mut Code, emission: &mut Emission, row: u8, h: u8, r: u
     requires { ⌜ Room 7 1 (now emission) ⌝ }
     ensures { λ _. ⌜ Does (compile↓ (hash row h r)) 7 1 (now (emission .entry)) (now (code .entry)) (now (emission .exit)) (now (code .exit)) ⌝ }
 {
-    emit(code, emission, row, Instruction::Decode(Object(h)));
+    instructions::decode(code, emission, row, Object(h));
     let s = scratch(take(emission, 1));
-    emit(code, emission, row, Instruction::Store(s));
-    emit(code, emission, row, Instruction::Load(Raw(r)));
-    emit(code, emission, row, Instruction::Hash(Object(h)));
-    emit(code, emission, row, Instruction::Match(s));
+    instructions::store(code, emission, row, s);
+    instructions::load(code, emission, row, Raw(r));
+    instructions::hash(code, emission, row, Object(h));
+    instructions::compare(code, emission, row, s);
 }
 
 // What k : op(K) verifies.
@@ -120,18 +109,8 @@ pub fn verify_opposite(
     requires { ⌜ Room 6 1 (now emission) ⌝ }
     ensures { λ _. ⌜ Does (verifying row (opKey public private) r) 6 1 (now (emission .entry)) (now (code .entry)) (now (emission .exit)) (now (code .exit)) ⌝ }
 {
-    emit(
-        code,
-        emission,
-        row,
-        Instruction::Opposite(Object(private), Object(public)),
-    );
-    emit(
-        code,
-        emission,
-        row,
-        Instruction::Verify(Object(public), Raw(r)),
-    );
+    instructions::opposite(code, emission, row, Object(private), Object(public));
+    instructions::verify(code, emission, row, Object(public), Raw(r));
 }
 
 // What k : keyOf(a) verifies.
@@ -148,15 +127,10 @@ pub fn verify_certified(
     ensures { λ _. ⌜ Does (verifying row (certifiedKey key agent) r) 6 1 (now (emission .entry)) (now (code .entry)) (now (emission .exit)) (now (code .exit)) ⌝ }
 {
     let s = scratch(take(emission, 1));
-    emit(code, emission, row, Instruction::Store(s));
-    emit(code, emission, row, Instruction::Encode(Object(agent)));
-    emit(code, emission, row, Instruction::KeyOf);
-    emit(code, emission, row, Instruction::Decode(Object(key)));
-    emit(code, emission, row, Instruction::Load(s));
-    emit(
-        code,
-        emission,
-        row,
-        Instruction::Verify(Object(key), Raw(r)),
-    );
+    instructions::store(code, emission, row, s);
+    instructions::encode(code, emission, row, Object(agent));
+    instructions::key_of(code, emission, row);
+    instructions::decode(code, emission, row, Object(key));
+    instructions::load(code, emission, row, s);
+    instructions::verify(code, emission, row, Object(key), Raw(r));
 }

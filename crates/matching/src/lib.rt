@@ -1,15 +1,14 @@
 // Figure 5: the code that matches a pattern.
 pub mod forms;
 
-use code::Instruction;
 use code::Object;
 use code::Raw;
 use emission::Code;
 use emission::Emission;
 use emission::Part;
 use emission::Rows;
-use emission::emit;
 use emission::free_raw;
+use emission::instructions;
 use emission::parts_of;
 use emission::scratch;
 use emission::take;
@@ -26,22 +25,12 @@ fn match_signature(rows: &Rows, code: &mut Code, emission: &mut Emission, row: u
     requires { ⌜ fieldsOf word .tag ≡ 6 ⌝ }
     ensures { λ _. ⌜ Matches (now (rows .entry)) row (now (emission .entry)) (now (code .entry)) (now (emission .exit)) (now (code .exit)) ⌝ }
 {
-    emit(
-        code,
-        emission,
-        row,
-        Instruction::Decode(Object(patterns::variable(word))),
-    );
+    instructions::decode(code, emission, row, Object(patterns::variable(word)));
     let key = patterns::x(word);
     let r = patterns::raw(word);
     let form = patterns::key_form(word);
     match form {
-        0 => emit(
-            code,
-            emission,
-            row,
-            Instruction::Verify(Object(key), Raw(r)),
-        ),
+        0 => instructions::verify(code, emission, row, Object(key), Raw(r)),
         1 => forms::verify_opposite(code, emission, row, key, patterns::y(word), r),
         _ => forms::verify_certified(code, emission, row, key, patterns::y(word), r),
     }
@@ -88,18 +77,8 @@ fn match_encryption(rows: &Rows, code: &mut Code, emission: &mut Emission, row: 
     ensures { λ _. ⌜ Matches (now (rows .entry)) row (now (emission .entry)) (now (code .entry)) (now (emission .exit)) (now (code .exit)) ⌝ }
 {
     if patterns::key_form(word) == 0 {
-        emit(
-            code,
-            emission,
-            row,
-            Instruction::Decode(Object(patterns::variable(word))),
-        );
-        emit(
-            code,
-            emission,
-            row,
-            Instruction::Decrypt(Object(patterns::x(word))),
-        );
+        instructions::decode(code, emission, row, Object(patterns::variable(word)));
+        instructions::decrypt(code, emission, row, Object(patterns::x(word)));
         let children = patterns::slots(word);
         match_row(rows, code, emission, children[0]);
     } else {
@@ -115,14 +94,9 @@ fn match_tuple(rows: &Rows, code: &mut Code, emission: &mut Emission, row: u8, w
 {
     let t = patterns::variable(word);
     let n = patterns::count(word);
-    emit(code, emission, row, Instruction::Decode(Object(t)));
+    instructions::decode(code, emission, row, Object(t));
     let first = take(emission, n);
-    emit(
-        code,
-        emission,
-        row,
-        Instruction::AnalyzeTuple(Object(t), scratch(first), n),
-    );
+    instructions::analyze_tuple(code, emission, row, Object(t), scratch(first), n);
     match_parts(
         rows,
         code,
@@ -148,12 +122,7 @@ fn match_parts(
     let mut k: u8 = 0;
     while k < n {
         let part = parts[k as usize];
-        emit(
-            code,
-            emission,
-            row,
-            Instruction::Load(scratch(part.scratch)),
-        );
+        instructions::load(code, emission, row, scratch(part.scratch));
         match_row(rows, code, emission, part.child);
         k += 1;
     }
@@ -169,6 +138,6 @@ fn match_let(rows: &Rows, code: &mut Code, emission: &mut Emission, row: u8, wor
     let children = patterns::slots(word);
     free_raw(emission, row, r);
     match_row(rows, code, emission, children[1]);
-    emit(code, emission, row, Instruction::Load(Raw(r)));
+    instructions::load(code, emission, row, Raw(r));
     match_row(rows, code, emission, children[0]);
 }

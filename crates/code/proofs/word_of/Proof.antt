@@ -6,98 +6,98 @@ use Rattle.code.proofs.word_of.Tie as tie
 enum-known-instruction : tie.Need-enum-known-instruction
 enum-known-instruction c = search needs
 
-packed-requires : tie.Need-packed-requires
-packed-requires c κs = search needs
+load-requires : tie.Need-load-requires
+load-requires c κs = search needs
 
 enum-known-instruction-2 : tie.Need-enum-known-instruction-2
 enum-known-instruction-2 c = search needs
 
-packed-requires-2 : tie.Need-packed-requires-2
-packed-requires-2 c κs = search needs
+store-requires : tie.Need-store-requires
+store-requires c κs = search needs
 
 enum-known-instruction-3 : tie.Need-enum-known-instruction-3
 enum-known-instruction-3 c = search needs
 
-packed-requires-3 : tie.Need-packed-requires-3
-packed-requires-3 c κs = search needs
+store-const-requires : tie.Need-store-const-requires
+store-const-requires c κs = search needs
 
 enum-known-instruction-4 : tie.Need-enum-known-instruction-4
 enum-known-instruction-4 c = search needs
 
-packed-requires-4 : tie.Need-packed-requires-4
-packed-requires-4 c κs = search needs
+decode-requires : tie.Need-decode-requires
+decode-requires c κs = search needs
 
 enum-known-instruction-5 : tie.Need-enum-known-instruction-5
 enum-known-instruction-5 c = search needs
 
-packed-requires-5 : tie.Need-packed-requires-5
-packed-requires-5 c κs = search needs
+encode-requires : tie.Need-encode-requires
+encode-requires c κs = search needs
 
 enum-known-instruction-6 : tie.Need-enum-known-instruction-6
 enum-known-instruction-6 c = search needs
 
-packed-requires-6 : tie.Need-packed-requires-6
-packed-requires-6 c κs = search needs
+create-requires : tie.Need-create-requires
+create-requires c κs = search needs
 
 enum-known-instruction-7 : tie.Need-enum-known-instruction-7
 enum-known-instruction-7 c = search needs
 
-packed-requires-7 : tie.Need-packed-requires-7
-packed-requires-7 c κs = search needs
+analyze-tuple-requires : tie.Need-analyze-tuple-requires
+analyze-tuple-requires c κs = search needs
 
 enum-known-instruction-8 : tie.Need-enum-known-instruction-8
 enum-known-instruction-8 c = search needs
 
-packed-requires-8 : tie.Need-packed-requires-8
-packed-requires-8 c κs = search needs
+create-tuple-requires : tie.Need-create-tuple-requires
+create-tuple-requires c κs = search needs
 
 enum-known-instruction-9 : tie.Need-enum-known-instruction-9
 enum-known-instruction-9 c = search needs
 
-packed-requires-9 : tie.Need-packed-requires-9
-packed-requires-9 c κs = search needs
+opposite-requires : tie.Need-opposite-requires
+opposite-requires c κs = search needs
 
 enum-told : tie.Need-enum-told
 enum-told c = search needs
 
-packed-requires-10 : tie.Need-packed-requires-10
-packed-requires-10 c κs = search needs
+key-of-requires : tie.Need-key-of-requires
+key-of-requires c κs = search needs
 
 enum-known-instruction-10 : tie.Need-enum-known-instruction-10
 enum-known-instruction-10 c = search needs
 
-packed-requires-11 : tie.Need-packed-requires-11
-packed-requires-11 c κs = search needs
+compare-requires : tie.Need-compare-requires
+compare-requires c κs = search needs
 
 enum-known-instruction-11 : tie.Need-enum-known-instruction-11
 enum-known-instruction-11 c = search needs
 
-packed-requires-12 : tie.Need-packed-requires-12
-packed-requires-12 c κs = search needs
+encrypt-requires : tie.Need-encrypt-requires
+encrypt-requires c κs = search needs
 
 enum-known-instruction-12 : tie.Need-enum-known-instruction-12
 enum-known-instruction-12 c = search needs
 
-packed-requires-13 : tie.Need-packed-requires-13
-packed-requires-13 c κs = search needs
+decrypt-requires : tie.Need-decrypt-requires
+decrypt-requires c κs = search needs
 
 enum-known-instruction-13 : tie.Need-enum-known-instruction-13
 enum-known-instruction-13 c = search needs
 
-packed-requires-14 : tie.Need-packed-requires-14
-packed-requires-14 c κs = search needs
+sign-requires : tie.Need-sign-requires
+sign-requires c κs = search needs
 
 enum-known-instruction-14 : tie.Need-enum-known-instruction-14
 enum-known-instruction-14 c = search needs
 
-packed-requires-15 : tie.Need-packed-requires-15
-packed-requires-15 c κs = search needs
+verify-requires : tie.Need-verify-requires
+verify-requires c κs = search needs
 
 enum-known-instruction-15 : tie.Need-enum-known-instruction-15
 enum-known-instruction-15 c = search needs
 
-packed-requires-16 : tie.Need-packed-requires-16
-packed-requires-16 c κs = search needs
+hash-requires : tie.Need-hash-requires
+hash-requires c κs = search needs
 
 returns : tie.Need-returns
 returns c = search spells-as
@@ -152,37 +152,37 @@ word-of-spec =
     tie.close
     (tie.spec
     enum-known-instruction
-    packed-requires
+    load-requires
     enum-known-instruction-2
-    packed-requires-2
+    store-requires
     enum-known-instruction-3
-    packed-requires-3
+    store-const-requires
     enum-known-instruction-4
-    packed-requires-4
+    decode-requires
     enum-known-instruction-5
-    packed-requires-5
+    encode-requires
     enum-known-instruction-6
-    packed-requires-6
+    create-requires
     enum-known-instruction-7
-    packed-requires-7
+    analyze-tuple-requires
     enum-known-instruction-8
-    packed-requires-8
+    create-tuple-requires
     enum-known-instruction-9
-    packed-requires-9
+    opposite-requires
     enum-told
-    packed-requires-10
+    key-of-requires
     enum-known-instruction-10
-    packed-requires-11
+    compare-requires
     enum-known-instruction-11
-    packed-requires-12
+    encrypt-requires
     enum-known-instruction-12
-    packed-requires-13
+    decrypt-requires
     enum-known-instruction-13
-    packed-requires-14
+    sign-requires
     enum-known-instruction-14
-    packed-requires-15
+    verify-requires
     enum-known-instruction-15
-    packed-requires-16
+    hash-requires
     returns
     returns-2
     returns-3

@@ -28,7 +28,11 @@ use Rattle.creating.proofs.create_tuple.Kinds as create-tuple-kinds
 use Rattle.creating.proofs.+create_encryption+create_let+create_parts+create_row+create_tuple.Lts-create_tuple as create-tuple-lts
 use Rattle.creating.proofs.create_leaf.Reads as create-leaf-reads
 use Rattle.creating.proofs.keys.create_key.Reads as create-key-reads
-use Rattle.emission.proofs.emit.Reads as emit-reads
+use Rattle.emission.proofs.instructions.create_tuple.Reads as create-tuple-reads
+use Rattle.emission.proofs.instructions.decode.Reads as decode-reads
+use Rattle.emission.proofs.instructions.encode.Reads as encode-reads
+use Rattle.emission.proofs.instructions.encrypt.Reads as encrypt-reads
+use Rattle.emission.proofs.instructions.store.Reads as store-reads
 use Rattle.emission.proofs.parts_of.Reads as parts-of-reads
 use Rattle.emission.proofs.scratch.Reads as scratch-reads
 use Rattle.emission.proofs.take.Reads as take-reads
@@ -125,7 +129,7 @@ create-parts-μ-loop rows kinds code₀ emission₀ row n parts k₀ code emissi
 module _ (t : ℕ) where
   abbrev create-encryption-callees : create-encryption-lts.Claims
   create-encryption-callees =
-      (variable-reads.Asked, variable-reads.Learnt, x-reads.Asked, x-reads.Learnt, slots-reads.Asked, slots-reads.Learnt, create-key-reads.Asked, create-key-reads.Learnt, create-row-below t, create-row.Post, emit-reads.Asked, emit-reads.Learnt)
+      (variable-reads.Asked, variable-reads.Learnt, x-reads.Asked, x-reads.Learnt, slots-reads.Asked, slots-reads.Learnt, create-key-reads.Asked, create-key-reads.Learnt, create-row-below t, create-row.Post, encrypt-reads.Asked, encrypt-reads.Learnt, decode-reads.Asked, decode-reads.Learnt)
 
   create-encryption-variable-requires : create-encryption-lts.Need-variable-requires create-encryption-callees (create-encryption-at t) create-encryption.Post
   create-encryption-variable-requires c κs = search needs
@@ -150,28 +154,28 @@ module _ (t : ℕ) where
       let first = slot _ _ 0 (c .before .before .before .before .before .slots .ensures) in
       (omega (arith, c .before .before .before .before .before .before .before .before .before .pre .0, encryption-below _ _ _ (asked .0) (asked .1) _ first), encryption-inside _ _ _ (asked .0) (asked .1) _ first (c .before .before .create-key .ensures))
 
-  create-encryption-emit-requires : create-encryption-lts.Need-emit-requires create-encryption-callees (create-encryption-at t) create-encryption.Post
-  create-encryption-emit-requires c κs =
+  create-encryption-encrypt-requires : create-encryption-lts.Need-encrypt-requires create-encryption-callees (create-encryption-at t) create-encryption.Post
+  create-encryption-encrypt-requires c κs =
       let asked = c .before .before .before .before .before .before .before .before .before .before .before .before .pre .1 in
       let first = slot _ _ 0 (c .before .before .before .before .before .before .before .before .slots .ensures) in
-      (encrypt-room _ _ _ (asked .0) (asked .1) _ first (c .before .before .before .before .before .create-key .ensures) (c .before .before .create-row .ensures), tt)
+      encrypt-room _ _ _ (asked .0) (asked .1) _ first (c .before .before .before .before .before .create-key .ensures) (c .before .before .create-row .ensures)
 
-  create-encryption-emit-requires-2 : create-encryption-lts.Need-emit-requires-2 create-encryption-callees (create-encryption-at t) create-encryption.Post
-  create-encryption-emit-requires-2 c κs =
+  create-encryption-decode-requires : create-encryption-lts.Need-decode-requires create-encryption-callees (create-encryption-at t) create-encryption.Post
+  create-encryption-decode-requires c κs =
       let asked = c .before .before .before .before .before .before .before .before .before .before .before .before .before .before .before .pre .1 in
       let first = slot _ _ 0 (c .before .before .before .before .before .before .before .before .before .before .before .slots .ensures) in
-      (seal-room _ _ _ (asked .0) (asked .1) _ first (c .before .before .before .before .before .before .before .before .create-key .ensures) (c .before .before .before .before .before .create-row .ensures) (c .before .before .emit .ensures), variable-low _ _ (c .before .before .before .before .before .before .before .before .before .before .before .before .before .variable .ensures))
+      (seal-room _ _ _ (asked .0) (asked .1) _ first (c .before .before .before .before .before .before .before .before .create-key .ensures) (c .before .before .before .before .before .create-row .ensures) (c .before .before .encrypt .ensures), variable-low _ _ (c .before .before .before .before .before .before .before .before .before .before .before .before .before .variable .ensures))
 
   create-encryption-returns : create-encryption-lts.Need-returns create-encryption-callees (create-encryption-at t) create-encryption.Post
   create-encryption-returns c =
       let asked = c .before .before .before .before .before .before .before .before .before .before .before .before .before .before .before .before .pre .1 in
       let first = slot _ _ 0 (c .before .before .before .before .before .before .before .before .before .before .before .before .slots .ensures) in
       encryption-done _ _ _ (asked .0) (asked .1) _ first _ _ _ (c .before .before .before .before .before .before .before .before .before .before .before .before .before .before .variable .ensures) (c .before .before .before .before .before .before .before .before .before .before .before .before .before .x .ensures) (c .before .before .before .before .before .before .before .before .before .create-key .ensures) (c .before .before .before .before .before .before .create-row .ensures)
-      (c .before .before .before .emit .ensures) (c .emit2 .ensures)
+      (c .before .before .before .encrypt .ensures) (c .decode .ensures)
 
   abbrev create-let-callees : create-let-lts.Claims
   create-let-callees =
-      (raw-reads.Asked, raw-reads.Learnt, slots-reads.Asked, slots-reads.Learnt, create-row-below t, create-row.Post, emit-reads.Asked, emit-reads.Learnt)
+      (raw-reads.Asked, raw-reads.Learnt, slots-reads.Asked, slots-reads.Learnt, create-row-below t, create-row.Post, store-reads.Asked, store-reads.Learnt)
 
   create-let-raw-requires : create-let-lts.Need-raw-requires create-let-callees (create-let-at t) create-let.Post
   create-let-raw-requires c κs = search needs
@@ -189,12 +193,12 @@ module _ (t : ℕ) where
       let second = slot _ _ 1 (c .before .before .slots .ensures) in
       (omega (arith, c .before .before .before .before .before .pre .0, let-below _ _ _ (asked .0) (asked .1) _ first _ second .0), let-first _ _ _ (asked .0) (asked .1) _ first _ second)
 
-  create-let-emit-requires : create-let-lts.Need-emit-requires create-let-callees (create-let-at t) create-let.Post
-  create-let-emit-requires c κs =
+  create-let-store-requires : create-let-lts.Need-store-requires create-let-callees (create-let-at t) create-let.Post
+  create-let-store-requires c κs =
       let asked = c .before .before .before .before .before .before .before .before .pre .1 in
       let first = slot _ _ 0 (c .before .before .before .before .before .slots .ensures) in
       let second = slot _ _ 1 (c .before .before .before .before .before .slots .ensures) in
-      (let-store _ _ _ (asked .0) (asked .1) _ first _ second (c .before .before .create-row .ensures), tt)
+      let-store _ _ _ (asked .0) (asked .1) _ first _ second (c .before .before .create-row .ensures)
 
   create-let-array-read-create-row-2 : create-let-lts.Need-array-read-create-row-2 create-let-callees (create-let-at t) create-let.Post
   create-let-array-read-create-row-2 c = search needs
@@ -204,18 +208,18 @@ module _ (t : ℕ) where
       let asked = c .before .before .before .before .before .before .before .before .before .before .before .pre .1 in
       let first = slot _ _ 0 (c .before .before .before .before .before .before .before .before .slots .ensures) in
       let second = slot _ _ 1 (c .before .before .before .before .before .before .before .before .slots .ensures) in
-      (omega (arith, c .before .before .before .before .before .before .before .before .before .before .before .pre .0, let-below _ _ _ (asked .0) (asked .1) _ first _ second .1), let-second _ _ _ (asked .0) (asked .1) _ first _ second (c .before .before .before .before .before .create-row .ensures) (c .before .before .emit .ensures))
+      (omega (arith, c .before .before .before .before .before .before .before .before .before .before .before .pre .0, let-below _ _ _ (asked .0) (asked .1) _ first _ second .1), let-second _ _ _ (asked .0) (asked .1) _ first _ second (c .before .before .before .before .before .create-row .ensures) (c .before .before .store .ensures))
 
   create-let-returns : create-let-lts.Need-returns create-let-callees (create-let-at t) create-let.Post
   create-let-returns c =
       let asked = c .before .before .before .before .before .before .before .before .before .before .before .before .pre .1 in
       let first = slot _ _ 0 (c .before .before .before .before .before .before .before .before .before .slots .ensures) in
       let second = slot _ _ 1 (c .before .before .before .before .before .before .before .before .before .slots .ensures) in
-      let-done _ _ _ (asked .0) (asked .1) _ first _ second _ _ (c .before .before .before .before .before .before .before .before .before .before .raw .ensures) (c .before .before .before .before .before .before .create-row .ensures) (c .before .before .before .emit .ensures) (c .create-row2 .ensures)
+      let-done _ _ _ (asked .0) (asked .1) _ first _ second _ _ (c .before .before .before .before .before .before .before .before .before .before .raw .ensures) (c .before .before .before .before .before .before .create-row .ensures) (c .before .before .before .store .ensures) (c .create-row2 .ensures)
 
   abbrev create-parts-callees : create-parts-lts.Claims
   create-parts-callees =
-      (create-row-below t, create-row.Post, scratch-reads.Asked, scratch-reads.Learnt, emit-reads.Asked, emit-reads.Learnt)
+      (create-row-below t, create-row.Post, scratch-reads.Asked, scratch-reads.Learnt, store-reads.Asked, store-reads.Learnt)
 
   -- there are four parts
   parts-four : (s : create-parts-lts.Start create-parts-callees (create-parts-at t) create-parts.Post create-parts-Inv-loop create-parts-μ-loop) → length (s .args .t6) ≡ 4
@@ -248,10 +252,10 @@ module _ (t : ℕ) where
       let less = c .before .before .before .before .before .before .loop-test .taken in
       omega (arith, s .pre .1 .laid k less, s .pre .1 .cells, less)
 
-  create-parts-emit-requires : create-parts-lts.Need-emit-requires create-parts-callees (create-parts-at t) create-parts.Post create-parts-Inv-loop create-parts-μ-loop
-  create-parts-emit-requires c κs =
+  create-parts-store-requires : create-parts-lts.Need-store-requires create-parts-callees (create-parts-at t) create-parts.Post create-parts-Inv-loop create-parts-μ-loop
+  create-parts-store-requires c κs =
       let s = c .before .before .before .before .before .before .before .before .before .before in
-      (part-stores _ _ _ _ _ (parts-four s) (s .pre .1) _ (c .before .before .before .before .before .before .before .before .loop .inv) (c .before .before .before .before .before .before .before .loop-test .taken) (c .before .before .before .create-row .ensures), tt)
+      part-stores _ _ _ _ _ (parts-four s) (s .pre .1) _ (c .before .before .before .before .before .before .before .before .loop .inv) (c .before .before .before .before .before .before .before .loop-test .taken) (c .before .before .before .create-row .ensures)
 
   create-parts-add-k : create-parts-lts.Need-add-k create-parts-callees (create-parts-at t) create-parts.Post create-parts-Inv-loop create-parts-μ-loop
   create-parts-add-k c = search needs
@@ -262,7 +266,7 @@ module _ (t : ℕ) where
   create-parts-loop-again : create-parts-lts.Need-loop-again create-parts-callees (create-parts-at t) create-parts.Post create-parts-Inv-loop create-parts-μ-loop
   create-parts-loop-again c =
       let s = c .before .before .before .before .before .before .before .before .before .before .before in
-      part-done _ _ _ _ _ (parts-four s) (s .pre .1) _ (c .before .before .before .before .before .before .before .before .before .loop .inv) (c .before .before .before .before .before .before .before .before .loop-test .taken) (c .before .before .before .before .create-row .ensures) (c .before .scratch .ensures) (c .emit .ensures)
+      part-done _ _ _ _ _ (parts-four s) (s .pre .1) _ (c .before .before .before .before .before .before .before .before .before .loop .inv) (c .before .before .before .before .before .before .before .before .loop-test .taken) (c .before .before .before .before .create-row .ensures) (c .before .scratch .ensures) (c .store .ensures)
 
   create-parts-returns : create-parts-lts.Need-returns create-parts-callees (create-parts-at t) create-parts.Post create-parts-Inv-loop create-parts-μ-loop
   create-parts-returns c =
@@ -317,7 +321,7 @@ module _ (t : ℕ) where
 
   abbrev create-tuple-callees : create-tuple-lts.Claims
   create-tuple-callees =
-      (variable-reads.Asked, variable-reads.Learnt, count-reads.Asked, count-reads.Learnt, take-reads.Asked, take-reads.Learnt, slots-reads.Asked, slots-reads.Learnt, parts-of-reads.Asked, parts-of-reads.Learnt, create-parts-below t, create-parts.Post, scratch-reads.Asked, scratch-reads.Learnt, emit-reads.Asked, emit-reads.Learnt)
+      (variable-reads.Asked, variable-reads.Learnt, count-reads.Asked, count-reads.Learnt, take-reads.Asked, take-reads.Learnt, slots-reads.Asked, slots-reads.Learnt, parts-of-reads.Asked, parts-of-reads.Learnt, create-parts-below t, create-parts.Post, scratch-reads.Asked, scratch-reads.Learnt, create-tuple-reads.Asked, create-tuple-reads.Learnt, encode-reads.Asked, encode-reads.Learnt)
 
   create-tuple-variable-requires : create-tuple-lts.Need-variable-requires create-tuple-callees (create-tuple-at t) create-tuple.Post
   create-tuple-variable-requires c κs = search needs
@@ -345,23 +349,23 @@ module _ (t : ℕ) where
   create-tuple-scratch-requires : create-tuple-lts.Need-scratch-requires create-tuple-callees (create-tuple-at t) create-tuple.Post
   create-tuple-scratch-requires c κs = omega (arith, c .before .before .before .before .before .take .ensures .0, leaf-room _ _ _ _ (c .before .before .before .before .before .before .before .before .before .before .pre .1 .0) .free)
 
-  create-tuple-emit-requires : create-tuple-lts.Need-emit-requires create-tuple-callees (create-tuple-at t) create-tuple.Post
-  create-tuple-emit-requires c κs =
+  create-tuple-create-tuple-requires : create-tuple-lts.Need-create-tuple-requires create-tuple-callees (create-tuple-at t) create-tuple.Post
+  create-tuple-create-tuple-requires c κs =
       let asked = c .before .before .before .before .before .before .before .before .before .before .before .before .before .pre .1 in
       let taken = c .before .before .before .before .before .before .before .before .take .ensures in
       (tuple-create _ _ _ (asked .0) (asked .1) _ (c .before .before .before .before .before .before .before .before .before .before .count .ensures) _ (c .before .before .before .before .before .slots .ensures) _ _ (c .before .before .before .before .parts-of .ensures) (taken .0) (taken .1) _ (c .before .before .before .create-parts .ensures), variable-low _ _ (c .before .before .before .before .before .before .before .before .before .before .before .variable .ensures))
 
-  create-tuple-emit-requires-2 : create-tuple-lts.Need-emit-requires-2 create-tuple-callees (create-tuple-at t) create-tuple.Post
-  create-tuple-emit-requires-2 c κs =
+  create-tuple-encode-requires : create-tuple-lts.Need-encode-requires create-tuple-callees (create-tuple-at t) create-tuple.Post
+  create-tuple-encode-requires c κs =
       let asked = c .before .before .before .before .before .before .before .before .before .before .before .before .before .before .before .before .pre .1 in
       let taken = c .before .before .before .before .before .before .before .before .before .before .before .take .ensures in
-      (tuple-encode _ _ _ (asked .0) (asked .1) _ (c .before .before .before .before .before .before .before .before .before .before .before .before .before .count .ensures) _ (c .before .before .before .before .before .before .before .before .slots .ensures) _ _ (c .before .before .before .before .before .before .before .parts-of .ensures) (taken .0) (taken .1) _ (c .before .before .before .before .before .before .create-parts .ensures) (c .before .before .emit .ensures), tt)
+      tuple-encode _ _ _ (asked .0) (asked .1) _ (c .before .before .before .before .before .before .before .before .before .before .before .before .before .count .ensures) _ (c .before .before .before .before .before .before .before .before .slots .ensures) _ _ (c .before .before .before .before .before .before .before .parts-of .ensures) (taken .0) (taken .1) _ (c .before .before .before .before .before .before .create-parts .ensures) (c .before .before .create-tuple .ensures)
 
   create-tuple-returns : create-tuple-lts.Need-returns create-tuple-callees (create-tuple-at t) create-tuple.Post
   create-tuple-returns c =
       let asked = c .before .before .before .before .before .before .before .before .before .before .before .before .before .before .before .before .before .pre .1 in
       let taken = c .before .before .before .before .before .before .before .before .before .before .before .before .take .ensures in
-      tuple-done _ _ _ (asked .0) (asked .1) _ (c .before .before .before .before .before .before .before .before .before .before .before .before .before .before .count .ensures) _ (c .before .before .before .before .before .before .before .before .before .slots .ensures) _ _ (c .before .before .before .before .before .before .before .before .parts-of .ensures) (taken .0) (taken .1) _ _ _ (c .before .before .before .before .before .before .before .before .before .before .before .before .before .before .before .variable .ensures) (c .before .before .before .before .before .before .scratch .ensures) (c .before .before .before .before .before .before .before .create-parts .ensures) (c .before .before .before .emit .ensures) (c .emit2 .ensures)
+      tuple-done _ _ _ (asked .0) (asked .1) _ (c .before .before .before .before .before .before .before .before .before .before .before .before .before .before .count .ensures) _ (c .before .before .before .before .before .before .before .before .before .slots .ensures) _ _ (c .before .before .before .before .before .before .before .before .parts-of .ensures) (taken .0) (taken .1) _ _ _ (c .before .before .before .before .before .before .before .before .before .before .before .before .before .before .before .variable .ensures) (c .before .before .before .before .before .before .scratch .ensures) (c .before .before .before .before .before .before .before .create-parts .ensures) (c .before .before .before .create-tuple .ensures) (c .encode .ensures)
 
 pub +create-encryption+create-let+create-parts+create-row+create-tuple-spec :
     {M : Type 1} → statement M
@@ -381,8 +385,8 @@ pub +create-encryption+create-let+create-parts+create-row+create-tuple-spec :
     (create-encryption-create-key-requires t)
     (create-encryption-array-read-create-row t)
     (create-encryption-create-row-requires t)
-    (create-encryption-emit-requires t)
-    (create-encryption-emit-requires-2 t)
+    (create-encryption-encrypt-requires t)
+    (create-encryption-decode-requires t)
     (create-encryption-returns t))
     (λ t. create-let-lts.spec (create-let-callees t)
     (create-let-at t)
@@ -391,7 +395,7 @@ pub +create-encryption+create-let+create-parts+create-row+create-tuple-spec :
     (create-let-slots-requires t)
     (create-let-array-read-create-row t)
     (create-let-create-row-requires t)
-    (create-let-emit-requires t)
+    (create-let-store-requires t)
     (create-let-array-read-create-row-2 t)
     (create-let-create-row-requires-2 t)
     (create-let-returns t))
@@ -406,7 +410,7 @@ pub +create-encryption+create-let+create-parts+create-row+create-tuple-spec :
     (create-parts-array-copy-out-part t)
     (create-parts-create-row-requires t)
     (create-parts-scratch-requires t)
-    (create-parts-emit-requires t)
+    (create-parts-store-requires t)
     (create-parts-add-k t)
     (create-parts-loop-less t)
     (create-parts-loop-again t)
@@ -435,6 +439,6 @@ pub +create-encryption+create-let+create-parts+create-row+create-tuple-spec :
     (create-tuple-parts-of-requires t)
     (create-tuple-create-parts-requires t)
     (create-tuple-scratch-requires t)
-    (create-tuple-emit-requires t)
-    (create-tuple-emit-requires-2 t)
+    (create-tuple-create-tuple-requires t)
+    (create-tuple-encode-requires t)
     (create-tuple-returns t)

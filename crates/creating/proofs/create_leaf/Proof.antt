@@ -15,8 +15,8 @@ create-object-requires c κs = search leaf-asks
 raw-requires : tie.Need-raw-requires
 raw-requires c κs = search needs
 
-emit-requires : tie.Need-emit-requires
-emit-requires c κs = search leaf-asks
+load-requires : tie.Need-load-requires
+load-requires c κs = search leaf-asks
 
 x-requires : tie.Need-x-requires
 x-requires c κs = search needs
@@ -78,7 +78,7 @@ create-leaf-spec =
     variable-requires
     create-object-requires
     raw-requires
-    emit-requires
+    load-requires
     x-requires
     create-constant-requires
     y-requires

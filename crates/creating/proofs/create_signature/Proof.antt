@@ -16,14 +16,14 @@ raw-requires c κs = search needs
 create-key-requires : tie.Need-create-key-requires
 create-key-requires c κs = let s = c .before .before .before .before .before .before in (signature-key _ _ _ (s .pre .0) (s .pre .1), key-room _ _ _ (s .pre .0))
 
-emit-requires : tie.Need-emit-requires
-emit-requires c κs = (body-room _ _ _ (c .before .before .before .before .before .before .before .before .before .pre .0) (c .before .before .create-key .ensures), tt)
+load-requires : tie.Need-load-requires
+load-requires c κs = body-room _ _ _ (c .before .before .before .before .before .before .before .before .before .pre .0) (c .before .before .create-key .ensures)
 
-emit-requires-2 : tie.Need-emit-requires-2
-emit-requires-2 c κs = (sign-room _ _ _ (c .before .before .before .before .before .before .before .before .before .before .before .before .pre .0) (c .before .before .before .before .before .create-key .ensures) (c .before .before .emit .ensures), tt)
+sign-requires : tie.Need-sign-requires
+sign-requires c κs = sign-room _ _ _ (c .before .before .before .before .before .before .before .before .before .before .before .before .pre .0) (c .before .before .before .before .before .create-key .ensures) (c .before .before .load .ensures)
 
-emit-requires-3 : tie.Need-emit-requires-3
-emit-requires-3 c κs = (decode-room _ _ _ (c .before .before .before .before .before .before .before .before .before .before .before .before .before .before .before .pre .0) (c .before .before .before .before .before .before .before .before .create-key .ensures) (c .before .before .before .before .before .emit .ensures) (c .before .before .emit2 .ensures), variable-low _ _ (c .before .before .before .before .before .before .before .before .before .before .before .before .before .variable .ensures))
+decode-requires : tie.Need-decode-requires
+decode-requires c κs = (decode-room _ _ _ (c .before .before .before .before .before .before .before .before .before .before .before .before .before .before .before .pre .0) (c .before .before .before .before .before .before .before .before .create-key .ensures) (c .before .before .before .before .before .load .ensures) (c .before .before .sign .ensures), variable-low _ _ (c .before .before .before .before .before .before .before .before .before .before .before .before .before .variable .ensures))
 
 returns : tie.Need-returns
 returns c = search (signed)
@@ -36,7 +36,7 @@ create-signature-spec =
     x-requires
     raw-requires
     create-key-requires
-    emit-requires
-    emit-requires-2
-    emit-requires-3
+    load-requires
+    sign-requires
+    decode-requires
     returns)

@@ -26,7 +26,10 @@ use Rattle.matching.proofs.+match_encryption+match_let+match_parts+matc
 use Rattle.matching.proofs.match_tuple.Reads as match-tuple
 use Rattle.matching.proofs.match_tuple.Kinds as match-tuple-kinds
 use Rattle.matching.proofs.+match_encryption+match_let+match_parts+match_row+match_tuple.Lts-match_tuple as match-tuple-lts
-use Rattle.emission.proofs.emit.Reads as emit-reads
+use Rattle.emission.proofs.instructions.analyze_tuple.Reads as analyze-tuple-reads
+use Rattle.emission.proofs.instructions.decode.Reads as decode-reads
+use Rattle.emission.proofs.instructions.decrypt.Reads as decrypt-reads
+use Rattle.emission.proofs.instructions.load.Reads as load-reads
 use Rattle.emission.proofs.free_raw.Reads as free-raw-reads
 use Rattle.emission.proofs.parts_of.Reads as parts-of-reads
 use Rattle.emission.proofs.scratch.Reads as scratch-reads
@@ -117,7 +120,7 @@ match-parts-μ-loop rows code₀ emission₀ row n parts k₀ code emission k = 
 module _ (t : ℕ) where
   abbrev match-encryption-callees : match-encryption-lts.Claims
   match-encryption-callees =
-      (key-form-reads.Asked, key-form-reads.Learnt, variable-reads.Asked, variable-reads.Learnt, emit-reads.Asked, emit-reads.Learnt, x-reads.Asked, x-reads.Learnt, slots-reads.Asked, slots-reads.Learnt, match-row-below t, match-row.Post, wrong-kind-reads.Asked, wrong-kind-reads.Learnt)
+      (key-form-reads.Asked, key-form-reads.Learnt, variable-reads.Asked, variable-reads.Learnt, decode-reads.Asked, decode-reads.Learnt, x-reads.Asked, x-reads.Learnt, decrypt-reads.Asked, decrypt-reads.Learnt, slots-reads.Asked, slots-reads.Learnt, match-row-below t, match-row.Post, wrong-kind-reads.Asked, wrong-kind-reads.Learnt)
 
   match-encryption-key-form-requires : match-encryption-lts.Need-key-form-requires match-encryption-callees (match-encryption-at t) match-encryption.Post
   match-encryption-key-form-requires c κs = search needs
@@ -125,14 +128,14 @@ module _ (t : ℕ) where
   match-encryption-variable-requires : match-encryption-lts.Need-variable-requires match-encryption-callees (match-encryption-at t) match-encryption.Post
   match-encryption-variable-requires c κs = search needs
 
-  match-encryption-emit-requires : match-encryption-lts.Need-emit-requires match-encryption-callees (match-encryption-at t) match-encryption.Post
-  match-encryption-emit-requires c κs = (room-le (lit≤ tt) (lit≤ tt) (leaf-room _ _ _ _ (c .before .before .before .before .before .pre .1 .0)), variable-low _ _ (c .variable .ensures))
+  match-encryption-decode-requires : match-encryption-lts.Need-decode-requires match-encryption-callees (match-encryption-at t) match-encryption.Post
+  match-encryption-decode-requires c κs = (room-le (lit≤ tt) (lit≤ tt) (leaf-room _ _ _ _ (c .before .before .before .before .before .pre .1 .0)), variable-low _ _ (c .variable .ensures))
 
   match-encryption-x-requires : match-encryption-lts.Need-x-requires match-encryption-callees (match-encryption-at t) match-encryption.Post
   match-encryption-x-requires c κs = search needs
 
-  match-encryption-emit-requires-2 : match-encryption-lts.Need-emit-requires-2 match-encryption-callees (match-encryption-at t) match-encryption.Post
-  match-encryption-emit-requires-2 c κs = (room-then (lit≤ tt) (lit≤ tt) (leaf-room _ _ _ _ (c .before .before .before .before .before .before .before .before .before .pre .1 .0)) (c .before .before .before .emit .ensures), tt)
+  match-encryption-decrypt-requires : match-encryption-lts.Need-decrypt-requires match-encryption-callees (match-encryption-at t) match-encryption.Post
+  match-encryption-decrypt-requires c κs = room-then (lit≤ tt) (lit≤ tt) (leaf-room _ _ _ _ (c .before .before .before .before .before .before .before .before .before .pre .1 .0)) (c .before .before .before .decode .ensures)
 
   match-encryption-slots-requires : match-encryption-lts.Need-slots-requires match-encryption-callees (match-encryption-at t) match-encryption.Post
   match-encryption-slots-requires c κs = search needs
@@ -144,7 +147,7 @@ module _ (t : ℕ) where
   match-encryption-match-row-requires c κs =
       let s = c .before .before .before .before .before .before .before .before .before .before .before .before .before in
       let child = ap (λ (l : List ℕ). getD l 0 0) (c .before .before .slots .ensures) in
-      (omega (arith, s .pre .0, encryption-below _ _ _ (s .pre .1 .0) (s .pre .1 .1) _ child), encryption-asks _ _ _ (s .pre .1 .0) (s .pre .1 .1) _ child (c .before .before .before .before .before .before .before .emit .ensures) (c .before .before .before .emit2 .ensures))
+      (omega (arith, s .pre .0, encryption-below _ _ _ (s .pre .1 .0) (s .pre .1 .1) _ child), encryption-asks _ _ _ (s .pre .1 .0) (s .pre .1 .1) _ child (c .before .before .before .before .before .before .before .decode .ensures) (c .before .before .before .decrypt .ensures))
 
   match-encryption-wrong-kind-requires : match-encryption-lts.Need-wrong-kind-requires match-encryption-callees (match-encryption-at t) match-encryption.Post
   match-encryption-wrong-kind-requires c κs = c .before .before .before .pre .1 .0 .whole .room .long
@@ -154,7 +157,7 @@ module _ (t : ℕ) where
       let s = c .before .before .before .before .before .before .before .before .before .before .before .before .before .before in
       let child = ap (λ (l : List ℕ). getD l 0 0) (c .before .before .before .slots .ensures) in
       encryption-done _ _ _ (s .pre .1 .0) (s .pre .1 .1) _ child _ (c .before .before .before .before .before .before .before .before .before .before .before .before .before .key-form .ensures) _ _ (c .before .before .before .before .before .before .before .before .before .variable .ensures) (c .before .before .before .before .before .x .ensures) (c .before .before .before .before .before .before .before .before .before .before .before .before .if1 .taken)
-      (c .before .before .before .before .before .before .before .before .emit .ensures) (c .before .before .before .before .emit2 .ensures) (c .match-row .ensures)
+      (c .before .before .before .before .before .before .before .before .decode .ensures) (c .before .before .before .before .decrypt .ensures) (c .match-row .ensures)
 
   match-encryption-returns-2 : match-encryption-lts.Need-returns-2 match-encryption-callees (match-encryption-at t) match-encryption.Post
   match-encryption-returns-2 c =
@@ -163,7 +166,7 @@ module _ (t : ℕ) where
 
   abbrev match-let-callees : match-let-lts.Claims
   match-let-callees =
-      (raw-reads.Asked, raw-reads.Learnt, slots-reads.Asked, slots-reads.Learnt, free-raw-reads.Asked, free-raw-reads.Learnt, match-row-below t, match-row.Post, emit-reads.Asked, emit-reads.Learnt)
+      (raw-reads.Asked, raw-reads.Learnt, slots-reads.Asked, slots-reads.Learnt, free-raw-reads.Asked, free-raw-reads.Learnt, match-row-below t, match-row.Post, load-reads.Asked, load-reads.Learnt)
 
   match-let-raw-requires : match-let-lts.Need-raw-requires match-let-callees (match-let-at t) match-let.Post
   match-let-raw-requires c κs = search needs
@@ -182,10 +185,10 @@ module _ (t : ℕ) where
       let s = c .before .before .before .before .before .before in
       (omega (arith, s .pre .0, let-below _ _ _ (s .pre .1 .0) (s .pre .1 .1) _ (c .before .before .before .before .slots .ensures)), let-second _ _ _ (s .pre .1 .0) (s .pre .1 .1) _ (c .before .before .before .before .slots .ensures) (c .before .before .free-raw .ensures))
 
-  match-let-emit-requires : match-let-lts.Need-emit-requires match-let-callees (match-let-at t) match-let.Post
-  match-let-emit-requires c κs =
+  match-let-load-requires : match-let-lts.Need-load-requires match-let-callees (match-let-at t) match-let.Post
+  match-let-load-requires c κs =
       let s = c .before .before .before .before .before .before .before .before .before in
-      (let-loads _ _ _ (s .pre .1 .0) (s .pre .1 .1) _ (c .before .before .before .before .before .before .before .slots .ensures) (c .before .before .before .before .before .free-raw .ensures) (c .before .before .match-row .ensures), tt)
+      let-loads _ _ _ (s .pre .1 .0) (s .pre .1 .1) _ (c .before .before .before .before .before .before .before .slots .ensures) (c .before .before .before .before .before .free-raw .ensures) (c .before .before .match-row .ensures)
 
   match-let-array-read-match-row-2 : match-let-lts.Need-array-read-match-row-2 match-let-callees (match-let-at t) match-let.Post
   match-let-array-read-match-row-2 c = search needs
@@ -193,16 +196,16 @@ module _ (t : ℕ) where
   match-let-match-row-requires-2 : match-let-lts.Need-match-row-requires-2 match-let-callees (match-let-at t) match-let.Post
   match-let-match-row-requires-2 c κs =
       let s = c .before .before .before .before .before .before .before .before .before .before .before .before in
-      (omega (arith, s .pre .0, let-below _ _ _ (s .pre .1 .0) (s .pre .1 .1) _ (c .before .before .before .before .before .before .before .before .before .before .slots .ensures)), let-first _ _ _ (s .pre .1 .0) (s .pre .1 .1) _ (c .before .before .before .before .before .before .before .before .before .before .slots .ensures) (c .before .before .before .before .before .before .before .before .free-raw .ensures) (c .before .before .before .before .before .match-row .ensures) (c .before .before .emit .ensures))
+      (omega (arith, s .pre .0, let-below _ _ _ (s .pre .1 .0) (s .pre .1 .1) _ (c .before .before .before .before .before .before .before .before .before .before .slots .ensures)), let-first _ _ _ (s .pre .1 .0) (s .pre .1 .1) _ (c .before .before .before .before .before .before .before .before .before .before .slots .ensures) (c .before .before .before .before .before .before .before .before .free-raw .ensures) (c .before .before .before .before .before .match-row .ensures) (c .before .before .load .ensures))
 
   match-let-returns : match-let-lts.Need-returns match-let-callees (match-let-at t) match-let.Post
   match-let-returns c =
       let s = c .before .before .before .before .before .before .before .before .before .before .before .before .before in
-      let-done _ _ _ (s .pre .1 .0) (s .pre .1 .1) _ (c .before .before .before .before .before .before .before .before .before .before .before .slots .ensures) (c .before .before .before .before .before .before .before .before .before .free-raw .ensures) (c .before .before .before .before .before .before .match-row .ensures) (c .before .before .before .emit .ensures) (c .before .before .before .before .before .before .before .before .before .before .before .before .raw .ensures) (c .match-row2 .ensures)
+      let-done _ _ _ (s .pre .1 .0) (s .pre .1 .1) _ (c .before .before .before .before .before .before .before .before .before .before .before .slots .ensures) (c .before .before .before .before .before .before .before .before .before .free-raw .ensures) (c .before .before .before .before .before .before .match-row .ensures) (c .before .before .before .load .ensures) (c .before .before .before .before .before .before .before .before .before .before .before .before .raw .ensures) (c .match-row2 .ensures)
 
   abbrev match-parts-callees : match-parts-lts.Claims
   match-parts-callees =
-      (scratch-reads.Asked, scratch-reads.Learnt, emit-reads.Asked, emit-reads.Learnt, match-row-below t, match-row.Post)
+      (scratch-reads.Asked, scratch-reads.Learnt, load-reads.Asked, load-reads.Learnt, match-row-below t, match-row.Post)
 
   -- there are four parts
   parts-four : (s : match-parts-lts.Start match-parts-callees (match-parts-at t) match-parts.Post match-parts-Inv-loop match-parts-μ-loop) → length (s .args .t5) ≡ 4
@@ -227,16 +230,16 @@ module _ (t : ℕ) where
       let less = c .before .before .before .loop-test .taken in
       omega (arith, s .pre .1 .laid k less, s .pre .1 .cells, less)
 
-  match-parts-emit-requires : match-parts-lts.Need-emit-requires match-parts-callees (match-parts-at t) match-parts.Post match-parts-Inv-loop match-parts-μ-loop
-  match-parts-emit-requires c κs =
+  match-parts-load-requires : match-parts-lts.Need-load-requires match-parts-callees (match-parts-at t) match-parts.Post match-parts-Inv-loop match-parts-μ-loop
+  match-parts-load-requires c κs =
       let s = c .before .before .before .before .before .before in
-      (part-loads _ _ _ _ (parts-four s) (s .pre .1) _ (c .before .before .before .before .before .loop .inv) (c .before .before .before .before .loop-test .taken), tt)
+      part-loads _ _ _ _ (parts-four s) (s .pre .1) _ (c .before .before .before .before .before .loop .inv) (c .before .before .before .before .loop-test .taken)
 
   match-parts-match-row-requires : match-parts-lts.Need-match-row-requires match-parts-callees (match-parts-at t) match-parts.Post match-parts-Inv-loop match-parts-μ-loop
   match-parts-match-row-requires c κs =
       let s = c .before .before .before .before .before .before .before .before .before in
       let less = c .before .before .before .before .before .before .before .loop-test .taken in
-      (omega (arith, s .pre .0, s .pre .1 .below _ less), part-asks _ _ _ _ (parts-four s) (s .pre .1) _ (c .before .before .before .before .before .before .before .before .loop .inv) less (c .before .before .before .scratch .ensures) (c .before .before .emit .ensures))
+      (omega (arith, s .pre .0, s .pre .1 .below _ less), part-asks _ _ _ _ (parts-four s) (s .pre .1) _ (c .before .before .before .before .before .before .before .before .loop .inv) less (c .before .before .before .scratch .ensures) (c .before .before .load .ensures))
 
   match-parts-add-k : match-parts-lts.Need-add-k match-parts-callees (match-parts-at t) match-parts.Post match-parts-Inv-loop match-parts-μ-loop
   match-parts-add-k c = search needs
@@ -247,7 +250,7 @@ module _ (t : ℕ) where
   match-parts-loop-again : match-parts-lts.Need-loop-again match-parts-callees (match-parts-at t) match-parts.Post match-parts-Inv-loop match-parts-μ-loop
   match-parts-loop-again c =
       let s = c .before .before .before .before .before .before .before .before .before .before in
-      part-done _ _ _ _ (parts-four s) (s .pre .1) _ (c .before .before .before .before .before .before .before .before .before .loop .inv) (c .before .before .before .before .before .before .before .before .loop-test .taken) (c .before .before .before .before .scratch .ensures) (c .before .before .before .emit .ensures) (c .match-row .ensures)
+      part-done _ _ _ _ (parts-four s) (s .pre .1) _ (c .before .before .before .before .before .before .before .before .before .loop .inv) (c .before .before .before .before .before .before .before .before .loop-test .taken) (c .before .before .before .before .scratch .ensures) (c .before .before .before .load .ensures) (c .match-row .ensures)
 
   match-parts-returns : match-parts-lts.Need-returns match-parts-callees (match-parts-at t) match-parts.Post match-parts-Inv-loop match-parts-μ-loop
   match-parts-returns c =
@@ -303,7 +306,7 @@ module _ (t : ℕ) where
 
   abbrev match-tuple-callees : match-tuple-lts.Claims
   match-tuple-callees =
-      (variable-reads.Asked, variable-reads.Learnt, count-reads.Asked, count-reads.Learnt, emit-reads.Asked, emit-reads.Learnt, take-reads.Asked, take-reads.Learnt, scratch-reads.Asked, scratch-reads.Learnt, slots-reads.Asked, slots-reads.Learnt, parts-of-reads.Asked, parts-of-reads.Learnt, match-parts-below t, match-parts.Post)
+      (variable-reads.Asked, variable-reads.Learnt, count-reads.Asked, count-reads.Learnt, decode-reads.Asked, decode-reads.Learnt, take-reads.Asked, take-reads.Learnt, scratch-reads.Asked, scratch-reads.Learnt, analyze-tuple-reads.Asked, analyze-tuple-reads.Learnt, slots-reads.Asked, slots-reads.Learnt, parts-of-reads.Asked, parts-of-reads.Learnt, match-parts-below t, match-parts.Post)
 
   match-tuple-variable-requires : match-tuple-lts.Need-variable-requires match-tuple-callees (match-tuple-at t) match-tuple.Post
   match-tuple-variable-requires c κs = search needs
@@ -311,24 +314,24 @@ module _ (t : ℕ) where
   match-tuple-count-requires : match-tuple-lts.Need-count-requires match-tuple-callees (match-tuple-at t) match-tuple.Post
   match-tuple-count-requires c κs = search needs
 
-  match-tuple-emit-requires : match-tuple-lts.Need-emit-requires match-tuple-callees (match-tuple-at t) match-tuple.Post
-  match-tuple-emit-requires c κs = (room-le (lit≤ tt) (lit≤ tt) (leaf-room _ _ _ _ (c .before .before .before .before .pre .1 .0)), variable-low _ _ (c .before .before .before .variable .ensures))
+  match-tuple-decode-requires : match-tuple-lts.Need-decode-requires match-tuple-callees (match-tuple-at t) match-tuple.Post
+  match-tuple-decode-requires c κs = (room-le (lit≤ tt) (lit≤ tt) (leaf-room _ _ _ _ (c .before .before .before .before .pre .1 .0)), variable-low _ _ (c .before .before .before .variable .ensures))
 
   match-tuple-take-requires : match-tuple-lts.Need-take-requires match-tuple-callees (match-tuple-at t) match-tuple.Post
   match-tuple-take-requires c κs =
       let room = leaf-room _ _ _ _ (c .before .before .before .before .before .before .pre .1 .0) in
-      let k = c .before .emit .ensures in
+      let k = c .before .decode .ensures in
       (k .long ∙ room .long, omega (arith, room .free, k .free))
 
   match-tuple-scratch-requires : match-tuple-lts.Need-scratch-requires match-tuple-callees (match-tuple-at t) match-tuple.Post
   match-tuple-scratch-requires c κs =
       let room = leaf-room _ _ _ _ (c .before .before .before .before .before .before .before .before .before .pre .1 .0) in
-      omega (arith, room .free, c .before .before .before .before .emit .ensures .free, c .before .before .take .ensures .0)
+      omega (arith, room .free, c .before .before .before .before .decode .ensures .free, c .before .before .take .ensures .0)
 
-  match-tuple-emit-requires-2 : match-tuple-lts.Need-emit-requires-2 match-tuple-callees (match-tuple-at t) match-tuple.Post
-  match-tuple-emit-requires-2 c κs =
+  match-tuple-analyze-tuple-requires : match-tuple-lts.Need-analyze-tuple-requires match-tuple-callees (match-tuple-at t) match-tuple.Post
+  match-tuple-analyze-tuple-requires c κs =
       let s = c .before .before .before .before .before .before .before .before .before .before in
-      (tuple-analyzes _ _ _ (s .pre .1 .0) (s .pre .1 .1) _ (c .before .before .before .before .before .before .before .before .count .ensures) (c .before .before .before .before .before .emit .ensures) (c .before .before .before .take .ensures .1), tt)
+      tuple-analyzes _ _ _ (s .pre .1 .0) (s .pre .1 .1) _ (c .before .before .before .before .before .before .before .before .count .ensures) (c .before .before .before .before .before .decode .ensures) (c .before .before .before .take .ensures .1)
 
   match-tuple-slots-requires : match-tuple-lts.Need-slots-requires match-tuple-callees (match-tuple-at t) match-tuple.Post
   match-tuple-slots-requires c κs = search needs
@@ -336,21 +339,21 @@ module _ (t : ℕ) where
   match-tuple-parts-of-requires : match-tuple-lts.Need-parts-of-requires match-tuple-callees (match-tuple-at t) match-tuple.Post
   match-tuple-parts-of-requires c κs =
       let room = leaf-room _ _ _ _ (c .before .before .before .before .before .before .before .before .before .before .before .before .before .before .pre .1 .0) in
-      omega (arith, room .free, c .before .before .before .before .before .before .before .before .before .emit .ensures .free, c .before .before .before .before .before .before .before .take .ensures .0)
+      omega (arith, room .free, c .before .before .before .before .before .before .before .before .before .decode .ensures .free, c .before .before .before .before .before .before .before .take .ensures .0)
 
   match-tuple-match-parts-requires : match-tuple-lts.Need-match-parts-requires match-tuple-callees (match-tuple-at t) match-tuple.Post
   match-tuple-match-parts-requires c κs =
       let s = c .before .before .before .before .before .before .before .before .before .before .before .before .before .before .before in (
         omega (arith, s .pre .0),
-        tuple-parts _ _ _ (s .pre .1 .0) (s .pre .1 .1) _ (c .before .before .before .before .before .before .before .before .before .before .before .before .before .count .ensures) _ (c .before .slots .ensures) _ _ (c .parts-of .ensures) (c .before .before .before .before .before .before .before .before .before .before .emit .ensures)
-            (c .before .before .before .before .before .before .before .before .take .ensures .0) (c .before .before .before .before .before .before .before .before .take .ensures .1) (c .before .before .before .before .emit2 .ensures),
+        tuple-parts _ _ _ (s .pre .1 .0) (s .pre .1 .1) _ (c .before .before .before .before .before .before .before .before .before .before .before .before .before .count .ensures) _ (c .before .slots .ensures) _ _ (c .parts-of .ensures) (c .before .before .before .before .before .before .before .before .before .before .decode .ensures)
+            (c .before .before .before .before .before .before .before .before .take .ensures .0) (c .before .before .before .before .before .before .before .before .take .ensures .1) (c .before .before .before .before .analyze-tuple .ensures),
       )
 
   match-tuple-returns : match-tuple-lts.Need-returns match-tuple-callees (match-tuple-at t) match-tuple.Post
   match-tuple-returns c =
       let s = c .before .before .before .before .before .before .before .before .before .before .before .before .before .before .before .before in
       tuple-done _ _ _ (s .pre .1 .0) (s .pre .1 .1) _ (c .before .before .before .before .before .before .before .before .before .before .before .before .before .before .count .ensures) _ (c .before .before .slots .ensures) _ _ (c .before .parts-of .ensures) _ _ (c .before .before .before .before .before .before .before .before .before .before .before .before .before .before .before .variable .ensures) (c .before .before .before .before .before .before .scratch .ensures)
-      (c .before .before .before .before .before .before .before .before .before .before .before .emit .ensures) (c .before .before .before .before .before .before .before .before .before .take .ensures .0) (c .before .before .before .before .before .before .before .before .before .take .ensures .1) (c .before .before .before .before .before .emit2 .ensures) (c .match-parts .ensures)
+      (c .before .before .before .before .before .before .before .before .before .before .before .decode .ensures) (c .before .before .before .before .before .before .before .before .before .take .ensures .0) (c .before .before .before .before .before .before .before .before .before .take .ensures .1) (c .before .before .before .before .before .analyze-tuple .ensures) (c .match-parts .ensures)
 
 pub +match-encryption+match-let+match-parts+match-row+match-tuple-spec : {M : Type 1} → statement M
 +match-encryption+match-let+match-parts+match-row+match-tuple-spec =
@@ -365,9 +368,9 @@ pub +match-encryption+match-let+match-parts+match-row+match-tuple-spec : {M : Ty
     match-encryption.Post
     (match-encryption-key-form-requires t)
     (match-encryption-variable-requires t)
-    (match-encryption-emit-requires t)
+    (match-encryption-decode-requires t)
     (match-encryption-x-requires t)
-    (match-encryption-emit-requires-2 t)
+    (match-encryption-decrypt-requires t)
     (match-encryption-slots-requires t)
     (match-encryption-array-read-match-row t)
     (match-encryption-match-row-requires t)
@@ -382,7 +385,7 @@ pub +match-encryption+match-let+match-parts+match-row+match-tuple-spec : {M : Ty
     (match-let-free-raw-requires t)
     (match-let-array-read-match-row t)
     (match-let-match-row-requires t)
-    (match-let-emit-requires t)
+    (match-let-load-requires t)
     (match-let-array-read-match-row-2 t)
     (match-let-match-row-requires-2 t)
     (match-let-returns t))
@@ -396,7 +399,7 @@ pub +match-encryption+match-let+match-parts+match-row+match-tuple-spec : {M : Ty
     (match-parts-mul-part t)
     (match-parts-array-copy-out-part t)
     (match-parts-scratch-requires t)
-    (match-parts-emit-requires t)
+    (match-parts-load-requires t)
     (match-parts-match-row-requires t)
     (match-parts-add-k t)
     (match-parts-loop-less t)
@@ -421,10 +424,10 @@ pub +match-encryption+match-let+match-parts+match-row+match-tuple-spec : {M : Ty
     match-tuple.Post
     (match-tuple-variable-requires t)
     (match-tuple-count-requires t)
-    (match-tuple-emit-requires t)
+    (match-tuple-decode-requires t)
     (match-tuple-take-requires t)
     (match-tuple-scratch-requires t)
-    (match-tuple-emit-requires-2 t)
+    (match-tuple-analyze-tuple-requires t)
     (match-tuple-slots-requires t)
     (match-tuple-parts-of-requires t)
     (match-tuple-match-parts-requires t)

@@ -8,8 +8,8 @@ use Rattle.matching.proofs.match_signature.Tie as tie
 variable-requires : tie.Need-variable-requires
 variable-requires c κs = search needs
 
-emit-requires : tie.Need-emit-requires
-emit-requires c κs = (room-le (lit≤ tt) (lit≤ tt) (leaf-room _ _ _ _ (c .before .before .before .pre .0)), variable-low _ _ (c .variable .ensures))
+decode-requires : tie.Need-decode-requires
+decode-requires c κs = (room-le (lit≤ tt) (lit≤ tt) (leaf-room _ _ _ _ (c .before .before .before .pre .0)), variable-low _ _ (c .variable .ensures))
 
 x-requires : tie.Need-x-requires
 x-requires c κs = search needs
@@ -20,8 +20,8 @@ raw-requires c κs = search needs
 key-form-requires : tie.Need-key-form-requires
 key-form-requires c κs = search needs
 
-emit-requires-2 : tie.Need-emit-requires-2
-emit-requires-2 c κs = (room-then (lit≤ tt) (lit≤ tt) (leaf-room _ _ _ _ (c .before .before .before .before .before .before .before .before .before .before .pre .0)) (c .before .before .before .before .before .before .emit .ensures), tt)
+verify-requires : tie.Need-verify-requires
+verify-requires c κs = room-then (lit≤ tt) (lit≤ tt) (leaf-room _ _ _ _ (c .before .before .before .before .before .before .before .before .before .before .pre .0)) (c .before .before .before .before .before .before .decode .ensures)
 
 y-requires : tie.Need-y-requires
 y-requires c κs = search needs
@@ -29,7 +29,7 @@ y-requires c κs = search needs
 verify-opposite-requires : tie.Need-verify-opposite-requires
 verify-opposite-requires c κs =
     let s = c .before .before .before .before .before .before .before .before .before .before .before in
-    (key-low _ _ _ _ (s .pre .0) (s .pre .1) _ (c .before .before .before .before .before .before .x .ensures), room-then (lit≤ tt) (lit≤ tt) (leaf-room _ _ _ _ (s .pre .0)) (c .before .before .before .before .before .before .before .emit .ensures))
+    (key-low _ _ _ _ (s .pre .0) (s .pre .1) _ (c .before .before .before .before .before .before .x .ensures), room-then (lit≤ tt) (lit≤ tt) (leaf-room _ _ _ _ (s .pre .0)) (c .before .before .before .before .before .before .before .decode .ensures))
 
 y-requires-2 : tie.Need-y-requires-2
 y-requires-2 c κs = search needs
@@ -37,7 +37,7 @@ y-requires-2 c κs = search needs
 verify-certified-requires : tie.Need-verify-certified-requires
 verify-certified-requires c κs =
     let s = c .before .before .before .before .before .before .before .before .before .before .before in
-    (key-low _ _ _ _ (s .pre .0) (s .pre .1) _ (c .before .before .before .before .before .before .x .ensures), room-then (lit≤ tt) (lit≤ tt) (leaf-room _ _ _ _ (s .pre .0)) (c .before .before .before .before .before .before .before .emit .ensures))
+    (key-low _ _ _ _ (s .pre .0) (s .pre .1) _ (c .before .before .before .before .before .before .x .ensures), room-then (lit≤ tt) (lit≤ tt) (leaf-room _ _ _ _ (s .pre .0)) (c .before .before .before .before .before .before .before .decode .ensures))
 
 returns : tie.Need-returns
 returns c = search (signed-plain)
@@ -50,18 +50,18 @@ returns-3 c =
     let s = c .before .before .before .before .before .before .before .before .before .before .before .before in
     let n = c .before .before .before .before .match .rest in
     signed-certified _ _ _ (s .pre .0) (s .pre .1) _ _ _ _ (c .before .before .before .before .before .before .before .before .before .variable .ensures) (c .before .before .before .before .before .before .before .x .ensures) (c .before .before .before .before .before .before .raw .ensures) (c .before .before .before .before .before .key-form .ensures)
-    (c .before .before .before .before .before .before .before .before .emit .ensures) _ (c .before .y2 .ensures) (n .0 .1) (n .1) (c .verify-certified .ensures)
+    (c .before .before .before .before .before .before .before .before .decode .ensures) _ (c .before .y2 .ensures) (n .0 .1) (n .1) (c .verify-certified .ensures)
 
 pub match-signature-spec : {M : Type 1} → statement M
 match-signature-spec =
     tie.close
     (tie.spec
     variable-requires
-    emit-requires
+    decode-requires
     x-requires
     raw-requires
     key-form-requires
-    emit-requires-2
+    verify-requires
     y-requires
     verify-opposite-requires
     y-requires-2

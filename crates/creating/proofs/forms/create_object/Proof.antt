@@ -6,11 +6,11 @@ use Rattle.creating.proofs.forms.create_object.Tie as tie
 get-variable-requires : tie.Need-get-variable-requires
 get-variable-requires c κs = search needs
 
-emit-requires : tie.Need-emit-requires
-emit-requires c κs = search needs
+encode-requires : tie.Need-encode-requires
+encode-requires c κs = search needs
 
 returns : tie.Need-returns
 returns c = search (object-done)
 
 pub create-object-spec : {M : Type 1} → statement M
-create-object-spec = tie.close (tie.spec get-variable-requires emit-requires returns)
+create-object-spec = tie.close (tie.spec get-variable-requires encode-requires returns)

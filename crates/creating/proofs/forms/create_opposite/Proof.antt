@@ -6,11 +6,11 @@ use Rattle.creating.proofs.forms.create_opposite.Tie as tie
 opposite-key-requires : tie.Need-opposite-key-requires
 opposite-key-requires c κs = search needs
 
-emit-requires : tie.Need-emit-requires
-emit-requires c κs = search needs
+encode-requires : tie.Need-encode-requires
+encode-requires c κs = search needs
 
 returns : tie.Need-returns
 returns c = search (opposite-done)
 
 pub create-opposite-spec : {M : Type 1} → statement M
-create-opposite-spec = tie.close (tie.spec opposite-key-requires emit-requires returns)
+create-opposite-spec = tie.close (tie.spec opposite-key-requires encode-requires returns)

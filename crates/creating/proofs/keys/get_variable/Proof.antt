@@ -12,8 +12,8 @@ is-known-requires c κs = search needs
 creatable-requires : tie.Need-creatable-requires
 creatable-requires c κs = search needs
 
-emit-requires : tie.Need-emit-requires
-emit-requires c κs = search needs
+create-requires : tie.Need-create-requires
+create-requires c κs = search needs
 
 refuse-requires : tie.Need-refuse-requires
 refuse-requires c κs = search needs
@@ -34,7 +34,7 @@ get-variable-spec =
     element-copy-out-is-known
     is-known-requires
     creatable-requires
-    emit-requires
+    create-requires
     refuse-requires
     returns
     returns-2

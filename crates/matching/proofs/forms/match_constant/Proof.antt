@@ -9,17 +9,17 @@ take-requires c κs = search needs
 scratch-requires : tie.Need-scratch-requires
 scratch-requires c κs = search needs
 
-emit-requires : tie.Need-emit-requires
-emit-requires c κs = search needs
+store-requires : tie.Need-store-requires
+store-requires c κs = search needs
 
-emit-requires-2 : tie.Need-emit-requires-2
-emit-requires-2 c κs = search needs
+store-const-requires : tie.Need-store-const-requires
+store-const-requires c κs = search needs
 
-emit-requires-3 : tie.Need-emit-requires-3
-emit-requires-3 c κs = search needs
+encode-requires : tie.Need-encode-requires
+encode-requires c κs = search needs
 
-emit-requires-4 : tie.Need-emit-requires-4
-emit-requires-4 c κs = search needs
+compare-requires : tie.Need-compare-requires
+compare-requires c κs = search needs
 
 returns : tie.Need-returns
 returns c = search (constant-done)
@@ -30,8 +30,8 @@ match-constant-spec =
     (tie.spec
     take-requires
     scratch-requires
-    emit-requires
-    emit-requires-2
-    emit-requires-3
-    emit-requires-4
+    store-requires
+    store-const-requires
+    encode-requires
+    compare-requires
     returns)

@@ -3,8 +3,8 @@ use borrow.Author.Needs.{needs}
 use Rattle.matching.proofs.forms.match_hash.Statement.{statement}
 use Rattle.matching.proofs.forms.match_hash.Tie as tie
 
-emit-requires : tie.Need-emit-requires
-emit-requires c κs = search needs
+decode-requires : tie.Need-decode-requires
+decode-requires c κs = search needs
 
 take-requires : tie.Need-take-requires
 take-requires c κs = search needs
@@ -12,17 +12,17 @@ take-requires c κs = search needs
 scratch-requires : tie.Need-scratch-requires
 scratch-requires c κs = search needs
 
-emit-requires-2 : tie.Need-emit-requires-2
-emit-requires-2 c κs = search needs
+store-requires : tie.Need-store-requires
+store-requires c κs = search needs
 
-emit-requires-3 : tie.Need-emit-requires-3
-emit-requires-3 c κs = search needs
+load-requires : tie.Need-load-requires
+load-requires c κs = search needs
 
-emit-requires-4 : tie.Need-emit-requires-4
-emit-requires-4 c κs = search needs
+hash-requires : tie.Need-hash-requires
+hash-requires c κs = search needs
 
-emit-requires-5 : tie.Need-emit-requires-5
-emit-requires-5 c κs = search needs
+compare-requires : tie.Need-compare-requires
+compare-requires c κs = search needs
 
 returns : tie.Need-returns
 returns c = search (hash-done)
@@ -31,11 +31,11 @@ pub match-hash-spec : {M : Type 1} → statement M
 match-hash-spec =
     tie.close
     (tie.spec
-    emit-requires
+    decode-requires
     take-requires
     scratch-requires
-    emit-requires-2
-    emit-requires-3
-    emit-requires-4
-    emit-requires-5
+    store-requires
+    load-requires
+    hash-requires
+    compare-requires
     returns)

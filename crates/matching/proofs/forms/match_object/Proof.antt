@@ -15,17 +15,17 @@ take-requires c κs = search needs
 scratch-requires : tie.Need-scratch-requires
 scratch-requires c κs = search needs
 
-emit-requires : tie.Need-emit-requires
-emit-requires c κs = search needs
+store-requires : tie.Need-store-requires
+store-requires c κs = search needs
 
-emit-requires-2 : tie.Need-emit-requires-2
-emit-requires-2 c κs = search needs
+encode-requires : tie.Need-encode-requires
+encode-requires c κs = search needs
 
-emit-requires-3 : tie.Need-emit-requires-3
-emit-requires-3 c κs = search needs
+compare-requires : tie.Need-compare-requires
+compare-requires c κs = search needs
 
-emit-requires-4 : tie.Need-emit-requires-4
-emit-requires-4 c κs = search needs
+decode-requires : tie.Need-decode-requires
+decode-requires c κs = search needs
 
 returns : tie.Need-returns
 returns c = search object-ways
@@ -41,9 +41,9 @@ match-object-spec =
     is-known-requires
     take-requires
     scratch-requires
-    emit-requires
-    emit-requires-2
-    emit-requires-3
-    emit-requires-4
+    store-requires
+    encode-requires
+    compare-requires
+    decode-requires
     returns
     returns-2)

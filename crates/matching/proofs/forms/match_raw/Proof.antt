@@ -9,11 +9,11 @@ element-copy-out-is-known c = search needs
 is-known-requires : tie.Need-is-known-requires
 is-known-requires c κs = search needs
 
-emit-requires : tie.Need-emit-requires
-emit-requires c κs = search needs
+compare-requires : tie.Need-compare-requires
+compare-requires c κs = search needs
 
-emit-requires-2 : tie.Need-emit-requires-2
-emit-requires-2 c κs = search needs
+store-requires : tie.Need-store-requires
+store-requires c κs = search needs
 
 returns : tie.Need-returns
 returns c = search raw-ways
@@ -27,7 +27,7 @@ match-raw-spec =
     (tie.spec
     element-copy-out-is-known
     is-known-requires
-    emit-requires
-    emit-requires-2
+    compare-requires
+    store-requires
     returns
     returns-2)

@@ -9,23 +9,23 @@ take-requires c κs = search needs
 scratch-requires : tie.Need-scratch-requires
 scratch-requires c κs = search needs
 
-emit-requires : tie.Need-emit-requires
-emit-requires c κs = search needs
+store-requires : tie.Need-store-requires
+store-requires c κs = search needs
 
-emit-requires-2 : tie.Need-emit-requires-2
-emit-requires-2 c κs = search needs
+encode-requires : tie.Need-encode-requires
+encode-requires c κs = search needs
 
-emit-requires-3 : tie.Need-emit-requires-3
-emit-requires-3 c κs = search needs
+key-of-requires : tie.Need-key-of-requires
+key-of-requires c κs = search needs
 
-emit-requires-4 : tie.Need-emit-requires-4
-emit-requires-4 c κs = search needs
+decode-requires : tie.Need-decode-requires
+decode-requires c κs = search needs
 
-emit-requires-5 : tie.Need-emit-requires-5
-emit-requires-5 c κs = search needs
+load-requires : tie.Need-load-requires
+load-requires c κs = search needs
 
-emit-requires-6 : tie.Need-emit-requires-6
-emit-requires-6 c κs = search needs
+verify-requires : tie.Need-verify-requires
+verify-requires c κs = search needs
 
 returns : tie.Need-returns
 returns c =
@@ -36,8 +36,8 @@ returns c =
     let first = second .before .before .before in
     let made = first .before .before .before in
     let taken = made .before .take .ensures in
-    verify-certified _ _ _ (made .scratch .ensures) (taken .0) (taken .1) (first .emit .ensures) _ _ _ (second .emit2 .ensures) (third .emit3 .ensures)
-    (fourth .emit4 .ensures) (fifth .emit5 .ensures) (c .emit6 .ensures)
+    verify-certified _ _ _ (made .scratch .ensures) (taken .0) (taken .1) (first .store .ensures) _ _ _ (second .encode .ensures) (third .key-of .ensures)
+    (fourth .decode .ensures) (fifth .load .ensures) (c .verify .ensures)
 
 pub verify-certified-spec : {M : Type 1} → statement M
 verify-certified-spec =
@@ -45,10 +45,10 @@ verify-certified-spec =
     (tie.spec
     take-requires
     scratch-requires
-    emit-requires
-    emit-requires-2
-    emit-requires-3
-    emit-requires-4
-    emit-requires-5
-    emit-requires-6
+    store-requires
+    encode-requires
+    key-of-requires
+    decode-requires
+    load-requires
+    verify-requires
     returns)
