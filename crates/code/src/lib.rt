@@ -6,9 +6,8 @@ ghost use mathlib.Core.Path.{_≡_};
 ghost use mathlib.Core.List.{[], _∷_};
 ghost use Prim.Native.Nat.{_<_, _≤_};
 ghost use lib.ListN.{length, getD, take};
-ghost use Rattle.word.specs.Fields.{join};
 ghost use Rattle.word.specs.Lowest.{placeOf};
-ghost use Rattle.code.specs.Instruction.{wordWidths, wordOf, instructionOf, readOf};
+ghost use Rattle.code.specs.Instruction.{wordOf, instructionOf, readOf};
 ghost use Rattle.code.specs.Words.{hasKind, cellsFit, operandsFit, goodWord, badWord};
 
 // An object variable.
@@ -46,6 +45,7 @@ pub enum Read {
     Not,
 }
 
+// The word of an instruction that is not known beforehand.
 pub fn word_of(instruction: Instruction) -> u32
     ensures { λ r. ⌜ r ≡ wordOf instruction ⌝ }
 {

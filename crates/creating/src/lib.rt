@@ -146,9 +146,9 @@ fn create_parts(
     requires { ⌜ PartsAt (now rows) row parts n (now emission) ⌝ }
     ensures { λ _. ⌜ CreatesParts (now (rows .entry)) (now (kinds .entry)) row parts n (now (emission .entry)) (now (code .entry)) (now (emission .exit)) (now (code .exit)) ⌝ }
 {
-    let mut k: u8 = 0;
-    while k < n {
-        let part = parts[k as usize];
+    let mut k: usize = 0;
+    while k < n as usize {
+        let part = parts[k];
         create_row(rows, kinds, code, emission, part.child);
         instructions::store(code, emission, row, scratch(part.scratch));
         k += 1;

@@ -19,7 +19,7 @@ ghost use Rattle.theory.specs.Emission.{emit};
 ghost use Rattle.emission.specs.Steps.{readObject, writeObject, readRaw, looks};
 ghost use Rattle.emission.specs.Meets.{Does, Room};
 
-// An instruction that only reads an object variable. It is named for the contract; its word is at hand.
+// An instruction that only reads an object variable. The contract speaks of it; the code needs its word alone.
 fn emit_reading(
     code: &mut Code,
     emission: &mut Emission,

@@ -119,9 +119,9 @@ fn match_parts(
     requires { ⌜ PartsAt (now rows) row parts n (now emission) ⌝ }
     ensures { λ _. ⌜ MatchesParts (now (rows .entry)) row parts n (now (emission .entry)) (now (code .entry)) (now (emission .exit)) (now (code .exit)) ⌝ }
 {
-    let mut k: u8 = 0;
-    while k < n {
-        let part = parts[k as usize];
+    let mut k: usize = 0;
+    while k < n as usize {
+        let part = parts[k];
         instructions::load(code, emission, row, scratch(part.scratch));
         match_row(rows, code, emission, part.child);
         k += 1;

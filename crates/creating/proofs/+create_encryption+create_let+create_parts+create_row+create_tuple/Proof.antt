@@ -230,9 +230,6 @@ module _ (t : ℕ) where
       let s = c .before in
       parts-begin (in-turn _) _ _ _ _ (parts-four s) (s .pre .1) _
 
-  create-parts-cast-part : create-parts-lts.Need-cast-part create-parts-callees (create-parts-at t) create-parts.Post create-parts-Inv-loop create-parts-μ-loop
-  create-parts-cast-part c = search needs
-
   create-parts-mul-part : create-parts-lts.Need-mul-part create-parts-callees (create-parts-at t) create-parts.Post create-parts-Inv-loop create-parts-μ-loop
   create-parts-mul-part c = search needs
 
@@ -405,7 +402,6 @@ pub +create-encryption+create-let+create-parts+create-row+create-tuple-spec :
     create-parts-Inv-loop
     create-parts-μ-loop
     (create-parts-loop-holds t)
-    (create-parts-cast-part t)
     (create-parts-mul-part t)
     (create-parts-array-copy-out-part t)
     (create-parts-create-row-requires t)

@@ -214,9 +214,6 @@ module _ (t : ℕ) where
   match-parts-loop-holds : match-parts-lts.Need-loop-holds match-parts-callees (match-parts-at t) match-parts.Post match-parts-Inv-loop match-parts-μ-loop
   match-parts-loop-holds c = parts-begin in-turn _ _ _ _ (parts-four c) (c .pre .1) _
 
-  match-parts-cast-part : match-parts-lts.Need-cast-part match-parts-callees (match-parts-at t) match-parts.Post match-parts-Inv-loop match-parts-μ-loop
-  match-parts-cast-part c = search needs
-
   match-parts-mul-part : match-parts-lts.Need-mul-part match-parts-callees (match-parts-at t) match-parts.Post match-parts-Inv-loop match-parts-μ-loop
   match-parts-mul-part c = search needs
 
@@ -395,7 +392,6 @@ pub +match-encryption+match-let+match-parts+match-row+match-tuple-spec : {M : Ty
     match-parts-Inv-loop
     match-parts-μ-loop
     (match-parts-loop-holds t)
-    (match-parts-cast-part t)
     (match-parts-mul-part t)
     (match-parts-array-copy-out-part t)
     (match-parts-scratch-requires t)
