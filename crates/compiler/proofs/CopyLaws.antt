@@ -1,11 +1,11 @@
 -- A list copied to the front of another, element after element.
 use Prim.Native.Nat.{ℕ, zero, suc, _+_, _-_, _<_, _≤_}
 use mathlib.Core.Path.{_≡_, refl, sym, _∙_}
-use mathlib.Core.List.{List, [], _∷_, _++_}
+use mathlib.Core.List.{List, [], _∷_, _++_, append-nil}
 use native.Mathlib.Nat.{zero-add, zero-sub, sub-zero}
 use native.Mathlib.Numerals.{add-one}
 use native.Mathlib.Omega.{arith}
-use lib.ListN.{length, getD, set, take, drop, replicate, length-set}
+use lib.ListN.{length, getD, set, take, drop, replicate, length-set, drop-of-length-le}
 use lib.Seq.{paste, paste-suc, take-all}
 
 -- so many elements are copied
@@ -34,6 +34,10 @@ module _ {from before to : List ℕ} {count : ℕ} (c : Copied from before to co
   copied-all past =
       let all : count ≡ length from = omega (arith, c .within) in
       c .same ∙ rw (all, take-all (length from) from (omega arith))
+
+  -- a list as long is copied whole
+  pub copied-whole : length before ≤ length from → length from ≤ count → to ≡ from
+  copied-whole full past = copied-all past ∙ rw (drop-of-length-le before full, append-nil)
 
 -- what is left of equal elements
 drop-replicate : (n count a : ℕ) → drop n (replicate count a) ≡ replicate (count - n) a

@@ -14,6 +14,7 @@ ghost use Rattle.compiler.specs.Buffer.{answerIn, Emits, Compiles};
 use answers::Compiled;
 use emission::Code;
 use emission::Emission;
+use emission::Kinds;
 use emission::Rows;
 
 // The set of the cells so far with one more cell behind them.
@@ -58,6 +59,18 @@ fn lay_rows(pattern: &[u64], rows: &mut Rows)
     }
 }
 
+// The kinds as an array: each step of the walk then hands on one word for them.
+fn all_kinds(kinds: &[u8]) -> Kinds
+    requires { ⌜ length (now kinds) ≡ 64 ⌝ }
+    ensures { λ r. ⌜ r ≡ now (kinds .entry) ⌝ }
+{
+    let mut all = [0u8; 64];
+    for v in 0..kinds.len() {
+        all[v] = kinds[v];
+    }
+    all
+}
+
 // What emission answers.
 fn answer_of(emission: Emission) -> Compiled
     requires { ⌜ writtenIn emission ≤ 768 ⌝ }
@@ -78,7 +91,7 @@ fn answer_of(emission: Emission) -> Compiled
 fn emit_row(
     create: bool,
     rows: &Rows,
-    kinds: &[u8],
+    kinds: &Kinds,
     buffer: &mut Code,
     emission: &mut Emission,
     row: u8,
@@ -109,6 +122,7 @@ pub fn walk(
     lay_rows(pattern, &mut rows);
     let root = (pattern.len() - 1) as u8;
     let mut emission: Emission = [set_cells(objects), set_cells(named), 0, 0, 0];
-    emit_row(create, &rows, kinds, buffer, &mut emission, root);
+    let all = all_kinds(kinds);
+    emit_row(create, &rows, &all, buffer, &mut emission, root);
     answer_of(emission)
 }

@@ -6,7 +6,7 @@ use mathlib.Core.List.{List, []}
 use native.Mathlib.Omega.{arith}
 use native.Mathlib.Decide.{ℕ-discrete}
 use borrow.Author.Tests.{ne-eqb}
-use lib.ListN.{length, getD, List·getD-eq-default}
+use lib.ListN.{length, getD}
 use lib.Dec.{eqb, lit≤}
 use Rattle.word.specs.Lowest.{oneOf}
 use Rattle.answers.specs.declared.Compiled.the-variants.{ReadWhileUnset}
@@ -36,10 +36,6 @@ creatable-is kind = by (ℕ-discrete kind 2) (ℕ-discrete kind 5) (ℕ-discrete
     by (no m) (no n) (yes e) = rw e
     by (no m) (no n) (no o) =
         simp (ne-eqb kind 2 m, ne-eqb kind 5 n, ne-eqb kind 6 o, ne-eqb 2 kind (λ e. m (sym e)), ne-eqb 5 kind (λ e. n (sym e)), ne-eqb 6 kind (λ e. o (sym e)))
-
-pub creatable-past : (kinds : List ℕ) (v : ℕ) → length kinds ≤ v → false ≡ creatable (getD kinds v 0)
-unfolding creatable oneOf
-creatable-past kinds v past = rw (List·getD-eq-default kinds 0 past)
 
 -- t is what was seen of the variable, s of its kind
 module _ (kinds : List ℕ) (row v : ℕ) (e code : List ℕ) (t : Bool) (seen : t ≡ known (getD e 0 0) v) where

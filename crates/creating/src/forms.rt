@@ -4,6 +4,7 @@ use code::Object;
 use code::Raw;
 use emission::Code;
 use emission::Emission;
+use emission::Kinds;
 use emission::instructions;
 ghost use mathlib.Core.List.{List};
 ghost use Prim.Native.Nat.{ℕ, _<_};
@@ -12,7 +13,7 @@ ghost use Rattle.emission.specs.Meets.{Does, Room};
 ghost use Rattle.creating.specs.Creates.{patternCode};
 
 // v
-pub fn create_object(kinds: &[u8], code: &mut Code, emission: &mut Emission, row: u8, v: u8)
+pub fn create_object(kinds: &Kinds, code: &mut Code, emission: &mut Emission, row: u8, v: u8)
     requires { ⌜ v < 64 ⌝ }
     requires { ⌜ Room 7 1 (now emission) ⌝ }
     ensures { λ _. ⌜ Does (patternCode (now (kinds .entry)) (object row v)) 7 1 (now (emission .entry)) (now (code .entry)) (now (emission .exit)) (now (code .exit)) ⌝ }
@@ -33,7 +34,7 @@ pub fn create_constant(code: &mut Code, emission: &mut Emission, row: u8, c: u8,
 
 // k : op(K)
 pub fn create_opposite(
-    kinds: &[u8],
+    kinds: &Kinds,
     code: &mut Code,
     emission: &mut Emission,
     row: u8,

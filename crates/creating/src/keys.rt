@@ -2,6 +2,7 @@
 use code::Object;
 use emission::Code;
 use emission::Emission;
+use emission::Kinds;
 use emission::OBJECTS;
 use emission::instructions;
 use emission::is_known;
@@ -18,20 +19,16 @@ ghost use Rattle.emission.specs.Meets.{Does, Room};
 ghost use Rattle.creating.specs.Creates.{variableCode, keyCode};
 
 // Whether a variable's kind is one that CREATE makes a new object of.
-fn creatable(kinds: &[u8], v: u8) -> bool
+fn creatable(kinds: &Kinds, v: u8) -> bool
+    requires { ⌜ v < 64 ⌝ }
     ensures { λ r. ⌜ r ≡ creatable (getD (now (kinds .entry)) v 0) ⌝ }
 {
-    let at = v as usize;
-    if at < kinds.len() {
-        let kind = kinds[at];
-        (kind == 2) | (kind == 5) | (kind == 6)
-    } else {
-        false
-    }
+    let kind = kinds[v as usize];
+    (kind == 2) | (kind == 5) | (kind == 6)
 }
 
 // Nothing for a variable that is set; a creatable one gets its CREATE, any other is 7.
-pub fn get_variable(kinds: &[u8], code: &mut Code, emission: &mut Emission, row: u8, v: u8)
+pub fn get_variable(kinds: &Kinds, code: &mut Code, emission: &mut Emission, row: u8, v: u8)
     requires { ⌜ v < 64 ⌝ }
     requires { ⌜ Room 1 0 (now emission) ⌝ }
     ensures { λ _. ⌜ Does (variableCode (now (kinds .entry)) row v) 1 0 (now (emission .entry)) (now (code .entry)) (now (emission .exit)) (now (code .exit)) ⌝ }
@@ -47,7 +44,7 @@ pub fn get_variable(kinds: &[u8], code: &mut Code, emission: &mut Emission, row:
 
 // k : op(K)
 pub fn opposite_key(
-    kinds: &[u8],
+    kinds: &Kinds,
     code: &mut Code,
     emission: &mut Emission,
     row: u8,
@@ -74,7 +71,7 @@ pub fn certified_key(code: &mut Code, emission: &mut Emission, row: u8, key: u8,
 }
 
 // The key of E and S, by its form.
-pub fn create_key(kinds: &[u8], code: &mut Code, emission: &mut Emission, row: u8, word: u64)
+pub fn create_key(kinds: &Kinds, code: &mut Code, emission: &mut Emission, row: u8, word: u64)
     requires { ⌜ (fieldsOf word .f < 3) × (fieldsOf word .x < 64) ⌝ }
     requires { ⌜ Room 3 0 (now emission) ⌝ }
     ensures { λ _. ⌜ Does (keyCode (now (kinds .entry)) row (keyBy (fieldsOf word))) 3 0 (now (emission .entry)) (now (code .entry)) (now (emission .exit)) (now (code .exit)) ⌝ }

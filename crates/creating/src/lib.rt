@@ -6,6 +6,7 @@ use code::Object;
 use code::Raw;
 use emission::Code;
 use emission::Emission;
+use emission::Kinds;
 use emission::Part;
 use emission::Rows;
 use emission::instructions;
@@ -21,7 +22,7 @@ ghost use Rattle.creating.specs.Creates.{Creates, CreatesParts};
 // s : S(key, r)
 fn create_signature(
     rows: &Rows,
-    kinds: &[u8],
+    kinds: &Kinds,
     code: &mut Code,
     emission: &mut Emission,
     row: u8,
@@ -43,7 +44,7 @@ fn create_signature(
 // The pattern of a row with no children.
 fn create_leaf(
     rows: &Rows,
-    kinds: &[u8],
+    kinds: &Kinds,
     code: &mut Code,
     emission: &mut Emission,
     row: u8,
@@ -67,7 +68,7 @@ fn create_leaf(
 }
 
 // The pattern of a row.
-pub fn create_row(rows: &Rows, kinds: &[u8], code: &mut Code, emission: &mut Emission, row: u8)
+pub fn create_row(rows: &Rows, kinds: &Kinds, code: &mut Code, emission: &mut Emission, row: u8)
     requires { ⌜ Row (now rows) row (now emission) ⌝ }
     ensures { λ _. ⌜ Creates (now (rows .entry)) (now (kinds .entry)) row (now (emission .entry)) (now (code .entry)) (now (emission .exit)) (now (code .exit)) ⌝ }
 {
@@ -84,7 +85,7 @@ pub fn create_row(rows: &Rows, kinds: &[u8], code: &mut Code, emission: &mut Emi
 // e : E(key, p)
 fn create_encryption(
     rows: &Rows,
-    kinds: &[u8],
+    kinds: &Kinds,
     code: &mut Code,
     emission: &mut Emission,
     row: u8,
@@ -106,7 +107,7 @@ fn create_encryption(
 // t : [p1 .. pn]
 fn create_tuple(
     rows: &Rows,
-    kinds: &[u8],
+    kinds: &Kinds,
     code: &mut Code,
     emission: &mut Emission,
     row: u8,
@@ -136,7 +137,7 @@ fn create_tuple(
 // The parts of a tuple, from left to right, each into its scratch cell.
 fn create_parts(
     rows: &Rows,
-    kinds: &[u8],
+    kinds: &Kinds,
     code: &mut Code,
     emission: &mut Emission,
     row: u8,
@@ -158,7 +159,7 @@ fn create_parts(
 // let r = p1 in p2
 fn create_let(
     rows: &Rows,
-    kinds: &[u8],
+    kinds: &Kinds,
     code: &mut Code,
     emission: &mut Emission,
     row: u8,

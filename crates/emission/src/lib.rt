@@ -35,6 +35,9 @@ pub const REFUSAL: usize = 4;
 // The pattern's rows, and zero rows behind them.
 pub type Rows = [u64; 96];
 
+// The kinds of the object variables.
+pub type Kinds = [u8; 64];
+
 // Room for the longest code.
 pub type Code = [u32; 768];
 

@@ -145,30 +145,30 @@ module _ (t : ℕ) where
 
   create-encryption-create-key-requires : create-encryption-lts.Need-create-key-requires create-encryption-callees (create-encryption-at t) create-encryption.Post
   create-encryption-create-key-requires c κs =
-      let asked = c .before .before .before .before .before .before .pre .1 in
+      let asked = c .before .before .before .before .before .pre .1 in
       (encryption-key _ _ _ (asked .0) (asked .1), key-room _ _ _ (asked .0))
 
   create-encryption-create-row-requires : create-encryption-lts.Need-create-row-requires create-encryption-callees (create-encryption-at t) create-encryption.Post
   create-encryption-create-row-requires c κs =
-      let asked = c .before .before .before .before .before .before .before .before .before .pre .1 in
+      let asked = c .before .before .before .before .before .before .before .before .pre .1 in
       let first = slot _ _ 0 (c .before .before .before .before .before .slots .ensures) in
-      (omega (arith, c .before .before .before .before .before .before .before .before .before .pre .0, encryption-below _ _ _ (asked .0) (asked .1) _ first), encryption-inside _ _ _ (asked .0) (asked .1) _ first (c .before .before .create-key .ensures))
+      (omega (arith, c .before .before .before .before .before .before .before .before .pre .0, encryption-below _ _ _ (asked .0) (asked .1) _ first), encryption-inside _ _ _ (asked .0) (asked .1) _ first (c .before .before .create-key .ensures))
 
   create-encryption-encrypt-requires : create-encryption-lts.Need-encrypt-requires create-encryption-callees (create-encryption-at t) create-encryption.Post
   create-encryption-encrypt-requires c κs =
-      let asked = c .before .before .before .before .before .before .before .before .before .before .before .before .pre .1 in
+      let asked = c .before .before .before .before .before .before .before .before .before .before .before .pre .1 in
       let first = slot _ _ 0 (c .before .before .before .before .before .before .before .before .slots .ensures) in
       encrypt-room _ _ _ (asked .0) (asked .1) _ first (c .before .before .before .before .before .create-key .ensures) (c .before .before .create-row .ensures)
 
   create-encryption-decode-requires : create-encryption-lts.Need-decode-requires create-encryption-callees (create-encryption-at t) create-encryption.Post
   create-encryption-decode-requires c κs =
-      let asked = c .before .before .before .before .before .before .before .before .before .before .before .before .before .before .before .pre .1 in
+      let asked = c .before .before .before .before .before .before .before .before .before .before .before .before .before .before .pre .1 in
       let first = slot _ _ 0 (c .before .before .before .before .before .before .before .before .before .before .before .slots .ensures) in
       (seal-room _ _ _ (asked .0) (asked .1) _ first (c .before .before .before .before .before .before .before .before .create-key .ensures) (c .before .before .before .before .before .create-row .ensures) (c .before .before .encrypt .ensures), variable-low _ _ (c .before .before .before .before .before .before .before .before .before .before .before .before .before .variable .ensures))
 
   create-encryption-returns : create-encryption-lts.Need-returns create-encryption-callees (create-encryption-at t) create-encryption.Post
   create-encryption-returns c =
-      let asked = c .before .before .before .before .before .before .before .before .before .before .before .before .before .before .before .before .pre .1 in
+      let asked = c .before .before .before .before .before .before .before .before .before .before .before .before .before .before .before .pre .1 in
       let first = slot _ _ 0 (c .before .before .before .before .before .before .before .before .before .before .before .before .slots .ensures) in
       encryption-done _ _ _ (asked .0) (asked .1) _ first _ _ _ (c .before .before .before .before .before .before .before .before .before .before .before .before .before .before .variable .ensures) (c .before .before .before .before .before .before .before .before .before .before .before .before .before .x .ensures) (c .before .before .before .before .before .before .before .before .before .create-key .ensures) (c .before .before .before .before .before .before .create-row .ensures)
       (c .before .before .before .encrypt .ensures) (c .decode .ensures)
@@ -188,14 +188,14 @@ module _ (t : ℕ) where
 
   create-let-create-row-requires : create-let-lts.Need-create-row-requires create-let-callees (create-let-at t) create-let.Post
   create-let-create-row-requires c κs =
-      let asked = c .before .before .before .before .before .pre .1 in
+      let asked = c .before .before .before .before .pre .1 in
       let first = slot _ _ 0 (c .before .before .slots .ensures) in
       let second = slot _ _ 1 (c .before .before .slots .ensures) in
-      (omega (arith, c .before .before .before .before .before .pre .0, let-below _ _ _ (asked .0) (asked .1) _ first _ second .0), let-first _ _ _ (asked .0) (asked .1) _ first _ second)
+      (omega (arith, c .before .before .before .before .pre .0, let-below _ _ _ (asked .0) (asked .1) _ first _ second .0), let-first _ _ _ (asked .0) (asked .1) _ first _ second)
 
   create-let-store-requires : create-let-lts.Need-store-requires create-let-callees (create-let-at t) create-let.Post
   create-let-store-requires c κs =
-      let asked = c .before .before .before .before .before .before .before .before .pre .1 in
+      let asked = c .before .before .before .before .before .before .before .pre .1 in
       let first = slot _ _ 0 (c .before .before .before .before .before .slots .ensures) in
       let second = slot _ _ 1 (c .before .before .before .before .before .slots .ensures) in
       let-store _ _ _ (asked .0) (asked .1) _ first _ second (c .before .before .create-row .ensures)
@@ -205,14 +205,14 @@ module _ (t : ℕ) where
 
   create-let-create-row-requires-2 : create-let-lts.Need-create-row-requires-2 create-let-callees (create-let-at t) create-let.Post
   create-let-create-row-requires-2 c κs =
-      let asked = c .before .before .before .before .before .before .before .before .before .before .before .pre .1 in
+      let asked = c .before .before .before .before .before .before .before .before .before .before .pre .1 in
       let first = slot _ _ 0 (c .before .before .before .before .before .before .before .before .slots .ensures) in
       let second = slot _ _ 1 (c .before .before .before .before .before .before .before .before .slots .ensures) in
-      (omega (arith, c .before .before .before .before .before .before .before .before .before .before .before .pre .0, let-below _ _ _ (asked .0) (asked .1) _ first _ second .1), let-second _ _ _ (asked .0) (asked .1) _ first _ second (c .before .before .before .before .before .create-row .ensures) (c .before .before .store .ensures))
+      (omega (arith, c .before .before .before .before .before .before .before .before .before .before .pre .0, let-below _ _ _ (asked .0) (asked .1) _ first _ second .1), let-second _ _ _ (asked .0) (asked .1) _ first _ second (c .before .before .before .before .before .create-row .ensures) (c .before .before .store .ensures))
 
   create-let-returns : create-let-lts.Need-returns create-let-callees (create-let-at t) create-let.Post
   create-let-returns c =
-      let asked = c .before .before .before .before .before .before .before .before .before .before .before .before .pre .1 in
+      let asked = c .before .before .before .before .before .before .before .before .before .before .before .pre .1 in
       let first = slot _ _ 0 (c .before .before .before .before .before .before .before .before .before .slots .ensures) in
       let second = slot _ _ 1 (c .before .before .before .before .before .before .before .before .before .slots .ensures) in
       let-done _ _ _ (asked .0) (asked .1) _ first _ second _ _ (c .before .before .before .before .before .before .before .before .before .before .raw .ensures) (c .before .before .before .before .before .before .create-row .ensures) (c .before .before .before .store .ensures) (c .create-row2 .ensures)
@@ -227,7 +227,7 @@ module _ (t : ℕ) where
 
   create-parts-loop-holds : create-parts-lts.Need-loop-holds create-parts-callees (create-parts-at t) create-parts.Post create-parts-Inv-loop create-parts-μ-loop
   create-parts-loop-holds c =
-      let s = c .before in
+      let s = c in
       parts-begin (in-turn _) _ _ _ _ (parts-four s) (s .pre .1) _
 
   create-parts-mul-part : create-parts-lts.Need-mul-part create-parts-callees (create-parts-at t) create-parts.Post create-parts-Inv-loop create-parts-μ-loop
@@ -238,20 +238,20 @@ module _ (t : ℕ) where
 
   create-parts-create-row-requires : create-parts-lts.Need-create-row-requires create-parts-callees (create-parts-at t) create-parts.Post create-parts-Inv-loop create-parts-μ-loop
   create-parts-create-row-requires c κs =
-      let s = c .before .before .before .before .before .before in
+      let s = c .before .before .before .before .before in
       let less = c .before .before .before .loop-test .taken in
       (omega (arith, s .pre .0, s .pre .1 .below _ less), part-asks _ _ _ _ _ (parts-four s) (s .pre .1) _ (c .before .before .before .before .loop .inv) less)
 
   create-parts-scratch-requires : create-parts-lts.Need-scratch-requires create-parts-callees (create-parts-at t) create-parts.Post create-parts-Inv-loop create-parts-μ-loop
   create-parts-scratch-requires c κs =
-      let s = c .before .before .before .before .before .before .before .before .before in
+      let s = c .before .before .before .before .before .before .before .before in
       let k = c .before .before .before .before .before .before .before .loop .k in
       let less = c .before .before .before .before .before .before .loop-test .taken in
       omega (arith, s .pre .1 .laid k less, s .pre .1 .cells, less)
 
   create-parts-store-requires : create-parts-lts.Need-store-requires create-parts-callees (create-parts-at t) create-parts.Post create-parts-Inv-loop create-parts-μ-loop
   create-parts-store-requires c κs =
-      let s = c .before .before .before .before .before .before .before .before .before .before in
+      let s = c .before .before .before .before .before .before .before .before .before in
       part-stores _ _ _ _ _ (parts-four s) (s .pre .1) _ (c .before .before .before .before .before .before .before .before .loop .inv) (c .before .before .before .before .before .before .before .loop-test .taken) (c .before .before .before .create-row .ensures)
 
   create-parts-add-k : create-parts-lts.Need-add-k create-parts-callees (create-parts-at t) create-parts.Post create-parts-Inv-loop create-parts-μ-loop
@@ -262,12 +262,12 @@ module _ (t : ℕ) where
 
   create-parts-loop-again : create-parts-lts.Need-loop-again create-parts-callees (create-parts-at t) create-parts.Post create-parts-Inv-loop create-parts-μ-loop
   create-parts-loop-again c =
-      let s = c .before .before .before .before .before .before .before .before .before .before .before in
+      let s = c .before .before .before .before .before .before .before .before .before .before in
       part-done _ _ _ _ _ (parts-four s) (s .pre .1) _ (c .before .before .before .before .before .before .before .before .before .loop .inv) (c .before .before .before .before .before .before .before .before .loop-test .taken) (c .before .before .before .before .create-row .ensures) (c .before .scratch .ensures) (c .store .ensures)
 
   create-parts-returns : create-parts-lts.Need-returns create-parts-callees (create-parts-at t) create-parts.Post create-parts-Inv-loop create-parts-μ-loop
   create-parts-returns c =
-      let s = c .before .before .before in
+      let s = c .before .before in
       parts-end (in-turn _) _ _ _ _ (parts-four s) (s .pre .1) _ (c .before .loop .inv) (c .loop-test .left)
 
   abbrev create-row-callees : create-row-lts.Claims
@@ -285,24 +285,24 @@ module _ (t : ℕ) where
 
   create-row-create-encryption-requires : create-row-lts.Need-create-encryption-requires create-row-callees (create-row-at t) create-row.Post
   create-row-create-encryption-requires c κs =
-      let s = c .before .before .before .before .before .before in
+      let s = c .before .before .before .before .before in
       (omega (arith, s .pre .0), (record { here = refl; whole = s .pre .1 }, sym (c .before .before .before .tag .ensures) ∙ c .before .before .match .keys1))
 
   create-row-create-tuple-requires : create-row-lts.Need-create-tuple-requires create-row-callees (create-row-at t) create-row.Post
   create-row-create-tuple-requires c κs =
-      let s = c .before .before .before .before .before .before in
+      let s = c .before .before .before .before .before in
       (omega (arith, s .pre .0), (record { here = refl; whole = s .pre .1 }, sym (c .before .before .before .tag .ensures) ∙ c .before .before .match .keys2))
 
   create-row-create-let-requires : create-row-lts.Need-create-let-requires create-row-callees (create-row-at t) create-row.Post
   create-row-create-let-requires c κs =
-      let s = c .before .before .before .before .before .before in
+      let s = c .before .before .before .before .before in
       (omega (arith, s .pre .0), (record { here = refl; whole = s .pre .1 }, sym (c .before .before .before .tag .ensures) ∙ c .before .before .match .keys3))
 
   create-row-create-leaf-requires : create-row-lts.Need-create-leaf-requires create-row-callees (create-row-at t) create-row.Post
   create-row-create-leaf-requires c κs =
       let tag = c .before .before .before .tag .ensures in
       let other = c .before .before .match .rest in
-      (record { here = refl; whole = c .before .before .before .before .before .before .pre .1 }, record { encryption = λ h. other .0 .0 .1 (tag ∙ h); tuple = λ h. other .0 .1 (tag ∙ h); letIn = λ h. other .1 (tag ∙ h) })
+      (record { here = refl; whole = c .before .before .before .before .before .pre .1 }, record { encryption = λ h. other .0 .0 .1 (tag ∙ h); tuple = λ h. other .0 .1 (tag ∙ h); letIn = λ h. other .1 (tag ∙ h) })
 
   create-row-returns : create-row-lts.Need-returns create-row-callees (create-row-at t) create-row.Post
   create-row-returns c = search needs
@@ -328,39 +328,39 @@ module _ (t : ℕ) where
 
   create-tuple-take-requires : create-tuple-lts.Need-take-requires create-tuple-callees (create-tuple-at t) create-tuple.Post
   create-tuple-take-requires c κs =
-      let room = leaf-room _ _ _ _ (c .before .before .before .before .pre .1 .0) in
+      let room = leaf-room _ _ _ _ (c .before .before .before .pre .1 .0) in
       (room .long, omega (arith, room .free))
 
   create-tuple-slots-requires : create-tuple-lts.Need-slots-requires create-tuple-callees (create-tuple-at t) create-tuple.Post
   create-tuple-slots-requires c κs = search needs
 
   create-tuple-parts-of-requires : create-tuple-lts.Need-parts-of-requires create-tuple-callees (create-tuple-at t) create-tuple.Post
-  create-tuple-parts-of-requires c κs = omega (arith, c .before .before .before .take .ensures .0, leaf-room _ _ _ _ (c .before .before .before .before .before .before .before .before .pre .1 .0) .free)
+  create-tuple-parts-of-requires c κs = omega (arith, c .before .before .before .take .ensures .0, leaf-room _ _ _ _ (c .before .before .before .before .before .before .before .pre .1 .0) .free)
 
   create-tuple-create-parts-requires : create-tuple-lts.Need-create-parts-requires create-tuple-callees (create-tuple-at t) create-tuple.Post
   create-tuple-create-parts-requires c κs =
-      let asked = c .before .before .before .before .before .before .before .before .before .pre .1 in
+      let asked = c .before .before .before .before .before .before .before .before .pre .1 in
       let taken = c .before .before .before .before .take .ensures in
-      (omega (arith, c .before .before .before .before .before .before .before .before .before .pre .0), tuple-asks _ _ _ (asked .0) (asked .1) _ (c .before .before .before .before .before .before .count .ensures) _ (c .before .slots .ensures) _ _ (c .parts-of .ensures) (taken .0) (taken .1))
+      (omega (arith, c .before .before .before .before .before .before .before .before .pre .0), tuple-asks _ _ _ (asked .0) (asked .1) _ (c .before .before .before .before .before .before .count .ensures) _ (c .before .slots .ensures) _ _ (c .parts-of .ensures) (taken .0) (taken .1))
 
   create-tuple-scratch-requires : create-tuple-lts.Need-scratch-requires create-tuple-callees (create-tuple-at t) create-tuple.Post
-  create-tuple-scratch-requires c κs = omega (arith, c .before .before .before .before .before .take .ensures .0, leaf-room _ _ _ _ (c .before .before .before .before .before .before .before .before .before .before .pre .1 .0) .free)
+  create-tuple-scratch-requires c κs = omega (arith, c .before .before .before .before .before .take .ensures .0, leaf-room _ _ _ _ (c .before .before .before .before .before .before .before .before .before .pre .1 .0) .free)
 
   create-tuple-create-tuple-requires : create-tuple-lts.Need-create-tuple-requires create-tuple-callees (create-tuple-at t) create-tuple.Post
   create-tuple-create-tuple-requires c κs =
-      let asked = c .before .before .before .before .before .before .before .before .before .before .before .before .before .pre .1 in
+      let asked = c .before .before .before .before .before .before .before .before .before .before .before .before .pre .1 in
       let taken = c .before .before .before .before .before .before .before .before .take .ensures in
       (tuple-create _ _ _ (asked .0) (asked .1) _ (c .before .before .before .before .before .before .before .before .before .before .count .ensures) _ (c .before .before .before .before .before .slots .ensures) _ _ (c .before .before .before .before .parts-of .ensures) (taken .0) (taken .1) _ (c .before .before .before .create-parts .ensures), variable-low _ _ (c .before .before .before .before .before .before .before .before .before .before .before .variable .ensures))
 
   create-tuple-encode-requires : create-tuple-lts.Need-encode-requires create-tuple-callees (create-tuple-at t) create-tuple.Post
   create-tuple-encode-requires c κs =
-      let asked = c .before .before .before .before .before .before .before .before .before .before .before .before .before .before .before .before .pre .1 in
+      let asked = c .before .before .before .before .before .before .before .before .before .before .before .before .before .before .before .pre .1 in
       let taken = c .before .before .before .before .before .before .before .before .before .before .before .take .ensures in
       tuple-encode _ _ _ (asked .0) (asked .1) _ (c .before .before .before .before .before .before .before .before .before .before .before .before .before .count .ensures) _ (c .before .before .before .before .before .before .before .before .slots .ensures) _ _ (c .before .before .before .before .before .before .before .parts-of .ensures) (taken .0) (taken .1) _ (c .before .before .before .before .before .before .create-parts .ensures) (c .before .before .create-tuple .ensures)
 
   create-tuple-returns : create-tuple-lts.Need-returns create-tuple-callees (create-tuple-at t) create-tuple.Post
   create-tuple-returns c =
-      let asked = c .before .before .before .before .before .before .before .before .before .before .before .before .before .before .before .before .before .pre .1 in
+      let asked = c .before .before .before .before .before .before .before .before .before .before .before .before .before .before .before .before .pre .1 in
       let taken = c .before .before .before .before .before .before .before .before .before .before .before .before .take .ensures in
       tuple-done _ _ _ (asked .0) (asked .1) _ (c .before .before .before .before .before .before .before .before .before .before .before .before .before .before .count .ensures) _ (c .before .before .before .before .before .before .before .before .before .slots .ensures) _ _ (c .before .before .before .before .before .before .before .before .parts-of .ensures) (taken .0) (taken .1) _ _ _ (c .before .before .before .before .before .before .before .before .before .before .before .before .before .before .before .variable .ensures) (c .before .before .before .before .before .before .scratch .ensures) (c .before .before .before .before .before .before .before .create-parts .ensures) (c .before .before .before .create-tuple .ensures) (c .encode .ensures)
 

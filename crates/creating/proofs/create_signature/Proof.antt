@@ -14,16 +14,16 @@ raw-requires : tie.Need-raw-requires
 raw-requires c κs = search needs
 
 create-key-requires : tie.Need-create-key-requires
-create-key-requires c κs = let s = c .before .before .before .before .before .before in (signature-key _ _ _ (s .pre .0) (s .pre .1), key-room _ _ _ (s .pre .0))
+create-key-requires c κs = let s = c .before .before .before .before .before in (signature-key _ _ _ (s .pre .0) (s .pre .1), key-room _ _ _ (s .pre .0))
 
 load-requires : tie.Need-load-requires
-load-requires c κs = body-room _ _ _ (c .before .before .before .before .before .before .before .before .before .pre .0) (c .before .before .create-key .ensures)
+load-requires c κs = body-room _ _ _ (c .before .before .before .before .before .before .before .before .pre .0) (c .before .before .create-key .ensures)
 
 sign-requires : tie.Need-sign-requires
-sign-requires c κs = sign-room _ _ _ (c .before .before .before .before .before .before .before .before .before .before .before .before .pre .0) (c .before .before .before .before .before .create-key .ensures) (c .before .before .load .ensures)
+sign-requires c κs = sign-room _ _ _ (c .before .before .before .before .before .before .before .before .before .before .before .pre .0) (c .before .before .before .before .before .create-key .ensures) (c .before .before .load .ensures)
 
 decode-requires : tie.Need-decode-requires
-decode-requires c κs = (decode-room _ _ _ (c .before .before .before .before .before .before .before .before .before .before .before .before .before .before .before .pre .0) (c .before .before .before .before .before .before .before .before .create-key .ensures) (c .before .before .before .before .before .load .ensures) (c .before .before .sign .ensures), variable-low _ _ (c .before .before .before .before .before .before .before .before .before .before .before .before .before .variable .ensures))
+decode-requires c κs = (decode-room _ _ _ (c .before .before .before .before .before .before .before .before .before .before .before .before .before .before .pre .0) (c .before .before .before .before .before .before .before .before .create-key .ensures) (c .before .before .before .before .before .load .ensures) (c .before .before .sign .ensures), variable-low _ _ (c .before .before .before .before .before .before .before .before .before .before .before .before .before .variable .ensures))
 
 returns : tie.Need-returns
 returns c = search (signed)

@@ -55,14 +55,17 @@ set-cells-requires c κs = let s = c .before .before .before .before .before .be
 set-cells-requires-2 : tie.Need-set-cells-requires-2
 set-cells-requires-2 c κs = let s = c .before .before .before .before .before .before .before .before in omega (arith, long s .all-objects, long s .all-named)
 
+all-kinds-requires : tie.Need-all-kinds-requires
+all-kinds-requires c κs = let s = c .before .before .before .before .before .before .before .before .before in long s .all-kinds
+
 emit-row-requires : tie.Need-emit-row-requires
-emit-row-requires c κs = let s = c .before .before .before .before .before .before .before .before .before .before .before .before in rw (laid (pattern s) 96 0 (c .before .before .before .before .before .before .before .no-rows .ensures) (c .before .before .before .before .before .lay-rows .ensures)) (root-row (pattern s) (long s .some-rows) (long s .few-rows) (passes s .rows) _ _)
+emit-row-requires c κs = let s = c .before .before .before .before .before .before .before .before .before .before .before .before .before .before in rw (laid (pattern s) 96 0 (c .before .before .before .before .before .before .before .before .before .no-rows .ensures) (c .before .before .before .before .before .before .before .lay-rows .ensures)) (root-row (pattern s) (long s .some-rows) (long s .few-rows) (passes s .rows) _ _)
 
 answer-of-requires : tie.Need-answer-of-requires
-answer-of-requires c κs = let s = c .before .before .before .before .before .before .before .before .before .before .before .before .before in let d = rw (laid (pattern s) 96 0 (c .before .before .before .before .before .before .before .before .no-rows .ensures) (c .before .before .before .before .before .before .lay-rows .ensures)) at (c .emit-row .ensures) in omega (arith, d .place, root-words (pattern s) (long s .some-rows) (long s .few-rows) (passes s .rows))
+answer-of-requires c κs = let s = c .before .before .before .before .before .before .before .before .before .before .before .before .before .before .before in let d = rw (laid (pattern s) 96 0 (c .before .before .before .before .before .before .before .before .before .before .no-rows .ensures) (c .before .before .before .before .before .before .before .before .lay-rows .ensures)) at (c .emit-row .ensures) in omega (arith, d .place, root-words (pattern s) (long s .some-rows) (long s .few-rows) (passes s .rows))
 
 returns : tie.Need-returns
-returns c = let s = c .before .before .before .before .before .before .before .before .before .before .before .before .before .before in rw (c .answer-of .ensures) (walked-compiles (create s) (pattern s) (kinds s) (objects s) (named s) (s .pre .0) (root-pattern (pattern s) (long s .some-rows) (long s .few-rows) (passes s .rows)) (c .before .before .before .before .before .before .set-cells .ensures) (c .before .before .before .before .before .set-cells2 .ensures) (rw (laid (pattern s) 96 0 (c .before .before .before .before .before .before .before .before .before .no-rows .ensures) (c .before .before .before .before .before .before .before .lay-rows .ensures)) at (c .before .emit-row .ensures)) (root-words (pattern s) (long s .some-rows) (long s .few-rows) (passes s .rows)) (s .pre .1))
+returns c = let s = c .before .before .before .before .before .before .before .before .before .before .before .before .before .before .before .before in rw (c .answer-of .ensures) (walked-compiles (create s) (pattern s) (kinds s) (objects s) (named s) (s .pre .0) (root-pattern (pattern s) (long s .some-rows) (long s .few-rows) (passes s .rows)) (c .before .before .before .before .before .before .before .before .set-cells .ensures) (c .before .before .before .before .before .before .before .set-cells2 .ensures) (rw (laid (pattern s) 96 0 (c .before .before .before .before .before .before .before .before .before .before .before .no-rows .ensures) (c .before .before .before .before .before .before .before .before .before .lay-rows .ensures), c .before .before .before .before .before .before .all-kinds .ensures) at (c .before .emit-row .ensures)) (root-words (pattern s) (long s .some-rows) (long s .few-rows) (passes s .rows)) (s .pre .1))
 
 pub walk-spec : {M : Type 1} → statement M
 walk-spec =
@@ -74,6 +77,7 @@ walk-spec =
     cast-root
     set-cells-requires
     set-cells-requires-2
+    all-kinds-requires
     emit-row-requires
     answer-of-requires
     returns)

@@ -16,7 +16,7 @@ y-requires : tie.Need-y-requires
 y-requires c κs = search needs
 
 opposite-key-requires : tie.Need-opposite-key-requires
-opposite-key-requires c κs = ((key-low _ (c .before .before .before .before .before .before .before .pre .0) _ (c .before .before .before .before .before .x .ensures), second-low _ _ (c .y .ensures)), c .before .before .before .before .before .before .before .pre .1)
+opposite-key-requires c κs = ((key-low _ (c .before .before .before .before .before .before .pre .0) _ (c .before .before .before .before .before .x .ensures), second-low _ _ (c .y .ensures)), c .before .before .before .before .before .before .pre .1)
 
 y-requires-2 : tie.Need-y-requires-2
 y-requires-2 c κs = search needs
@@ -34,7 +34,7 @@ returns-3 : tie.Need-returns-3
 returns-3 c =
     let read = c .before .before .before .before .before in
     let n = c .before .before .before .before .match .rest in
-    key-certified _ _ _ _ _ (read .before .x .ensures) (read .key-form .ensures) _ (c .before .y2 .ensures) (read .before .before .before .pre .0) (n .0 .1) (n .1)
+    key-certified _ _ _ _ _ (read .before .x .ensures) (read .key-form .ensures) _ (c .before .y2 .ensures) (read .before .before .pre .0) (n .0 .1) (n .1)
     (c .certified-key .ensures _)
 
 pub create-key-spec : {M : Type 1} → statement M
