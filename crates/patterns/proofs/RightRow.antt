@@ -8,7 +8,7 @@ use mathlib.Core.List.{List}
 use native.Mathlib.Omega.{arith}
 use lib.ListN.{length}
 use lib.Dec.{T, T-not, not-T, eqb, leb}
-use Rattle.word.proofs.TestLaws.{both, equals, at-most}
+use Rattle.word.proofs.TestLaws.{both, twice, equals, at-most}
 use Rattle.word.proofs.LowestLaws.{one-of-two, lowest-none}
 use Rattle.word.proofs.ScanLaws.{LowestWith, lowest-with}
 use Rattle.patterns.specs.Pattern.{Key, plainKey, opKey, certifiedKey}
@@ -150,7 +150,3 @@ module _ (create : Bool) (kind : ℕ → ℕ) (rows : List ℕ) (passed : badPat
         λ e place inside. right-says place inside .0 (twice (rowKinds create kind (fieldsAt rows place)) .0 (low .0 e place inside)),
         λ h. low .1 λ place inside. twice (rowKinds create kind (fieldsAt rows place)) .1 (right-says place inside .1 (h place inside)),
       )
-    where
-      twice : (b : Bool) → T (not (not b)) ↔ T b
-      twice true = (λ h. h, λ h. h)
-      twice false = (λ h. h, λ h. h)

@@ -7,11 +7,11 @@ use mathlib.Core.List.{List, [], _∷_}
 use Prim.Native.Nat.{ℕ, zero, suc, _<_, _≤_}
 use native.Mathlib.Omega.{arith}
 use native.Mathlib.Decide.{decLt, ℕ-discrete}
-use lib.Dec.{T, T-not, eqb, ltb}
+use lib.Dec.{T, T-not, not-T, eqb, ltb}
 use lib.ListN.{length, getD, set, length-set, List·getD-eq-default}
 use lib.Seq.{getD-take, getD-set-same, getD-set-other, length-take-le}
 use Rattle.word.proofs.All.{All}
-use Rattle.word.proofs.TestLaws.{both, chosen, fails, equals, is-below, not-below, at-most}
+use Rattle.word.proofs.TestLaws.{both, chosen, fails, stable, equals, is-below, not-below, at-most}
 use Rattle.word.proofs.LowestLaws.{each-all, one-of, one-of-two, lowest-none}
 use Rattle.word.proofs.ScanLaws.{LowestWith, lowest-with}
 use Rattle.terms.specs.Shape.{Shape, atom, encrypted, signed, hashed, tupled, partsOf}
@@ -160,15 +160,11 @@ pub bad-term-at : (rows : List ℕ) (counter row : ℕ) → (badTerm rows counte
 unfolding badTerm
 bad-term-at rows counter = lowest-with (badRow rows counter) (λ row. Sound rows counter row (getD rows row 0) → ⊥) rows 0 says
   where
-    twice : (b : Bool) → (T (not b) → ⊥) → T b
-    twice true h = tt
-    twice false h = absurd (h tt)
-
     says : (row : ℕ) → row < length rows → T (badRow rows counter row (getD rows row 0)) ↔ (Sound rows counter row (getD rows row 0) → ⊥)
     says row inside =
         let bad = badRow rows counter row (getD rows row 0) in
         let sound = sound-row rows counter row (getD rows row 0) (omega arith) in
-        (λ b s. T-not bad (sound .1 s) b, λ n. twice bad λ h. n (sound .0 h))
+        (λ b s. T-not bad (sound .1 s) b, λ n. stable bad λ h. n (sound .0 (not-T bad h)))
 
 -- a rule of a row looks at earlier rows only
 module _ (rows other : List ℕ) (row : ℕ) (same : (i : ℕ) → i < row → getD other i 0 ≡ getD rows i 0) where

@@ -1,5 +1,5 @@
 -- A property of each element of a list.
-use mathlib.Core.List.{List, [], _∷_}
+use mathlib.Core.List.{List, [], _∷_, _++_}
 use Prim.Native.Nat.{ℕ, zero, suc, _<_}
 use native.Mathlib.Omega.{arith}
 use lib.ListN.{length, getD}
@@ -19,6 +19,10 @@ module _ {A : Type 0} (P : A → Type 0) where
   all-getD [] default h d i = d
   all-getD (a ∷ rest) default h d zero = h .0
   all-getD (a ∷ rest) default h d (suc i) = all-getD rest default (h .1) d i
+
+  pub all-append : (front back : List A) → All front → All back → All (front ++ back)
+  all-append [] back f b = b
+  all-append (a ∷ front) back f b = (f .0, all-append front back (f .1) b)
 
   pub at-all : (all : List A) (default : A) → ((i : ℕ) → i < length all → P (getD all i default)) → All all
   at-all [] default h = tt
