@@ -10,7 +10,7 @@ use borrow.Author.Tests.{not-true, not-false}
 use lib.Dec.{T}
 use lib.ListN.{length, getD, take, drop}
 use Rattle.word.specs.Bytes.{number, words, elements}
-use Rattle.word.proofs.TestLaws.{both, equals, at-most}
+use Rattle.word.proofs.TestLaws.{both, is-true, is-false, equals, at-most}
 use Rattle.theory.specs.Compile.{mostPatternRows}
 use Rattle.theory.specs.RowModel.{mostNames}
 use Rattle.theory.specs.Run.{mostCertificates, mostTermRows}
@@ -35,14 +35,6 @@ limits h =
       λ l. (((((l .spare, l .pattern .0), l .pattern .1), l .certificates), l .terms), l .counter),
     )
 
-is-true : (b : Bool) → T b → true ≡ b
-is-true true t = refl
-is-true false t = absurd t
-
-is-false : (b : Bool) → (T b → ⊥) → false ≡ b
-is-false true f = absurd (f tt)
-is-false false f = refl
-
 -- each way out of the check, of the header as the code holds it
 module _ (word : ℕ) {header : Header} (is : header ≡ held (headerOf word)) where
   spare-bits : headerOf word .spare ≡ word % 16
@@ -50,7 +42,7 @@ module _ (word : ℕ) {header : Header} (is : header ≡ held (headerOf word)) w
   spare-bits = omega arith
 
   outside : (Limits (headerOf word) → ⊥) → false ≡ headerFits (headerOf word)
-  outside bad = is-false _ (λ t. bad (limits _ .0 t))
+  outside bad = sym (is-false _ (λ t. bad (limits _ .0 t)))
 
   pub spare-set : (word % 16 ≡ 0 → ⊥) → false ≡ headerFits (headerOf word)
   spare-set bad = outside (λ l. bad (sym spare-bits ∙ l .spare))
@@ -82,7 +74,7 @@ module _ (word : ℕ) {header : Header} (is : header ≡ held (headerOf word)) w
         counter = omega (arith, ap (λ h. h .counter) is);
       }
       in
-      is-true _ (limits _ .1 at)
+      sym (is-true _ (limits _ .1 at))
 
 pub ruleset within-ways = (spare-set, no-rows, many-rows, many-certificates, many-terms, high-counter, within, arith)
 
@@ -101,11 +93,11 @@ whole bytes = (
 
 pub refuses : (bytes : List ℕ) → (Whole bytes → ⊥) → Refused ≡ opened bytes
 unfolding opened readBundle
-refuses bytes bad = rw (← (is-false (headerFits (headerIn bytes) && sizeFits (headerIn bytes) bytes) λ t. bad (whole bytes .0 t)))
+refuses bytes bad = rw (is-false (headerFits (headerIn bytes) && sizeFits (headerIn bytes) bytes) λ t. bad (whole bytes .0 t))
 
 pub opens : (bytes : List ℕ) → Whole bytes → Is (held (headerIn bytes)) ≡ opened bytes
 unfolding opened readBundle
-opens bytes good = rw (← (is-true (headerFits (headerIn bytes) && sizeFits (headerIn bytes) bytes) (whole bytes .1 good)))
+opens bytes good = rw (is-true (headerFits (headerIn bytes) && sizeFits (headerIn bytes) bytes) (whole bytes .1 good))
 
 -- what opened says of a bundle and its header
 pub record Opens (bytes : List ℕ) (header : Header) : Type 0 where
@@ -118,7 +110,7 @@ unfolding opened readBundle
 opened-is bytes header e = go (headerFits (headerIn bytes) && sizeFits (headerIn bytes) bytes) refl e
   where
     go : (b : Bool) → (headerFits (headerIn bytes) && sizeFits (headerIn bytes) bytes) ≡ b
-        → openedBy (bundleBy b (headerIn bytes) (elements 8 bytes)) (headerIn bytes) ≡ Is header → Opens bytes header
+        → openedBy (bundleBy b bytes) (headerIn bytes) ≡ Is header → Opens bytes header
     go true t e = record { whole = whole bytes .0 (rw t tt); is = cc; bundle = rw t }
     go false t e = absurd (let z : _≡_ {A = ℕ} 0 1 = cc in omega arith)
 

@@ -1,15 +1,18 @@
 -- A word and its instruction, good words, and the lowest bad one.
 use Prim.Native.Nat.{ℕ, _/_, _%_, _<_}
 use mathlib.Core.Path.{_≡_, refl}
-use mathlib.Core.Logic.{_↔_}
+use mathlib.Core.Logic.{_↔_, Iff·trans}
+use mathlib.Core.Bool.{not}
 use mathlib.Core.Option.{Option, none, some}
 use mathlib.Core.List.{List, [], _∷_}
 use native.Mathlib.Omega.{arith}
 use borrow.Author.Tests.{eq-eqb}
 use lib.Dec.{T, eqb, eqb→eq}
+use lib.ListN.{length, getD}
 use Rattle.word.specs.Fields.{join, at}
-use Rattle.word.proofs.TestLaws.{both}
-use Rattle.word.proofs.LowestLaws.{LowestBad, AllGood, lowest-bad-iff, none-bad-iff}
+use Rattle.word.specs.Lowest.{LowestBad, AllGood}
+use Rattle.word.proofs.TestLaws.{both, twice}
+use Rattle.word.proofs.LowestLaws.{none-bad, lowest-bad}
 use Rattle.code.specs.Instruction.{wordWidths, fieldsOf, wordOf, instructionBy, instructionOf}
 use Rattle.code.specs.Words.{operandsFit, wordFits, goodWord, badWord}
 use Rattle.code.specs.declared.Instruction.{Instruction}
@@ -81,17 +84,20 @@ own-word-good kind instruction fits operands =
 
 -- 9: this word is bad and all before it are good
 abbrev pub LowestBadWord : (ℕ → ℕ) → List ℕ → ℕ → Type 0
-LowestBadWord kind code place = LowestBad (λ k word. GoodWord kind word) 0 code place
+LowestBadWord kind code place = LowestBad (λ place. GoodWord kind (getD code place 0)) (length code) place
 
 -- not 9
 abbrev pub AllGoodWords : (ℕ → ℕ) → List ℕ → Type 0
-AllGoodWords kind code = AllGood (λ k word. GoodWord kind word) 0 code
+AllGoodWords kind code = AllGood (λ place. GoodWord kind (getD code place 0)) (length code)
 
 module _ (kind : ℕ → ℕ) (code : List ℕ) where
+  not-bad : (place : ℕ) → place < length code → T (not (not (goodWord kind (getD code place 0)))) ↔ GoodWord kind (getD code place 0)
+  not-bad place inside = Iff·trans (twice (goodWord kind (getD code place 0))) (good-iff kind (getD code place 0))
+
   pub bad-word-iff : (place : ℕ) → (badWord kind code ≡ some place) ↔ LowestBadWord kind code place
   unfolding badWord
-  bad-word-iff = lowest-bad-iff (λ k word. GoodWord kind word) (λ k word. goodWord kind word) (λ k word. good-iff kind word) 0 code
+  bad-word-iff = lowest-bad _ _ code 0 not-bad
 
   pub no-bad-word-iff : (badWord kind code ≡ none) ↔ AllGoodWords kind code
   unfolding badWord
-  no-bad-word-iff = none-bad-iff (λ k word. GoodWord kind word) (λ k word. goodWord kind word) (λ k word. good-iff kind word) 0 code
+  no-bad-word-iff = none-bad _ _ code 0 not-bad

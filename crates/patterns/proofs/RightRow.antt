@@ -1,18 +1,18 @@
 -- Refusal 5 in the words of document 01.
 use Prim.Native.Nat.{ℕ, zero, suc, _<_, _≤_}
 use mathlib.Core.Path.{_≡_, refl, sym, subst, _∙_}
-use mathlib.Core.Logic.{_↔_, _⊎_, Iff·rfl}
+use mathlib.Core.Logic.{_↔_, _⊎_, Iff·rfl, Iff·trans}
 use mathlib.Core.Bool.{Bool, true, false, not, _&&_}
 use mathlib.Core.Option.{none, some}
 use mathlib.Core.List.{List}
 use native.Mathlib.Omega.{arith}
 use lib.ListN.{length}
-use lib.Dec.{T, T-not, not-T, eqb, leb}
+use lib.Dec.{T, T-not, eqb, leb}
+use Rattle.word.specs.Lowest.{LowestBad, AllGood}
 use Rattle.word.proofs.TestLaws.{both, twice, equals, at-most}
-use Rattle.word.proofs.LowestLaws.{one-of-two, lowest-none}
-use Rattle.word.proofs.ScanLaws.{LowestWith, lowest-with}
+use Rattle.word.proofs.LowestLaws.{one-of-two, none-bad, lowest-bad}
 use Rattle.patterns.specs.Pattern.{Key, plainKey, opKey, certifiedKey}
-use Rattle.patterns.specs.Row.{Fields, fieldsOf}
+use Rattle.patterns.specs.Row.{Fields}
 use Rattle.patterns.specs.Rules.{badPattern}
 use Rattle.patterns.specs.Tree.{keyBy}
 use Rattle.patterns.specs.Kinds.{privateSide, publicSide, encryptionKey, wrongKind}
@@ -129,24 +129,14 @@ module _ (create : Bool) (kind : ℕ → ℕ) (row : Fields) where
         (row .tag) (good .tag) refl
 
 module _ (create : Bool) (kind : ℕ → ℕ) (rows : List ℕ) (passed : badPattern rows ≡ none) where
-  right-says : (place : ℕ) → place < length rows → T (rowKinds create kind (fieldsAt rows place)) ↔ RightRow create kind (fieldsAt rows place)
+  right-says : (place : ℕ) → place < length rows → T (not (not (rowKinds create kind (fieldsAt rows place)))) ↔ RightRow create kind (fieldsAt rows place)
   right-says place inside =
       let good = all-good rows passed place inside in
-      (into create kind (fieldsAt rows place) place good, back create kind (fieldsAt rows place) place good)
+      Iff·trans (twice (rowKinds create kind (fieldsAt rows place))) (into create kind (fieldsAt rows place) place good, back create kind (fieldsAt rows place) place good)
 
   -- 5, exactly, of rows that passed: the lowest row with a wrong kind
-  pub wrong-kind-at : (i : ℕ) → (wrongKind create kind rows ≡ some i) ↔ LowestWith (λ place. RightRow create kind (fieldsAt rows place) → ⊥) (length rows) i
-  wrong-kind-at i = rw (wrong-rows create kind rows) (lowest-with _ _ rows 0 says i)
-    where
-      says : (place : ℕ) → place < length rows → T (not (rowKinds create kind (fieldsAt rows place))) ↔ (RightRow create kind (fieldsAt rows place) → ⊥)
-      says place inside =
-          let test = rowKinds create kind (fieldsAt rows place) in
-          (λ h g. T-not test h (right-says place inside .1 g), λ h. not-T test λ t. h (right-says place inside .0 t))
+  pub wrong-kind-at : (i : ℕ) → (wrongKind create kind rows ≡ some i) ↔ LowestBad (λ place. RightRow create kind (fieldsAt rows place)) (length rows) i
+  wrong-kind-at i = rw (wrong-rows create kind rows) (lowest-bad _ _ rows 0 right-says i)
 
-  pub wrong-kind-none : (wrongKind create kind rows ≡ none) ↔ ((place : ℕ) → place < length rows → RightRow create kind (fieldsAt rows place))
-  wrong-kind-none =
-      let low = lowest-none (λ place word. not (rowKinds create kind (fieldsOf word))) 0 rows in
-      rw (wrong-rows create kind rows) (
-        λ e place inside. right-says place inside .0 (twice (rowKinds create kind (fieldsAt rows place)) .0 (low .0 e place inside)),
-        λ h. low .1 λ place inside. twice (rowKinds create kind (fieldsAt rows place)) .1 (right-says place inside .1 (h place inside)),
-      )
+  pub wrong-kind-none : (wrongKind create kind rows ≡ none) ↔ AllGood (λ place. RightRow create kind (fieldsAt rows place)) (length rows)
+  wrong-kind-none = rw (wrong-rows create kind rows) (none-bad _ _ rows 0 right-says)

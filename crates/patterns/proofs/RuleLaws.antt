@@ -9,10 +9,9 @@ use native.Mathlib.Omega.{arith}
 use lib.ListN.{length, getD, take}
 use lib.Seq.{length-take-le, getD-take}
 use lib.Dec.{T, T-not, not-T, eqb, eqb→eq}
-use Rattle.word.specs.Lowest.{lowest, oneOf}
+use Rattle.word.specs.Lowest.{lowest, LowestWith, NoneWith, oneOf}
 use Rattle.word.proofs.TestLaws.{either, equals}
-use Rattle.word.proofs.LowestLaws.{one-of}
-use Rattle.word.proofs.ScanLaws.{LowestWith, NoneWith, none-with, lowest-with}
+use Rattle.word.proofs.LowestLaws.{one-of, none-with, lowest-with}
 use Rattle.patterns.specs.Row.{Fields, fieldsOf, childrenOf}
 use Rattle.patterns.specs.Rules.{rowFits, repeats, named, badRow, unnamed, badPattern}
 use Rattle.patterns.proofs.MarkLaws.{one-append}

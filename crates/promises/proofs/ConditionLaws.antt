@@ -19,7 +19,7 @@ use Rattle.theory.specs.Compile as Compile
 use Rattle.theory.specs.Run.{Lent}
 use Rattle.theory.specs.Run as Run
 use Rattle.promises.specs.Conditions.{cell, CompileWithin, BadVariable, RunWithin, ValidStores}
-use Rattle.promises.proofs.RunLaws.{storesFit}
+use Rattle.theory.proofs.RunLaws.{storesFit}
 
 -- 1
 pub compile-within : (create : Bool) (pattern kinds objects named : List ℕ) → T (Compile.lengthsFit create pattern kinds objects named) ↔ CompileWithin pattern kinds objects named

@@ -8,22 +8,13 @@ use mathlib.Core.List.{List}
 use native.Mathlib.Omega.{arith}
 use borrow.Author.Tests.{eq-eqb, ne-eqb}
 use lib.Dec.{T, eqb}
-use Rattle.word.specs.Bytes.{elements}
-use Rattle.word.proofs.TestLaws.{both, equals, at-most}
+use Rattle.word.proofs.TestLaws.{both, is-true, is-false, equals, at-most}
 use Rattle.word.proofs.LowestLaws.{each-all}
 use Rattle.stores.specs.Certificates.{spareOf}
-use Rattle.theory.specs.Bundle.{wordBytes, headerFits, sizeFits, bundleBy, readBundle, certificatesClear}
-use Rattle.theory.specs.Listing.{refusedLine, compiledLines, bundleLines, listing}
+use Rattle.theory.specs.Bundle.{headerIn, bundleIn, headerFits, sizeFits, bundleBy, readBundle, certificatesClear}
+use Rattle.theory.specs.Listing.{refusedLine, compiledFrom, compiledLines, bundleLines, listing}
 use Rattle.promises.specs.Answers.{compileNumber}
-use Rattle.promises.specs.Listing.{headerIn, BundleWithin, bundleIn, CertificatesClear, compiledFrom, ListingTable}
-
-passes : (b : Bool) → T b → b ≡ true
-passes true h = refl
-passes false h = absurd h
-
-fails : (b : Bool) → (T b → ⊥) → b ≡ false
-fails true h = absurd (h tt)
-fails false h = refl
+use Rattle.promises.specs.Listing.{BundleWithin, CertificatesClear, ListingTable}
 
 module _ (bytes : List ℕ) where
   abbrev fits : Bool
@@ -36,15 +27,15 @@ module _ (bytes : List ℕ) where
         λ w. ((((((w .spare, w .pattern-rows .0), w .pattern-rows .1), w .certificates), w .term-rows), w .counter), w .size),
       )
 
-  by-fit : (b : Bool) → fits ≡ b → (readBundle bytes ≡ bundleBy b (headerIn bytes) (elements wordBytes bytes))
+  by-fit : (b : Bool) → fits ≡ b → (readBundle bytes ≡ bundleBy b bytes)
   unfolding readBundle
-  by-fit b e = ap (λ b. bundleBy b (headerIn bytes) (elements wordBytes bytes)) e
+  by-fit b e = ap (λ b. bundleBy b bytes) e
 
   read-within : BundleWithin bytes → readBundle bytes ≡ some (bundleIn bytes)
-  read-within w = by-fit true (passes fits (bundle-within .1 w))
+  read-within w = by-fit true (is-true fits (bundle-within .1 w))
 
   unread-outside : (BundleWithin bytes → ⊥) → readBundle bytes ≡ none
-  unread-outside n = by-fit false (fails fits λ t. n (bundle-within .0 t))
+  unread-outside n = by-fit false (is-false fits λ t. n (bundle-within .0 t))
 
   within-read : readBundle bytes ≢ none → BundleWithin bytes
   within-read n = go fits refl
@@ -58,7 +49,7 @@ module _ (bytes : List ℕ) where
 
   clear-lines : BundleWithin bytes → CertificatesClear (bundleIn bytes) → listing bytes ≡ compiledLines (bundleIn bytes) (compiledFrom (bundleIn bytes))
   unfolding listing
-  clear-lines w c = rw (read-within w, passes (certificatesClear (bundleIn bytes)) (clear .1 c), bundleLines)
+  clear-lines w c = rw (read-within w, is-true (certificatesClear (bundleIn bytes)) (clear .1 c), bundleLines)
 
   limit-line : (BundleWithin bytes → ⊥) → listing bytes ≡ refusedLine 1 0
   unfolding listing
@@ -66,7 +57,7 @@ module _ (bytes : List ℕ) where
 
   spare-line : BundleWithin bytes → (CertificatesClear (bundleIn bytes) → ⊥) → listing bytes ≡ refusedLine 3 0
   unfolding listing
-  spare-line w n = rw (read-within w, fails (certificatesClear (bundleIn bytes)) (λ t. n (clear .0 t)), bundleLines)
+  spare-line w n = rw (read-within w, is-false (certificatesClear (bundleIn bytes)) (λ t. n (clear .0 t)), bundleLines)
 
   pub listing-table : ListingTable bytes
   listing-table =

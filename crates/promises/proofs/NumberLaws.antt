@@ -2,9 +2,10 @@
 use Prim.Native.Nat.{ℕ}
 use mathlib.Core.Path.{_≡_, sym, _∙_, ap, subst}
 use mathlib.Core.Logic.{_↔_}
-use mathlib.Core.Bool.{Bool, true, false}
+use mathlib.Core.Bool.{Bool}
 use mathlib.Core.List.{List}
 use lib.Dec.{T}
+use Rattle.word.proofs.TestLaws.{stable}
 use Rattle.answers.specs.Numbers.{compiledNumber, compiledPlace, reasonOf, ranNumber, ranPlace, ranReason}
 use Rattle.answers.specs.declared.Compiled.{Compiled}
 use Rattle.answers.specs.declared.Compiled.the-variants as Compiled
@@ -20,21 +21,18 @@ use Rattle.theory.specs.Compile.{CompileOutcome, kindIn, compile}
 use Rattle.theory.specs.Run.{Lent, stateOf, linesOf, run}
 use Rattle.theory.proofs.CompileLaws.{Checked}
 use Rattle.theory.proofs.Models.{calm-rows}
+use Rattle.theory.proofs.RunLaws.{stepsOf, Passed}
 use Rattle.promises.specs.Answers.{CompileAnswers, RunAnswers}
 use Rattle.promises.specs.Conditions.{CompileWithin, BadVariable, CompileChecked, RunChecked}
 use Rattle.promises.specs.Steps.{After}
 use Rattle.promises.specs.Demand1.{CompileTable, RunTable}
 use Rattle.promises.proofs.StepLaws.{reason-back, exec-reasoned}
-use Rattle.promises.proofs.RunLaws.{Passed, stepsOf, RunGives, ranOf, answered, answered-stuck, gives-run, run-unchanged}
+use Rattle.promises.proofs.RunLaws.{RunGives, ranOf, answered, answered-stuck, gives-run, run-unchanged}
 use Rattle.promises.proofs.WalkLaws.{after-all, at-stuck, at-room}
 use Rattle.promises.proofs.ConditionLaws.{compile-within, run-within, bad-variable, stores-valid}
 use Rattle.promises.proofs.ValidLaws.{accepted, passed-valid}
 use Rattle.promises.proofs.CompileLaws.{CompileGives, compiledOf, compile-answered, gives-compile, compile-unchanged}
 use Rattle.promises.proofs.TableLaws.{done-after, stuck-there, room-there}
-
-stable : (b : Bool) → ((T b → ⊥) → ⊥) → T b
-stable true h = tt
-stable false h = absurd (h λ n. n)
 
 module _ (create : Bool) (pattern kinds objects named slice : List ℕ) where
   abbrev outcome : CompileOutcome

@@ -21,7 +21,7 @@ use Rattle.theory.specs.RowModel.{rowWorld}
 use Rattle.theory.specs.TermModel.{termWorld}
 use Rattle.theory.specs.Machine.{Line, State, namedCells}
 use Rattle.theory.specs.Compile.{kindIn}
-use Rattle.theory.specs.Run.{Lent, addLine, linesFrom, linesOf, stateOver, stateOf, leftBy, run}
+use Rattle.theory.specs.Run.{Lent, lentAfter, addLine, linesFrom, linesOf, stateOver, stateOf, leftBy, run}
 use Rattle.theory.proofs.Fitting.{ByteFits, good-word-fits}
 use Rattle.theory.proofs.Models.{calm-rows}
 use Rattle.theory.proofs.Related.{OutcomeR, dones}
@@ -29,13 +29,13 @@ use Rattle.theory.proofs.RowsRunAsTerms.{ValidState, Reads, termsOf, rows-run-a
 use Rattle.theory.proofs.RowsKept.{Appended, exec-appends}
 use Rattle.theory.proofs.ValidLent.{Accepted, accepted-state}
 use Rattle.theory.proofs.ValidAgain.{accepted-again}
+use Rattle.theory.proofs.RunLaws.{stepsOf, Passed}
 use Rattle.promises.specs.Answers.{runNumber}
 use Rattle.promises.specs.Reading.{after, messageAfter}
 use Rattle.promises.specs.Conditions.{LentWithin, Valid}
-use Rattle.promises.specs.Demand3.{lentAfter}
 use Rattle.promises.proofs.StepLaws.{named-past}
 use Rattle.promises.proofs.ReadingLaws.{after-read, message-read}
-use Rattle.promises.proofs.RunLaws.{Passed, finished, stepsOf}
+use Rattle.promises.proofs.RunLaws.{finished}
 use Rattle.promises.proofs.ConditionLaws.{run-within, stores-valid}
 
 pub accepted : {x : Lent} → Valid x → Accepted x
@@ -120,8 +120,7 @@ module _ {x : Lent} {code : List ℕ} (p : Passed x code) (t : State rowWorld) (
   message-finish answer = message-read x (passed-valid p .within .kinds) answer t state-valid certificates-kept none-past
 
   pub finish-valid : Valid (lentAfter x (leftBy (Ran.Done (length code)) t))
-  unfolding leftBy
-  finish-valid = valid-accepted (accepted-again x (accepted (passed-valid p)) t state-valid rows-appended)
+  finish-valid = valid-accepted (accepted-again x (accepted (passed-valid p)) t state-valid rows-appended (Ran.Done (length code)))
 
 pub run-valid-again : (x : Lent) (code : List ℕ) → runNumber (run x code) ≡ 0 → Valid (lentAfter x (run x code))
 run-valid-again x code e =

@@ -17,7 +17,7 @@ use Rattle.theory.specs.Run.{Lent, stateOf, linesFrom}
 use Rattle.theory.proofs.Models.{calm-rows}
 use Rattle.promises.specs.Steps.{Word, After, start, next, At}
 use Rattle.promises.proofs.StepLaws.{Ends, goes, sticks, fills, KeptPast, step-ends}
-use Rattle.promises.proofs.RunLaws.{stepsOf}
+use Rattle.theory.proofs.RunLaws.{stepsOf}
 
 module _ (x : Lent) (code : List ℕ) where
   abbrev kind : ℕ → ℕ

@@ -5,7 +5,7 @@ use mathlib.Core.Logic.{_≢_, _⊎_}
 use mathlib.Core.Bool.{Bool}
 use mathlib.Core.List.{List}
 use lib.ListN.{length, getD}
-use Rattle.word.proofs.ScanLaws.{LowestWith, NoneWith}
+use Rattle.word.specs.Lowest.{LowestWith, NoneWith, LowestBad, AllGood}
 use Rattle.code.proofs.WordLaws.{LowestBadWord, AllGoodWords}
 use Rattle.terms.specs.Rules.{usedRows}
 use Rattle.terms.proofs.TableLaws.{Sound, ValidTable}
@@ -49,10 +49,10 @@ GoodPattern pattern = NoneWith (BadRow pattern) (length pattern) × NoneWith (Un
 
 -- 5: the lowest row with a wrong kind
 abbrev pub WrongKindAt : Bool → List ℕ → List ℕ → ℕ → Type 0
-WrongKindAt create kinds pattern row = LowestWith (λ row. RightRow create (kindIn kinds) (fieldsAt pattern row) → ⊥) (length pattern) row
+WrongKindAt create kinds pattern row = LowestBad (λ row. RightRow create (kindIn kinds) (fieldsAt pattern row)) (length pattern) row
 
 abbrev pub RightPattern : Bool → List ℕ → List ℕ → Type 0
-RightPattern create kinds pattern = (row : ℕ) → row < length pattern → RightRow create (kindIn kinds) (fieldsAt pattern row)
+RightPattern create kinds pattern = AllGood (λ row. RightRow create (kindIn kinds) (fieldsAt pattern row)) (length pattern)
 
 -- neither 1, 3, 4 nor 5
 pub record CompileChecked (create : Bool) (pattern kinds objects named : List ℕ) : Type 0 where
@@ -89,7 +89,7 @@ RunWithin x code = LentWithin x × (length code ≤ mostCodeWords)
 
 -- 2: the lowest row that breaks a rule
 abbrev pub BadTermAt : Lent → ℕ → Type 0
-BadTermAt x row = LowestWith (λ row. Sound (x .terms) (x .counter) row (getD (x .terms) row 0) → ⊥) (length (x .terms)) row
+BadTermAt x row = LowestBad (λ row. Sound (x .terms) (x .counter) row (getD (x .terms) row 0)) (length (x .terms)) row
 
 -- not 3: kinds, cells, certificates and accumulator
 abbrev pub ValidStores : Lent → Type 0

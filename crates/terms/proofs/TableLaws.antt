@@ -1,19 +1,19 @@
 -- What a valid term table is, in propositions, and that it stays valid when a row is added or the counter is raised.
 use mathlib.Core.Path.{_≡_, refl, sym, _∙_, ap}
-use mathlib.Core.Logic.{_↔_, _⊎_, _≢_, Iff·rfl}
+use mathlib.Core.Logic.{_↔_, _⊎_, _≢_, Iff·rfl, Iff·trans}
 use mathlib.Core.Bool.{Bool, true, false, cond, not}
 use mathlib.Core.Option.{none, some}
 use mathlib.Core.List.{List, [], _∷_}
 use Prim.Native.Nat.{ℕ, zero, suc, _<_, _≤_}
 use native.Mathlib.Omega.{arith}
 use native.Mathlib.Decide.{decLt, ℕ-discrete}
-use lib.Dec.{T, T-not, not-T, eqb, ltb}
+use lib.Dec.{T, eqb, ltb}
 use lib.ListN.{length, getD, set, length-set, List·getD-eq-default}
 use lib.Seq.{getD-take, getD-set-same, getD-set-other, length-take-le}
-use Rattle.word.proofs.All.{All}
-use Rattle.word.proofs.TestLaws.{both, chosen, fails, stable, equals, is-below, not-below, at-most}
-use Rattle.word.proofs.LowestLaws.{each-all, one-of, one-of-two, lowest-none}
-use Rattle.word.proofs.ScanLaws.{LowestWith, lowest-with}
+use Rattle.word.specs.All.{All}
+use Rattle.word.specs.Lowest.{LowestBad, AllGood}
+use Rattle.word.proofs.TestLaws.{both, chosen, fails, equals, is-below, not-below, at-most}
+use Rattle.word.proofs.LowestLaws.{each-all, one-of, one-of-two, none-bad, lowest-bad}
 use Rattle.terms.specs.Shape.{Shape, atom, encrypted, signed, hashed, tupled, partsOf}
 use Rattle.terms.specs.Row.{wordOf, tagOf, shapeOf}
 use Rattle.terms.specs.Rules.{usedRows, knownTag, unusedZero, numberFits, partsBelow, keyFits, earlierEqual, fits, badRow, badTerm}
@@ -141,30 +141,26 @@ sound-row : (rows : List ℕ) (counter row word : ℕ) → row ≤ length rows �
 unfolding badRow
 sound-row rows counter row word inside = simp (not-chosen, chosen, is-below, not-below, equals, good-row) Iff·rfl
 
+sound-at : (rows : List ℕ) (counter row : ℕ) → row < length rows → T (not (badRow rows counter row (getD rows row 0))) ↔ Sound rows counter row (getD rows row 0)
+sound-at rows counter row inside = sound-row rows counter row (getD rows row 0) (omega arith)
+
 -- 2 is given exactly where the table is not valid
 pub valid-table : (rows : List ℕ) (counter : ℕ) → (badTerm rows counter ≡ none) ↔ ValidTable rows counter
 unfolding badTerm
 valid-table rows counter =
-    simp (lowest-none (badRow rows counter) 0 rows) (
+    Iff·trans (none-bad (badRow rows counter) (λ row. Sound rows counter row (getD rows row 0)) rows 0 (sound-at rows counter)) (
       λ h. record { good = λ row. sound h row (decLt row (length rows)) .0; zeros = λ row. sound h row (decLt row (length rows)) .1 },
-      λ valid row inside. sound-row rows counter row (getD rows row 0) (omega arith) .1 (valid .good row, valid .zeros row),
+      λ valid row inside. (valid .good row, valid .zeros row),
     )
   where
-    sound : ((row : ℕ) → row < length rows → T (not (badRow rows counter row (getD rows row 0)))) → (row : ℕ) → Dec (row < length rows)
-        → Sound rows counter row (getD rows row 0)
-    sound h row (yes inside) = sound-row rows counter row (getD rows row 0) (omega arith) .0 (h row inside)
+    sound : AllGood (λ row. Sound rows counter row (getD rows row 0)) (length rows) → (row : ℕ) → Dec (row < length rows) → Sound rows counter row (getD rows row 0)
+    sound h row (yes inside) = h row inside
     sound h row (no outside) = (λ l. absurd (omega (arith, used-rows rows .inside)), λ l. List·getD-eq-default rows 0 (omega arith))
 
 -- 2, exactly: the lowest row that breaks a rule
-pub bad-term-at : (rows : List ℕ) (counter row : ℕ) → (badTerm rows counter ≡ some row) ↔ LowestWith (λ row. Sound rows counter row (getD rows row 0) → ⊥) (length rows) row
+pub bad-term-at : (rows : List ℕ) (counter row : ℕ) → (badTerm rows counter ≡ some row) ↔ LowestBad (λ row. Sound rows counter row (getD rows row 0)) (length rows) row
 unfolding badTerm
-bad-term-at rows counter = lowest-with (badRow rows counter) (λ row. Sound rows counter row (getD rows row 0) → ⊥) rows 0 says
-  where
-    says : (row : ℕ) → row < length rows → T (badRow rows counter row (getD rows row 0)) ↔ (Sound rows counter row (getD rows row 0) → ⊥)
-    says row inside =
-        let bad = badRow rows counter row (getD rows row 0) in
-        let sound = sound-row rows counter row (getD rows row 0) (omega arith) in
-        (λ b s. T-not bad (sound .1 s) b, λ n. stable bad λ h. n (sound .0 (not-T bad h)))
+bad-term-at rows counter = lowest-bad (badRow rows counter) (λ row. Sound rows counter row (getD rows row 0)) rows 0 (sound-at rows counter)
 
 -- a rule of a row looks at earlier rows only
 module _ (rows other : List ℕ) (row : ℕ) (same : (i : ℕ) → i < row → getD other i 0 ≡ getD rows i 0) where

@@ -1,25 +1,26 @@
 -- After a finished run the stores and the table pass run's checks again.
-use mathlib.Core.Path.{_≡_, refl, sym, _∙_, ap, subst}
+use mathlib.Core.Path.{_≡_, refl, _∙_, ap, subst}
 use mathlib.Core.Option.{Option, none, some}
-use mathlib.Core.List.{List, [], _∷_, _++_}
+use mathlib.Core.List.{List, _++_}
 use Prim.Native.Nat.{ℕ, zero, suc, _+_, _<_, _≤_}
 use native.Mathlib.Nat.{zero-add, add-zero, add-suc, suc-add}
 use native.Mathlib.Omega.{arith}
 use borrow.Author.Tests.{ne-eqb}
-use lib.Dec.{T, eqb}
 use lib.ListN.{length, getD, length-append}
-use Rattle.word.proofs.All.{All}
+use Rattle.word.specs.All.{All}
+use Rattle.word.proofs.All.{all-append}
+use Rattle.answers.specs.declared.Ran.{Ran}
 use Rattle.terms.specs.Row.{tagOf}
 use Rattle.terms.specs.Rules.{usedRows}
-use Rattle.terms.proofs.TableLaws.{ValidTable, valid-table}
+use Rattle.terms.proofs.TableLaws.{valid-table}
 use Rattle.stores.specs.Cells.{unset, held, cellOf, cellsFrom}
 use Rattle.stores.proofs.CertificateLaws.{ValidCertificates}
 use Rattle.stores.proofs.ValidLaws.{UndeclaredUnset, HoldsKind, UnsetOrUsed, valid-stores}
-use Rattle.theory.specs.RowModel.{Table, rowWorld}
+use Rattle.theory.specs.RowModel.{rowWorld}
 use Rattle.theory.specs.Machine.{State, namedCells, scratchCells}
 use Rattle.theory.specs.Compile.{kindIn, variables}
-use Rattle.theory.specs.Run.{Lent, stateOver, stateOf}
-use Rattle.theory.proofs.ValidMemory.{ValidMemory, used-inside}
+use Rattle.theory.specs.Run.{Lent, lentAfter, stateOver, stateOf, leftBy}
+use Rattle.theory.proofs.ValidMemory.{used-inside}
 use Rattle.theory.proofs.RowsRunAsTerms.{Held, IsUsed, HasTag, ValidState}
 use Rattle.theory.proofs.RowsKept.{Appended}
 use Rattle.theory.proofs.ValidLent.{Accepted, cell-held, object-held, tagged}
@@ -50,22 +51,6 @@ module _ (used : ℕ) (few : used ≤ 4096) where
   unfolding cellsFrom
   all-fit n zero store h = tt
   all-fit n (suc count) store h = (fits-cell (store n) (h n), all-fit (suc n) count store h)
-
-all-append : {A : Type 0} (P : A → Type 0) (l m : List A) → All P l → All P m → All P (l ++ m)
-all-append P [] m h g = g
-all-append P (a ∷ l) m h g = (h .0, all-append P l m (h .1) g)
-
--- what is lent after a finished run
-abbrev pub lentAfter : Lent → State rowWorld → Lent
-lentAfter x t = record {
-  kinds = x .kinds;
-  objects = cellsFrom 0 variables (t .stores .σ);
-  messages = cellsFrom 0 namedCells (t .stores .ρ) ++ cellsFrom 0 scratchCells (t .scratches);
-  certificates = x .certificates;
-  accumulator = cellOf (t .accumulator);
-  terms = t .stores .memory .rows;
-  counter = t .stores .memory .counter;
-}
 
 module _ (x : Lent) (a : Accepted x) (t : State rowWorld) (v : ValidState (kindIn (x .kinds)) t) (g : Appended (stateOf x .stores .memory) (t .stores .memory)) where
   abbrev rows : List ℕ
@@ -103,8 +88,9 @@ module _ (x : Lent) (a : Accepted x) (t : State rowWorld) (v : ValidState (kindI
   unfolding stateOver
   certificates-fit = subst (λ c. ValidCertificates rows used c) (g .certificates) (subst (λ n. ValidCertificates rows n (t .stores .memory .certificates)) (v .table .counted) (v .table .certificates))
 
-  pub accepted-again : Accepted (lentAfter x t)
-  accepted-again =
+  pub accepted-again : (answer : Ran) → Accepted (lentAfter x (leftBy answer t))
+  unfolding leftBy
+  accepted-again answer =
       let before = valid-stores (x .terms) (usedRows (x .terms)) (x .kinds) (x .objects) (x .messages) (x .certificates) (x .accumulator) .0 (a .good-stores) in
       record {
         kinds-length = a .kinds-length;

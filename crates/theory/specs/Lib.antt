@@ -8,6 +8,7 @@ pub mod TermModel
 pub mod Meaning
 pub mod Machine
 pub mod Emission
+pub mod Limits
 pub mod Compilers
 pub mod Rules
 pub mod Figure2
