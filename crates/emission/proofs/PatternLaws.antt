@@ -9,7 +9,7 @@ use Rattle.patterns.specs.Pattern.{object, raw, constant, opposite, keyOf, encr
 use Rattle.patterns.specs.Row.{fieldsOf, children, childrenOf}
 use Rattle.patterns.specs.Tree.{keyBy, partsBy, patternsOf}
 use Rattle.patterns.proofs.RowLaws.{children-count, child-slot}
-use Rattle.patterns.proofs.GoodRow.{GoodKey, GoodRow}
+use Rattle.patterns.specs.GoodRow.{GoodKey, GoodRow}
 use Rattle.patterns.proofs.GoodRow as fits
 use Rattle.patterns.proofs.FormLaws.{Formed, formed}
 use Rattle.patterns.proofs.TreeLaws.{parts-same}

@@ -25,8 +25,8 @@ use Rattle.patterns.proofs.SlotLaws.{four}
 use Rattle.patterns.proofs.SumLaws.{times, sumOver, sumBelow, sum-append, sum-once, times-some, fresh-all}
 pub use Rattle.patterns.proofs.FormLaws.{patterns-length, formed}
 use Rattle.patterns.proofs.CheckLaws.{named-more}
-use Rattle.patterns.proofs.GoodRow.{GoodRow}
-use Rattle.patterns.proofs.RuleLaws.{fieldsAt, childrenAt, all-good, never-again, all-named}
+use Rattle.patterns.specs.GoodRow.{GoodRow, fieldsAt, childrenAt}
+use Rattle.patterns.proofs.RuleLaws.{all-good, never-again, all-named}
 
 -- what holds where it holds of all below holds of all
 from-below : (P : ℕ → Type 0) → ((n : ℕ) → ((k : ℕ) → k < n → P k) → P n) → (n : ℕ) → P n

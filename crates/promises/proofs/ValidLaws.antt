@@ -13,7 +13,8 @@ use Rattle.answers.specs.declared.Ran.the-variants as Ran
 use Rattle.code.specs.Instruction.{instructionOf}
 use Rattle.code.specs.Words.{operandsFit}
 use Rattle.code.specs.declared.Instruction.{Instruction}
-use Rattle.code.proofs.WordLaws.{GoodWord, good-iff, no-bad-word-iff}
+use Rattle.code.specs.GoodWords.{GoodWord}
+use Rattle.code.proofs.WordLaws.{good-iff, no-bad-word-iff}
 use Rattle.terms.proofs.TableLaws.{valid-table, used-rows}
 use Rattle.stores.specs.Cells.{unset, held, storeOf}
 use Rattle.theory.specs.Outcome.{Outcome, done}

@@ -8,7 +8,7 @@ use lib.ListN.{length, getD, drop, drop-of-length-le}
 use lib.Seq.{drop-cons}
 use Rattle.code.specs.Instruction.{instructionOf}
 use Rattle.code.specs.declared.Instruction.{Instruction}
-use Rattle.code.proofs.WordLaws.{AllGoodWords}
+use Rattle.code.specs.GoodWords.{AllGoodWords}
 use Rattle.theory.specs.Outcome.{Outcome, done, stuck, room, bind}
 use Rattle.theory.specs.RowModel.{rowWorld}
 use Rattle.theory.specs.Machine.{Line, line, State, step, exec}

@@ -6,14 +6,14 @@ use mathlib.Core.Bool.{Bool}
 use mathlib.Core.List.{List}
 use lib.ListN.{length, getD}
 use Rattle.word.specs.Lowest.{LowestWith, NoneWith, LowestBad, AllGood}
-use Rattle.code.proofs.WordLaws.{LowestBadWord, AllGoodWords}
+use Rattle.code.specs.GoodWords.{LowestBadWord, AllGoodWords}
 use Rattle.terms.specs.Rules.{usedRows}
-use Rattle.terms.proofs.TableLaws.{Sound, ValidTable}
+use Rattle.terms.specs.Table.{Sound, ValidTable}
 use Rattle.stores.specs.Cells.{unset}
-use Rattle.stores.proofs.ValidLaws as Stores
+use Rattle.stores.specs.ValidStores as Stores
 use Rattle.patterns.specs.Tree.{patternOf}
-use Rattle.patterns.proofs.RuleLaws.{fieldsAt, BadRow, Unnamed}
-use Rattle.patterns.proofs.RightRow.{RightRow}
+use Rattle.patterns.specs.GoodRow.{fieldsAt, BadRow, Unnamed}
+use Rattle.patterns.specs.RightRow.{RightRow}
 use Rattle.theory.specs.RowModel.{mostNames}
 use Rattle.theory.specs.Machine.{Line}
 use Rattle.theory.specs.Emission.{Env, Emitted, ok}

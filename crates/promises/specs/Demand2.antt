@@ -6,7 +6,7 @@ use mathlib.Core.List.{List, _++_}
 use lib.ListN.{length, drop}
 use Rattle.word.specs.All.{All}
 use Rattle.answers.specs.declared.Ran.the-variants as Ran
-use Rattle.code.proofs.WordLaws.{AllGoodWords}
+use Rattle.code.specs.GoodWords.{AllGoodWords}
 use Rattle.patterns.specs.Tree.{patternOf}
 use Rattle.theory.specs.Outcome.{stuck, room}
 use Rattle.theory.specs.RowModel.{rowWorld}

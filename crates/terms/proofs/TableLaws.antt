@@ -1,6 +1,6 @@
--- What a valid term table is, in propositions, and that it stays valid when a row is added or the counter is raised.
+-- The tests of a term table say what document 01 says; a valid table stays valid when a row is added or the counter is raised.
 use mathlib.Core.Path.{_≡_, refl, sym, _∙_, ap}
-use mathlib.Core.Logic.{_↔_, _⊎_, _≢_, Iff·rfl, Iff·trans}
+use mathlib.Core.Logic.{_↔_, _≢_, Iff·rfl, Iff·trans}
 use mathlib.Core.Bool.{Bool, true, false, cond, not}
 use mathlib.Core.Option.{none, some}
 use mathlib.Core.List.{List, [], _∷_}
@@ -10,53 +10,14 @@ use native.Mathlib.Decide.{decLt, ℕ-discrete}
 use lib.Dec.{T, eqb, ltb}
 use lib.ListN.{length, getD, set, length-set, List·getD-eq-default}
 use lib.Seq.{getD-take, getD-set-same, getD-set-other, length-take-le}
-use Rattle.word.specs.All.{All}
 use Rattle.word.specs.Lowest.{LowestBad, AllGood}
 use Rattle.word.proofs.TestLaws.{both, chosen, fails, equals, is-below, not-below, at-most}
 use Rattle.word.proofs.LowestLaws.{each-all, one-of, one-of-two, none-bad, lowest-bad}
 use Rattle.terms.specs.Shape.{Shape, atom, encrypted, signed, hashed, tupled, partsOf}
 use Rattle.terms.specs.Row.{wordOf, tagOf, shapeOf}
 use Rattle.terms.specs.Rules.{usedRows, knownTag, unusedZero, numberFits, partsBelow, keyFits, earlierEqual, fits, badRow, badTerm}
+use Rattle.terms.specs.Table.{NumberFits, PartsBelow, KeyFits, GoodRow, ValidTable, Sound}
 use Rattle.terms.proofs.RowLaws.{Packs, kind-known, tag-word, shape-word, tag-nonzero}
-
--- a byte is at most 255; nonces and keys are below the name counter; agents are any
-abbrev pub NumberFits : ℕ → Shape ℕ → Type 0
-NumberFits counter (atom tag number) = (tag ≡ 1 → number < 256) × (tag ≢ 1 → tag ≢ 3 → number < counter)
-NumberFits counter (encrypted key body) = Unit {0}
-NumberFits counter (signed key body) = Unit {0}
-NumberFits counter (hashed body) = Unit {0}
-NumberFits counter (tupled parts) = Unit {0}
-
--- parts have smaller row numbers than their owner
-abbrev pub PartsBelow : ℕ → Shape ℕ → Type 0
-PartsBelow row shape = All (λ part. part < row) (partsOf shape)
-
--- the tags of keys that encrypt, and of those that sign
-abbrev pub Encrypts : ℕ → Type 0
-Encrypts tag = (tag ≡ 4) ⊎ (tag ≡ 6)
-
-abbrev pub Signs : ℕ → Type 0
-Signs tag = (tag ≡ 5) ⊎ (tag ≡ 6)
-
-abbrev pub KeyFits : List ℕ → Shape ℕ → Type 0
-KeyFits rows (atom tag number) = Unit {0}
-KeyFits rows (encrypted key body) = Encrypts (tagOf (getD rows key 0))
-KeyFits rows (signed key body) = Signs (tagOf (getD rows key 0))
-KeyFits rows (hashed body) = Unit {0}
-KeyFits rows (tupled parts) = Unit {0}
-
--- the rules of a used row
-pub record GoodRow (rows : List ℕ) (counter row word : ℕ) : Type 0 where
-  pub known : (1 ≤ tagOf word) × (tagOf word ≤ 10)
-  pub packed : wordOf (shapeOf word) ≡ word
-  pub number : NumberFits counter (shapeOf word)
-  pub below : PartsBelow row (shapeOf word)
-  pub key : KeyFits rows (shapeOf word)
-  pub new : (earlier : ℕ) → earlier < row → getD rows earlier 0 ≢ word
-
-pub record ValidTable (rows : List ℕ) (counter : ℕ) : Type 0 where
-  pub good : (row : ℕ) → row < usedRows rows → GoodRow rows counter row (getD rows row 0)
-  pub zeros : (row : ℕ) → usedRows rows ≤ row → getD rows row 0 ≡ 0
 
 -- each rule, as a test and as a proposition
 known-tag : (word : ℕ) → T (knownTag word) ↔ ((1 ≤ tagOf word) × (tagOf word ≤ 10))
@@ -126,10 +87,6 @@ used-once {rows} {count} u =
     let more : ¬ (count < usedRows rows) = λ l. used-rows rows .nonzero count l (u .ends) in
     let fewer : ¬ (usedRows rows < count) = λ l. u .nonzero (usedRows rows) l (used-rows rows .ends) in
     omega arith
-
--- what is asked of a row, used or not
-abbrev pub Sound : List ℕ → ℕ → ℕ → ℕ → Type 0
-Sound rows counter row word = (row < usedRows rows → GoodRow rows counter row word) × (usedRows rows ≤ row → word ≡ 0)
 
 not-chosen : (a b c : Bool) → not (cond a (not b) (not c)) ≡ cond a b c
 not-chosen true true c = refl

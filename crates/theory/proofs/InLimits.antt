@@ -1,16 +1,17 @@
 -- Compiled code is within its limits: below 8 words and 2 scratch numbers for each row of the pattern, and every operand fits.
-use mathlib.Core.Path.{_≡_, refl}
-use mathlib.Core.Bool.{Bool, true, false, cond, not, _&&_}
+use mathlib.Core.Path.{_≡_, refl, subst}
+use mathlib.Core.Bool.{Bool, true, false, cond, _&&_}
 use mathlib.Core.Logic.{_⊎_, inl, inr, ⊎-elim}
 use mathlib.Core.List.{List, [], _∷_}
-use Prim.Native.Nat.{ℕ, zero, suc, _+_, _*_, _-_, _<_, _≤_}
+use Prim.Native.Nat.{ℕ, suc, _+_, _*_, _-_, _<_, _≤_}
 use native.Mathlib.Omega.{arith}
 use lib.ListN.{length, length-append}
-use lib.Dec.{T, eqb, ltb, leb, eqb→eq, nltb→le, le→leb}
+use lib.Dec.{T, not-T, eqb, ltb, leb, eqb→eq, lt→ltb, nltb→le, le→leb}
 use Rattle.word.specs.Lowest.{oneOf}
 use Rattle.word.proofs.All.{all-append}
-use Rattle.word.proofs.TestLaws.{both, at-most}
+use Rattle.word.proofs.TestLaws.{both, stable, at-most}
 use Rattle.word.proofs.LowestLaws.{one-of-two}
+use Rattle.word.proofs.OneOfLaws.{from, one-up-to}
 use Rattle.answers.specs.declared.Compiled.{Compiled}
 use Rattle.answers.specs.declared.Compiled.the-variants.{WrittenWhileSet, ReadWhileUnset}
 use Rattle.code.specs.Instruction.{asObject}
@@ -120,11 +121,7 @@ module _ (kind : ℕ → ℕ) (row : ℕ) where
 -- kinds that operands have: a variable past the kinds is undeclared
 module _ (kind : ℕ → ℕ) (declared : (v : ℕ) → 64 ≤ v → kind v ≡ 0) where
   inside : (v : ℕ) → (kind v ≡ 0 → ⊥) → T (ltb v 64)
-  inside v n = go (ltb v 64) (nltb→le v 64)
-    where
-      go : (b : Bool) → (T (not b) → 64 ≤ v) → T b
-      go true h = tt
-      go false h = absurd (n (declared v (h tt)))
+  inside v n = stable (ltb v 64) λ out. n (declared v (nltb→le v 64 (not-T (ltb v 64) out)))
 
   -- of one kind, or of two
   has : (v k : ℕ) (ks : List ℕ) → kind v ≡ suc k → T (oneOf ks (suc k)) → T (hasKind kind (asObject v) ks)
@@ -135,21 +132,10 @@ module _ (kind : ℕ → ℕ) (declared : (v : ℕ) → 64 ≤ v → kind v ≡ 
 
   -- 1 to 9, and any declared kind
   abbrev any : List ℕ
-  any = 1 ∷ 2 ∷ 3 ∷ 4 ∷ 5 ∷ 6 ∷ 7 ∷ 8 ∷ 9 ∷ 10 ∷ []
+  any = from 1 10
 
   any-kind : (n : ℕ) → 1 ≤ n → n ≤ 9 → T (oneOf any n)
-  unfolding oneOf
-  any-kind zero h l = absurd (omega arith)
-  any-kind (suc zero) h l = tt
-  any-kind (suc (suc zero)) h l = tt
-  any-kind (suc (suc (suc zero))) h l = tt
-  any-kind (suc (suc (suc (suc zero)))) h l = tt
-  any-kind (suc (suc (suc (suc (suc zero))))) h l = tt
-  any-kind (suc (suc (suc (suc (suc (suc zero)))))) h l = tt
-  any-kind (suc (suc (suc (suc (suc (suc (suc zero))))))) h l = tt
-  any-kind (suc (suc (suc (suc (suc (suc (suc (suc zero)))))))) h l = tt
-  any-kind (suc (suc (suc (suc (suc (suc (suc (suc (suc zero))))))))) h l = tt
-  any-kind (suc (suc (suc (suc (suc (suc (suc (suc (suc (suc n)))))))))) h l = absurd (omega arith)
+  any-kind n h l = subst T (one-up-to 1 10 n h) (lt→ltb n 11 (omega arith))
 
   -- instructions that fit
   has-any : (v : ℕ) → 1 ≤ kind v → kind v ≤ 9 → T (hasKind kind (asObject v) any)

@@ -14,8 +14,8 @@ use Rattle.terms.specs.Row.{tagOf}
 use Rattle.terms.specs.Rules.{usedRows}
 use Rattle.terms.proofs.TableLaws.{valid-table}
 use Rattle.stores.specs.Cells.{unset, held, cellOf, cellsFrom}
-use Rattle.stores.proofs.CertificateLaws.{ValidCertificates}
-use Rattle.stores.proofs.ValidLaws.{UndeclaredUnset, HoldsKind, UnsetOrUsed, valid-stores}
+use Rattle.stores.specs.ValidStores.{ValidCertificates, UndeclaredUnset, HoldsKind, UnsetOrUsed}
+use Rattle.stores.proofs.ValidLaws.{valid-stores}
 use Rattle.theory.specs.RowModel.{rowWorld}
 use Rattle.theory.specs.Machine.{State, namedCells, scratchCells}
 use Rattle.theory.specs.Compile.{kindIn, variables}
@@ -37,11 +37,14 @@ getD-cells n zero store i h = absurd (omega arith)
 getD-cells n (suc count) store zero h = rw (add-zero n)
 getD-cells n (suc count) store (suc i) h = getD-cells (suc n) count store i (omega arith) ∙ rw (add-suc n i, suc-add n i)
 
--- a row below 65,535 in a cell is held there
-held-cell : (P : ℕ → Type 0) → ((row : ℕ) → P row → row < unset) → (cell : Option ℕ) → Held P cell → Held P (held (cellOf cell))
+-- what a cell holds is what was put there, if it is a row below 65,535
+pub held-back : (P : ℕ → Type 0) → ((row : ℕ) → P row → row < unset) → (cell : Option ℕ) → Held P cell → held (cellOf cell) ≡ cell
 unfolding held cellOf
-held-cell P small none h = tt
-held-cell P small (some row) h = rw (ne-eqb row 65535 (λ e. omega (arith, small row h))) h
+held-back P small none h = refl
+held-back P small (some row) h = rw (ne-eqb row 65535 (λ e. omega (arith, small row h)))
+
+held-cell : (P : ℕ → Type 0) → ((row : ℕ) → P row → row < unset) → (cell : Option ℕ) → Held P cell → Held P (held (cellOf cell))
+held-cell P small cell h = rw (held-back P small cell h) h
 
 module _ (used : ℕ) (few : used ≤ 4096) where
   fits-cell : (cell : Option ℕ) → Held (λ row. row < used) cell → UnsetOrUsed used (cellOf cell)

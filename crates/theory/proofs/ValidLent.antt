@@ -1,29 +1,29 @@
 -- What run checks of the lent cells is that their state is valid; and a valid state passes the checks again.
-use mathlib.Core.Path.{_≡_, refl, sym, _∙_, ap, subst}
+use mathlib.Core.Path.{_≡_, refl, _∙_}
 use mathlib.Core.Logic.{_↔_, _⊎_, inl, inr, ⊎-elim}
 use mathlib.Core.Bool.{Bool, true, false, cond, not}
-use mathlib.Core.Option.{Option, none, some}
-use mathlib.Core.List.{List, [], _∷_, _++_}
-use Prim.Native.Nat.{ℕ, zero, suc, _+_, _<_, _≤_}
+use mathlib.Core.Option.{none, some}
+use mathlib.Core.List.{List}
+use Prim.Native.Nat.{ℕ, _+_, _<_, _≤_}
 use native.Mathlib.Omega.{arith}
-use native.Mathlib.Nat.{zero-add, suc-add, add-suc}
-use lib.Dec.{T, eqb, leb, ltb, ltb→lt, nltb→le}
-use lib.ListN.{length, getD, take, drop, length-take, List·getD-eq-default}
+use lib.Dec.{T, eqb, ltb, ltb→lt, nltb→le}
+use lib.ListN.{length, getD, take, length-take, List·getD-eq-default}
 use lib.Seq.{getD-take, getD-drop}
 use Rattle.word.proofs.All.{All, all-getD}
 use Rattle.word.proofs.TestLaws.{equals}
 use Rattle.terms.specs.Row.{tagOf}
 use Rattle.terms.specs.Rules.{usedRows, badTerm}
-use Rattle.terms.proofs.TableLaws.{ValidTable, valid-table}
+use Rattle.terms.specs.Table.{ValidTable}
+use Rattle.terms.proofs.TableLaws.{valid-table}
 use Rattle.stores.specs.Cells.{unset, held, storeOf}
 use Rattle.stores.specs.Valid.{valid}
-use Rattle.stores.proofs.ValidLaws.{UndeclaredUnset, HoldsKind, UnsetOrUsed, valid-stores}
-use Rattle.theory.specs.RowModel.{Table, rowWorld, mostNames}
-use Rattle.theory.specs.Machine.{State, namedCells, scratchCells}
+use Rattle.stores.specs.ValidStores.{UndeclaredUnset, HoldsKind, UnsetOrUsed}
+use Rattle.stores.proofs.ValidLaws.{valid-stores}
+use Rattle.theory.specs.RowModel.{mostNames}
+use Rattle.theory.specs.Machine.{namedCells}
 use Rattle.theory.specs.Compile.{kindIn, variables}
 use Rattle.theory.specs.Run.{Lent, stateOver, stateOf, messageCells, mostCertificates, mostTermRows}
-use Rattle.theory.proofs.ValidMemory.{ValidMemory}
-use Rattle.theory.proofs.RowsRunAsTerms.{Held, IsUsed, HasTag, ValidState}
+use Rattle.theory.proofs.RowsRunAsTerms.{Held, ValidState}
 
 -- a cell that is unset or a used row holds a used row at most
 pub cell-held : (used cell : ℕ) → UnsetOrUsed used cell ↔ Held (λ row. row < used) (held cell)
