@@ -26,11 +26,10 @@ use Rattle.theory.proofs.SetCells.{set-held}
 use Rattle.theory.proofs.Places.{movedTo, same-instructions}
 use Rattle.theory.proofs.CompiledWords.{compiled-words-read}
 use Rattle.theory.proofs.Theorems.{reads-set-matching, reads-set-creating}
-use Rattle.theory.proofs.RunLaws.{stepsOf, Passed}
+use Rattle.theory.proofs.RunLaws.{stepsOf, Passed, passed-valid}
 use Rattle.promises.specs.Reading.{messageBefore}
 use Rattle.promises.specs.Demand3.{CodeFor}
 use Rattle.promises.proofs.RunLaws.{RunGives, run-gives}
-use Rattle.promises.proofs.ValidLaws.{passed-valid}
 use Rattle.promises.proofs.DecisionLaws.{held-row}
 use Rattle.promises.proofs.CodeLaws.{written, own-code}
 

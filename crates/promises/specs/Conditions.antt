@@ -8,9 +8,8 @@ use lib.ListN.{length, getD}
 use Rattle.word.specs.Lowest.{LowestWith, NoneWith, LowestBad, AllGood}
 use Rattle.code.specs.GoodWords.{LowestBadWord, AllGoodWords}
 use Rattle.terms.specs.Rules.{usedRows}
-use Rattle.terms.specs.Table.{Sound, ValidTable}
+use Rattle.terms.specs.Table.{Sound}
 use Rattle.stores.specs.Cells.{unset}
-use Rattle.stores.specs.ValidStores as Stores
 use Rattle.patterns.specs.Tree.{patternOf}
 use Rattle.patterns.specs.GoodRow.{fieldsAt, BadRow, Unnamed}
 use Rattle.patterns.specs.RightRow.{RightRow}
@@ -18,7 +17,8 @@ use Rattle.theory.specs.RowModel.{mostNames}
 use Rattle.theory.specs.Machine.{Line}
 use Rattle.theory.specs.Emission.{Env, Emitted, ok}
 use Rattle.theory.specs.Compile.{kindIn, variables, mostPatternRows, tables, entry}
-use Rattle.theory.specs.Run.{Lent, mostCodeWords, mostTermRows, mostCertificates, messageCells}
+use Rattle.theory.specs.Run.{Lent, mostCodeWords}
+pub use Rattle.theory.specs.Valid.{LentWithin, ValidStores, Valid}
 
 -- a cell by its number
 abbrev pub cell : List ℕ → ℕ → ℕ
@@ -74,16 +74,7 @@ pub record Emits (create : Bool) (pattern kinds objects named : List ℕ) (words
 
 -- RUN
 
--- not 1, for what is lent: 64 kinds, 64 object cells, 256 message cells, at most 32 certificates and 4,096 rows, a name counter of at most 65,536
-pub record LentWithin (x : Lent) : Type 0 where
-  pub kinds : length (x .kinds) ≡ variables
-  pub objects : length (x .objects) ≡ variables
-  pub messages : length (x .messages) ≡ messageCells
-  pub certificates : length (x .certificates) ≤ mostCertificates
-  pub terms : length (x .terms) ≤ mostTermRows
-  pub counter : x .counter ≤ mostNames
-
--- and at most 768 words
+-- not 1: what is lent is within its limits, and there are at most 768 words
 abbrev pub RunWithin : Lent → List ℕ → Type 0
 RunWithin x code = LentWithin x × (length code ≤ mostCodeWords)
 
@@ -91,21 +82,11 @@ RunWithin x code = LentWithin x × (length code ≤ mostCodeWords)
 abbrev pub BadTermAt : Lent → ℕ → Type 0
 BadTermAt x row = LowestBad (λ row. Sound (x .terms) (x .counter) row (getD (x .terms) row 0)) (length (x .terms)) row
 
--- not 3: kinds, cells, certificates and accumulator
-abbrev pub ValidStores : Lent → Type 0
-ValidStores x = Stores.ValidStores (x .terms) (usedRows (x .terms)) (x .kinds) (x .objects) (x .messages) (x .certificates) (x .accumulator)
-
--- what is lent to run is good: neither 1, 2 nor 3
-pub record Valid (x : Lent) : Type 0 where
-  pub within : LentWithin x
-  pub table : ValidTable (x .terms) (x .counter)
-  pub stores : ValidStores x
-
 -- 9: the lowest bad word
 abbrev pub BadWordAt : Lent → List ℕ → ℕ → Type 0
 BadWordAt x code word = LowestBadWord (kindIn (x .kinds)) code word
 
--- nor 9: the steps are taken
+-- neither 1, 2 nor 3, nor 9: the steps are taken
 pub record RunChecked (x : Lent) (code : List ℕ) : Type 0 where
   pub valid : Valid x
   pub few : length code ≤ mostCodeWords

@@ -41,10 +41,11 @@ use Rattle.theory.proofs.Related.{SameEnd, both-done, both-stuck}
 use Rattle.theory.specs.Meaning.{meaning}
 use Rattle.theory.proofs.RowsRunAsTerms.{ValidState, termsOf, Reads}
 use Rattle.theory.proofs.Room.{Free, rows-end-as-terms}
-use Rattle.theory.proofs.ValidLent.{Accepted, accepted-state}
+use Rattle.theory.specs.Valid.{Valid}
+use Rattle.theory.proofs.ValidLent.{valid-state}
 use Rattle.theory.proofs.CompiledWords.{compiled-words-good, compiled-words-read}
 use Rattle.theory.proofs.Product.{Written, compile-writes}
-use Rattle.theory.proofs.RunLaws.{run-steps, accepted-passes}
+use Rattle.theory.proofs.RunLaws.{run-steps, valid-passes}
 use Rattle.theory.proofs.SetCells as SetCells
 use Rattle.theory.proofs.SetCells.{set-held}
 
@@ -152,11 +153,11 @@ byte-fits kind (Sign v) f = (f .operands, tt)
 byte-fits kind (Verify v r) f = (f .operands, tt)
 byte-fits kind (Hash h) f = (f .operands, tt)
 
-module _ (create : Bool) (pattern slice : List ℕ) (x : Lent) (a : Accepted x) (words : ℕ)
+module _ (create : Bool) (pattern slice : List ℕ) (x : Lent) (a : Valid x) (words : ℕ)
     (answer : compile create pattern (x .kinds) (x .objects) (take namedCells (x .messages)) slice .answer ≡ Compiled.Done words)
     (free : Free words words (stateOf x .stores .memory)) where
-  abbrev compiled : Written create pattern (x .kinds) (x .objects) (take namedCells (x .messages)) (a .kinds-length) words (compile create pattern (x .kinds) (x .objects) (take namedCells (x .messages)) slice .code)
-  compiled = compile-writes create pattern (x .kinds) (x .objects) (take namedCells (x .messages)) (a .kinds-length) slice words answer
+  abbrev compiled : Written create pattern (x .kinds) (x .objects) (take namedCells (x .messages)) (a .within .kinds) words (compile create pattern (x .kinds) (x .objects) (take namedCells (x .messages)) slice .code)
+  compiled = compile-writes create pattern (x .kinds) (x .objects) (take namedCells (x .messages)) (a .within .kinds) slice words answer
 
   abbrev lines : List Line
   lines = compiled .compiles .lines
@@ -176,7 +177,7 @@ module _ (create : Bool) (pattern slice : List ℕ) (x : Lent) (a : Accepted x) 
   steps =
       rw code-words
       (run-steps x (codeWords lines)
-      (accepted-passes x (codeWords lines) a (omega (arith, code-length, compiled .limits .words, compiled .compiles .counts)) (compiled-words-good (kindIn (x .kinds)) lines (compiled .limits .lines)))
+      (valid-passes a (omega (arith, code-length, compiled .limits .words, compiled .compiles .counts)) (compiled-words-good (kindIn (x .kinds)) lines (compiled .limits .lines)))
       ∙ ap (λ n. ended n x (exec rowWorld (kindIn (x .kinds)) (linesOf (codeWords lines)) (stateOf x))) code-length)
 
   moved : movedTo 0 (exec rowWorld (kindIn (x .kinds)) (linesOf (codeWords lines)) (stateOf x)) ≡ movedTo 0 (exec rowWorld (kindIn (x .kinds)) lines (stateOf x))
@@ -186,11 +187,11 @@ module _ (create : Bool) (pattern slice : List ℕ) (x : Lent) (a : Accepted x) 
   ends-same : SameEnd (Reads (kindIn (x .kinds))) (exec rowWorld (kindIn (x .kinds)) lines (stateOf x)) (exec termWorld (kindIn (x .kinds)) lines (termsOf (stateOf x)))
   ends-same =
       rows-end-as-terms (kindIn (x .kinds)) lines (stateOf x) (termsOf (stateOf x))
-      (all-map lines (λ l f. byte-fits (kindIn (x .kinds)) (l .instruction) f) (compiled .limits .lines)) (accepted-state x a, refl)
+      (all-map lines (λ l f. byte-fits (kindIn (x .kinds)) (l .instruction) f) (compiled .limits .lines)) (valid-state x a, refl)
       (subst (λ n. Free n n (stateOf x .stores .memory)) (compiled .compiles .counts) free)
 
 -- Matching: the accumulator's term is the message.
-pub matching-demand : (pattern slice : List ℕ) (x : Lent) → Accepted x → (words : ℕ) (row : ℕ) → held (x .accumulator) ≡ some row
+pub matching-demand : (pattern slice : List ℕ) (x : Lent) → Valid x → (words : ℕ) (row : ℕ) → held (x .accumulator) ≡ some row
     → compile false pattern (x .kinds) (x .objects) (take namedCells (x .messages)) slice .answer ≡ Compiled.Done words → Free words words (stateOf x .stores .memory)
     → MatchEnds x (patternOf pattern) (meaning (x .terms) row) words (usedPart words (compile false pattern (x .kinds) (x .objects) (take namedCells (x .messages)) slice .code)) (run x (usedPart words (compile false pattern (x .kinds) (x .objects) (take namedCells (x .messages)) slice .code)))
 unfolding stateOver
@@ -202,7 +203,7 @@ matching-demand pattern slice x a words row set answer free =
     ∙ ap (λ m. match termWorld (kindIn (x .kinds)) (patternOf pattern) m (before x)) (ap (Option·map (meaning (x .terms))) set)))
 
 -- Creating: the message is in the accumulator afterwards.
-pub creating-demand : (pattern slice : List ℕ) (x : Lent) → Accepted x → (words : ℕ)
+pub creating-demand : (pattern slice : List ℕ) (x : Lent) → Valid x → (words : ℕ)
     → compile true pattern (x .kinds) (x .objects) (take namedCells (x .messages)) slice .answer ≡ Compiled.Done words → Free words words (stateOf x .stores .memory)
     → CreateEnds x (patternOf pattern) words (usedPart words (compile true pattern (x .kinds) (x .objects) (take namedCells (x .messages)) slice .code)) (run x (usedPart words (compile true pattern (x .kinds) (x .objects) (take namedCells (x .messages)) slice .code)))
 creating-demand pattern slice x a words answer free =

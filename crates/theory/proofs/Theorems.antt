@@ -41,8 +41,8 @@ use Rattle.theory.proofs.RowsRunAsTerms.{ValidState, Reads, rows-run-as
 use Rattle.theory.proofs.Room.{Free, never-room}
 use Rattle.theory.specs.Meaning.{meaning}
 use Rattle.theory.proofs.RowsKept.{Appended}
-use Rattle.theory.proofs.ValidLent.{Accepted}
-use Rattle.theory.proofs.ValidAgain.{accepted-again}
+use Rattle.theory.specs.Valid.{Valid}
+use Rattle.theory.proofs.ValidAgain.{stays-valid}
 use Rattle.theory.proofs.Demand3.{MatchEnds, CreateEnds, matching-demand, creating-demand}
 
 -- Over any world, for a pattern whose raw variables are named cells.
@@ -123,19 +123,19 @@ pub sees-slice-length : (create : Bool) (pattern kinds objects named code code�
     → SameCode code code′ (compile create pattern kinds objects named code) (compile create pattern kinds objects named code′)
 sees-slice-length create pattern kinds = same-slices create pattern kinds
 
--- Demand 3, from packed words to the figures, for what run accepts and as many free rows and names as code words: the run of the words that compile wrote
+-- Demand 3, from packed words to the figures, for what is lent and good and as many free rows and names as code words: the run of the words that compile wrote
 -- finishes with stores (and message and counter) that the figures give, and gets stuck only where they give nothing. It is never out of room.
-pub demand-3-matching : (pattern slice : List ℕ) (x : Lent) → Accepted x → (words row : ℕ) → held (x .accumulator) ≡ some row
+pub demand-3-matching : (pattern slice : List ℕ) (x : Lent) → Valid x → (words row : ℕ) → held (x .accumulator) ≡ some row
     → compile false pattern (x .kinds) (x .objects) (take namedCells (x .messages)) slice .answer ≡ Done words → Free words words (stateOf x .stores .memory)
     → MatchEnds x (patternOf pattern) (meaning (x .terms) row) words (usedPart words (compile false pattern (x .kinds) (x .objects) (take namedCells (x .messages)) slice .code)) (run x (usedPart words (compile false pattern (x .kinds) (x .objects) (take namedCells (x .messages)) slice .code)))
 demand-3-matching = matching-demand
 
-pub demand-3-creating : (pattern slice : List ℕ) (x : Lent) → Accepted x → (words : ℕ)
+pub demand-3-creating : (pattern slice : List ℕ) (x : Lent) → Valid x → (words : ℕ)
     → compile true pattern (x .kinds) (x .objects) (take namedCells (x .messages)) slice .answer ≡ Done words → Free words words (stateOf x .stores .memory)
     → CreateEnds x (patternOf pattern) words (usedPart words (compile true pattern (x .kinds) (x .objects) (take namedCells (x .messages)) slice .code)) (run x (usedPart words (compile true pattern (x .kinds) (x .objects) (take namedCells (x .messages)) slice .code)))
 demand-3-creating = creating-demand
 
--- After a finished run the stores and the table pass run's checks again.
-pub valid-again : (x : Lent) (a : Accepted x) (t : State rowWorld) → ValidState (kindIn (x .kinds)) t → Appended (stateOf x .stores .memory) (t .stores .memory)
-    → (answer : Ran) → Accepted (lentAfter x (leftBy answer t))
-valid-again = accepted-again
+-- After a finished run what was lent is good again.
+pub valid-again : (x : Lent) (a : Valid x) (t : State rowWorld) → ValidState (kindIn (x .kinds)) t → Appended (stateOf x .stores .memory) (t .stores .memory)
+    → (answer : Ran) → Valid (lentAfter x (leftBy answer t))
+valid-again = stays-valid

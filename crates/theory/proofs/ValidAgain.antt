@@ -1,4 +1,4 @@
--- After a finished run the stores and the table pass run's checks again.
+-- After a finished run what was lent is good again.
 use mathlib.Core.Path.{_≡_, refl, _∙_, ap, subst}
 use mathlib.Core.Option.{Option, none, some}
 use mathlib.Core.List.{List, _++_}
@@ -12,10 +12,8 @@ use Rattle.word.proofs.All.{all-append}
 use Rattle.answers.specs.declared.Ran.{Ran}
 use Rattle.terms.specs.Row.{tagOf}
 use Rattle.terms.specs.Rules.{usedRows}
-use Rattle.terms.proofs.TableLaws.{valid-table}
 use Rattle.stores.specs.Cells.{unset, held, cellOf, cellsFrom}
 use Rattle.stores.specs.ValidStores.{ValidCertificates, UndeclaredUnset, HoldsKind, UnsetOrUsed}
-use Rattle.stores.proofs.ValidLaws.{valid-stores}
 use Rattle.theory.specs.RowModel.{rowWorld}
 use Rattle.theory.specs.Machine.{State, namedCells, scratchCells}
 use Rattle.theory.specs.Compile.{kindIn, variables}
@@ -23,7 +21,8 @@ use Rattle.theory.specs.Run.{Lent, lentAfter, stateOver, stateOf, leftBy
 use Rattle.theory.proofs.ValidMemory.{used-inside}
 use Rattle.theory.proofs.RowsRunAsTerms.{Held, IsUsed, HasTag, ValidState}
 use Rattle.theory.proofs.RowsKept.{Appended}
-use Rattle.theory.proofs.ValidLent.{Accepted, cell-held, object-held, tagged}
+use Rattle.theory.specs.Valid.{Valid}
+use Rattle.theory.proofs.ValidLent.{cell-held, object-held, tagged}
 
 -- the cells of a store
 pub length-cells : (n count : ℕ) (store : ℕ → Option ℕ) → length (cellsFrom n count store) ≡ count
@@ -55,7 +54,7 @@ module _ (used : ℕ) (few : used ≤ 4096) where
   all-fit n zero store h = tt
   all-fit n (suc count) store h = (fits-cell (store n) (h n), all-fit (suc n) count store h)
 
-module _ (x : Lent) (a : Accepted x) (t : State rowWorld) (v : ValidState (kindIn (x .kinds)) t) (g : Appended (stateOf x .stores .memory) (t .stores .memory)) where
+module _ (x : Lent) (a : Valid x) (t : State rowWorld) (v : ValidState (kindIn (x .kinds)) t) (g : Appended (stateOf x .stores .memory) (t .stores .memory)) where
   abbrev rows : List ℕ
   rows = t .stores .memory .rows
 
@@ -91,26 +90,24 @@ module _ (x : Lent) (a : Accepted x) (t : State rowWorld) (v : ValidState (kindI
   unfolding stateOver
   certificates-fit = subst (λ c. ValidCertificates rows used c) (g .certificates) (subst (λ n. ValidCertificates rows n (t .stores .memory .certificates)) (v .table .counted) (v .table .certificates))
 
-  pub accepted-again : (answer : Ran) → Accepted (lentAfter x (leftBy answer t))
+  pub stays-valid : (answer : Ran) → Valid (lentAfter x (leftBy answer t))
   unfolding leftBy
-  accepted-again answer =
-      let before = valid-stores (x .terms) (usedRows (x .terms)) (x .kinds) (x .objects) (x .messages) (x .certificates) (x .accumulator) .0 (a .good-stores) in
-      record {
-        kinds-length = a .kinds-length;
-        objects-length = length-cells 0 variables (t .stores .σ);
-        messages-length = length-append (cellsFrom 0 namedCells (t .stores .ρ)) (cellsFrom 0 scratchCells (t .scratches)) ∙ rw (length-cells 0 namedCells (t .stores .ρ), length-cells 0 scratchCells (t .scratches));
-        few-certificates = a .few-certificates;
-        few-rows = v .table .rowsFew;
-        few-names = v .table .namesFew;
-        good-rows = valid-table rows (t .stores .memory .counter) .1 (v .table .table);
-        good-stores =
-            valid-stores rows used (x .kinds) (cellsFrom 0 variables (t .stores .σ)) (cellsFrom 0 namedCells (t .stores .ρ) ++ cellsFrom 0 scratchCells (t .scratches)) (x .certificates) (cellOf (t .accumulator)) .1
-            (record {
-              known = before .known;
-              undeclared = λ o k c. objects-fit o k c .0;
-              typed = λ o k c. objects-fit o k c .1;
-              cells = messages-fit;
-              certified = certificates-fit;
-              held = fits-cell used few (t .accumulator) (counts (t .accumulator) (v .accumulator));
-            });
-      }
+  stays-valid answer = record {
+    within = record {
+      kinds = a .within .kinds;
+      objects = length-cells 0 variables (t .stores .σ);
+      messages = length-append (cellsFrom 0 namedCells (t .stores .ρ)) (cellsFrom 0 scratchCells (t .scratches)) ∙ rw (length-cells 0 namedCells (t .stores .ρ), length-cells 0 scratchCells (t .scratches));
+      certificates = a .within .certificates;
+      terms = v .table .rowsFew;
+      counter = v .table .namesFew;
+    };
+    table = v .table .table;
+    stores = record {
+      known = a .stores .known;
+      undeclared = λ o k c. objects-fit o k c .0;
+      typed = λ o k c. objects-fit o k c .1;
+      cells = messages-fit;
+      certified = certificates-fit;
+      held = fits-cell used few (t .accumulator) (counts (t .accumulator) (v .accumulator));
+    };
+  }

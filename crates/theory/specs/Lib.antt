@@ -15,6 +15,7 @@ pub mod Figure2
 pub mod Figure3
 pub mod Compile
 pub mod Run
+pub mod Valid
 pub mod Bundle
 pub mod Listing
 pub mod Cases
