@@ -101,7 +101,7 @@ module _ (bytes : List ℕ) {before after : List ℕ} {next : ℕ} (wrote : Wrot
 -- no bundle is longer than 34,088 bytes
 long-refused : (bytes : List ℕ) → 34088 < length bytes → listing bytes ≡ refusedLine 1 0
 unfolding listing
-long-refused bytes long = rw (refused-none bytes (sym (refuses bytes λ w. omega (arith, w .size, w .limits))))
+long-refused bytes long = rw (refused-none bytes (sym (refuses bytes λ w. omega (arith, w .size, w .header))))
 
 -- input beyond the buffer changes nothing
 pub cut : (bytes : List ℕ) → listing (take 65536 bytes) ≡ listing bytes

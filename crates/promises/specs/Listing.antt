@@ -1,28 +1,17 @@
 -- Demand 1 for the bundle and the listing: what is read, what is refused, what is printed.
-use Prim.Native.Nat.{ℕ, zero, _*_, _≤_}
+use Prim.Native.Nat.{ℕ, zero}
 use mathlib.Core.Path.{_≡_}
 use mathlib.Core.Logic.{_↔_, _≢_}
 use mathlib.Core.Option.{none, some}
 use mathlib.Core.List.{List, _++_}
-use lib.ListN.{length}
 use Rattle.word.specs.All.{All}
 use Rattle.answers.specs.Numbers.{compiledNumber, compiledPlace}
 use Rattle.stores.specs.Certificates.{spareOf}
-use Rattle.theory.specs.RowModel.{mostNames}
-use Rattle.theory.specs.Compile.{mostPatternRows, compiledCode}
-use Rattle.theory.specs.Run.{run, mostTermRows, mostCertificates}
-use Rattle.theory.specs.Bundle.{Bundle, wordBytes, wordsIn, headerIn, bundleIn, readBundle}
+use Rattle.theory.specs.Compile.{compiledCode}
+use Rattle.theory.specs.Run.{run}
+use Rattle.theory.specs.Bundle.{Bundle, bundleIn, readBundle, BundleWithin}
 use Rattle.theory.specs.Listing.{refusedLine, codeLines, endLine, storeLines, lentTo, compiledFrom, listing}
 use Rattle.promises.specs.Answers.{compileNumber}
-
--- not 1: no spare header bit, counts and name counter within their limits, and exactly the size that they say
-pub record BundleWithin (bytes : List ℕ) : Type 0 where
-  pub spare : headerIn bytes .spare ≡ 0
-  pub pattern-rows : (1 ≤ headerIn bytes .patternRows) × (headerIn bytes .patternRows ≤ mostPatternRows)
-  pub certificates : headerIn bytes .certificates ≤ mostCertificates
-  pub term-rows : headerIn bytes .termRows ≤ mostTermRows
-  pub counter : headerIn bytes .counter ≤ mostNames
-  pub size : length bytes ≡ wordBytes * wordsIn (headerIn bytes)
 
 -- not 3: no spare certificate bit
 abbrev pub CertificatesClear : Bundle → Type 0

@@ -1,5 +1,6 @@
 -- A bundle: 64-bit words, high byte first.
-use Prim.Native.Nat.{ℕ, _+_, _*_}
+use Prim.Native.Nat.{ℕ, _+_, _*_, _≤_}
+use mathlib.Core.Path.{_≡_}
 use mathlib.Core.Bool.{Bool, true, false, _&&_}
 use mathlib.Core.Option.{Option, none, some}
 use mathlib.Core.List.{List, [], _∷_, flatMap}
@@ -113,6 +114,19 @@ bundleBy false bytes = none
 -- none is 1
 unfoldable pub readBundle : List ℕ → Option Bundle
 readBundle bytes = bundleBy (headerFits (headerIn bytes) && sizeFits (headerIn bytes) bytes) bytes
+
+-- not 1, in words: no spare header bit, counts and name counter within their limits,
+pub record HeaderWithin (h : Header) : Type 0 where
+  pub spare : h .spare ≡ 0
+  pub pattern-rows : (1 ≤ h .patternRows) × (h .patternRows ≤ mostPatternRows)
+  pub certificates : h .certificates ≤ mostCertificates
+  pub term-rows : h .termRows ≤ mostTermRows
+  pub counter : h .counter ≤ mostNames
+
+-- and exactly the size that they say
+pub record BundleWithin (bytes : List ℕ) : Type 0 where
+  pub header : HeaderWithin (headerIn bytes)
+  pub size : length bytes ≡ wordBytes * wordsIn (headerIn bytes)
 
 -- no spare bit of a certificate is set
 abbrev pub clearOf : List ℕ → Bool
