@@ -33,7 +33,7 @@ pub fields : (bytes : List ℕ) (header : Header) → opened bytes ≡ Is header
 unfolding bundleOf
 fields bytes header e =
     let o = opened-is bytes header e in
-    let w = o .whole in
+    let w = o .within in
     let all = elements 8 bytes in
     let h = headerIn bytes in
     let last = 1 + h .patternRows + h .termRows + 36 in
@@ -42,7 +42,7 @@ fields bytes header e =
       create = refl;
       accumulator = refl;
       counter = refl;
-      limits = (w .limits .pattern .1, w .limits .terms, w .limits .certificates);
+      limits = (w .header .pattern-rows .1, w .header .term-rows, w .header .certificates);
       size = omega (arith, w .size);
       pattern = refl;
       terms = rw drop-drop;

@@ -1,3 +1,2 @@
 -- Bundles taken apart.
 pub mod Opening
-pub mod Clear

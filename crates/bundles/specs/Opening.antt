@@ -2,22 +2,13 @@
 use Prim.Native.Nat.{ℕ, _+_}
 use mathlib.Core.Option.{Option, none, some}
 use mathlib.Core.List.{List}
-use lib.ListN.{drop, getD}
 use lib.Dec.{eqb}
-use Rattle.word.specs.Bytes.{elements}
-use Rattle.theory.specs.Bundle.{Bundle, headerOf, bundleOf, readBundle, wordBytes}
+use Rattle.theory.specs.Bundle.{Bundle, readBundle}
+pub use Rattle.theory.specs.Bundle.{headerIn, bundleIn}
 use Rattle.theory.specs.Bundle as theory
 use Rattle.bundles.specs.declared.Header.{Header}
 use Rattle.bundles.specs.declared.Opened.{Opened}
 use Rattle.bundles.specs.declared.Opened.the-variants.{Refused, Is}
-
--- the header in the first word
-abbrev pub headerIn : List ℕ → theory.Header
-headerIn bytes = headerOf (getD (elements wordBytes bytes) 0 0)
-
--- the bundle of bytes that open
-abbrev pub bundleIn : List ℕ → Bundle
-bundleIn bytes = bundleOf (headerIn bytes) (drop 1 (elements wordBytes bytes))
 
 -- a header as the code holds it
 abbrev pub held : theory.Header → Header

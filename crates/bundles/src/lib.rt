@@ -7,7 +7,7 @@ ghost use Rattle.word.specs.Bytes.{elements};
 ghost use Rattle.stores.specs.Cells.{unset};
 ghost use Rattle.theory.specs.Bundle.{headerOf, headerFits, cellsOf, kindsOf};
 ghost use Rattle.bundles.specs.Opening.{bundleIn, held, kindsAt, opened};
-ghost use Rattle.bundles.specs.Clear.{clearOf};
+ghost use Rattle.theory.specs.Bundle.{clearOf};
 
 pub struct Header {
     pub create: bool,

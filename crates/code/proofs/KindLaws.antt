@@ -6,10 +6,11 @@ use mathlib.Core.List.{List, [], _∷_}
 use native.Mathlib.Decide.{decLt}
 use native.Mathlib.Omega.{arith}
 use borrow.Author.Tests.{lt-ltb, le-ltb, le-leb, lt-leb, eq-eqb}
-use lib.Dec.{eqb, leb, leb·suc-suc}
+use lib.Dec.{T, eqb, leb, ltb, leb·suc-suc}
 use lib.ListN.{length, getD, take, length-take, List·getD-eq-default}
 use lib.Seq.{getD-take}
 use Rattle.word.specs.Lowest.{oneOf}
+use Rattle.word.proofs.TestLaws.{both, is-below, at-most}
 use Rattle.word.proofs.OneOfLaws.{from, one-here, one-later, one-last, one-outside, one-up-to}
 use Rattle.code.specs.Words.{hasKind, cellsFit, operandsFit}
 use Rattle.code.specs.declared.Instruction.{Instruction}
@@ -75,6 +76,15 @@ cells-some first n few = rw (le-leb n 4 few)
 
 pub cells-many : (first : Raw) (n : ℕ) → 4 < n → leb n 4 ≡ cellsFit first n
 cells-many first n many = rw (lt-leb n 4 many)
+
+-- what the tests say of operands
+pub object-below : (kind : ℕ → ℕ) (v : Object) (kinds : List ℕ) → T (hasKind kind v kinds) → v .0 < 64
+object-below kind v kinds has = is-below (v .0) 64 .0 (both (ltb (v .0) 64) (oneOf kinds (kind (v .0))) .0 has .0)
+
+pub cells-below : (first : Raw) (n : ℕ) → T (cellsFit first n) → (n ≤ 4) × (first .0 + n ≤ 256)
+cells-below first n fit =
+    let tests = both (leb n 4) (leb (first .0 + n) 256) .0 fit in
+    (at-most n 4 .0 (tests .0), at-most (first .0 + n) 256 .0 (tests .1))
 
 -- a test of an instruction that is known
 pub fits-as : (kind : ℕ → ℕ) (instruction same : Instruction) (answer : Bool) → instruction ≡ same

@@ -3,16 +3,15 @@ use Prim.Native.Nat.{ℕ, zero, suc, _+_, _/_, _%_, _<_, _≤_}
 use mathlib.Core.Bool.{Bool, true, false, not}
 use mathlib.Core.Path.{_≡_, _∙_, sym, ap, refl}
 use mathlib.Core.Option.{Option, none, some}
-use mathlib.Core.List.{List, [], _∷_}
-use native.Mathlib.Nat.{add-suc}
+use mathlib.Core.List.{List}
 use native.Mathlib.Omega.{arith}
 use borrow.Author.Tests.{eq-eqb, ne-eqb}
 use lib.Dec.{eqb}
 use lib.ListN.{length, getD, List·getD-eq-default}
-use lib.Arith.{lt-of-le-ne}
 use Rattle.word.specs.Fields.{join}
 use Rattle.word.specs.Lowest.{placeOf}
 use Rattle.word.specs.declared.Place.{Place}
+use Rattle.word.proofs.ArmLaws.{Past, past}
 use Rattle.word.proofs.ScanLaws.{Left, scan-hit, scan-miss, scan-end}
 use Rattle.code.specs.Instruction.{wordWidths, fieldsOf, wordOf, instructionBy, instructionOf, readOf}
 use Rattle.code.specs.Words.{operandsFit, goodWord, badWord}
@@ -38,28 +37,15 @@ pub reads-as : (word operation : ℕ) (instruction : Instruction) → word / 134
     → Is instruction ≡ readOf (instructionOf word)
 reads-as word operation instruction is fits says = rw (by-operation word operation fits is, says)
 
--- a number is none of several, as a match leaves it, and none of a run of numbers
-abbrev NoneOf : List ℕ → ℕ → Type 0
-NoneOf [] number = Unit {0}
-NoneOf (n ∷ rest) number = NoneOf rest number × (number ≡ n → ⊥)
-
-abbrev run : ℕ → ℕ → List ℕ
-run from zero = []
-run from (suc count) = (from + count) ∷ run from count
-
-past : (from count number : ℕ) → NoneOf (run from count) number → from ≤ number → from + count ≤ number
-past from zero number others least = omega arith
-past from (suc count) number others least =
-    rw add-suc (lt-of-le-ne (past from count number (others .0) least) (λ e. others .1 (sym e)))
-
-says-none : (operation a b n : ℕ) → NoneOf (run 2 16) operation → instructionBy operation a b n ≡ none
+-- no arm of the match
+says-none : (operation a b n : ℕ) → Past 2 16 operation → instructionBy operation a b n ≡ none
 says-none zero a b n others = refl
 says-none (suc zero) a b n others = refl
 says-none (suc (suc operation)) a b n others =
     let far : 18 ≤ suc (suc operation) = past 2 16 (suc (suc operation)) others (omega arith) in
     rw List·getD-eq-default
 
-pub reads-none : (word : ℕ) → word < 4294967296 → NoneOf (run 2 16) (word / 134217728) → Not ≡ readOf (instructionOf word)
+pub reads-none : (word : ℕ) → word < 4294967296 → Past 2 16 (word / 134217728) → Not ≡ readOf (instructionOf word)
 reads-none word fits others = rw (by-operation word (word / 134217728) fits refl, says-none _ _ _ _ others)
 
 -- what reading a word told

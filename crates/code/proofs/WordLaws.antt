@@ -1,18 +1,21 @@
 -- A word and its instruction, good words, and the lowest bad one.
 use Prim.Native.Nat.{ℕ, _/_, _%_, _<_}
-use mathlib.Core.Bool.{Bool, true, false, _&&_}
 use mathlib.Core.Path.{_≡_, refl}
-use mathlib.Core.Logic.{_↔_}
+use mathlib.Core.Logic.{_↔_, Iff·trans}
+use mathlib.Core.Bool.{not}
 use mathlib.Core.Option.{Option, none, some}
 use mathlib.Core.List.{List, [], _∷_}
 use native.Mathlib.Omega.{arith}
 use borrow.Author.Tests.{eq-eqb}
 use lib.Dec.{T, eqb, eqb→eq}
+use lib.ListN.{length, getD}
 use Rattle.word.specs.Fields.{join, at}
-use Rattle.word.proofs.TestLaws.{both}
-use Rattle.word.proofs.LowestLaws.{LowestBad, AllGood, lowest-bad-iff, none-bad-iff}
+use Rattle.word.proofs.TestLaws.{both, twice}
+use Rattle.word.proofs.LowestLaws.{none-bad, lowest-bad}
 use Rattle.code.specs.Instruction.{wordWidths, fieldsOf, wordOf, instructionBy, instructionOf}
 use Rattle.code.specs.Words.{operandsFit, wordFits, goodWord, badWord}
+use Rattle.code.specs.GoodWords.{LowestBadWord, AllGoodWords}
+pub use Rattle.code.specs.GoodWords.{GoodWord}
 use Rattle.code.specs.declared.Instruction.{Instruction}
 use Rattle.code.specs.declared.Instruction.the-variants.{Load, Store, StoreConst, Decode, Encode, Create, AnalyzeTuple, CreateTuple, Opposite, KeyOf, Match, Encrypt, Decrypt, Sign, Verify, Hash}
 
@@ -53,13 +56,6 @@ word-read (Sign v) fits = apart 15 (v .0) 0 0 (omega arith) (fits .a) (fits .b) 
 word-read (Verify v r) fits = apart 16 (v .0) (r .0) 0 (omega arith) (fits .a) (fits .b) (fits .n)
 word-read (Hash h) fits = apart 17 (h .0) 0 0 (omega arith) (fits .a) (fits .b) (fits .n)
 
--- a good word: it says an instruction, its unused fields are zero, and its operands are what figure 4 wants
-pub record GoodWord (kind : ℕ → ℕ) (word : ℕ) : Type 0 where
-  pub instruction : Instruction
-  pub says : instructionOf word ≡ some instruction
-  pub own : wordOf instruction ≡ word
-  pub operands : T (operandsFit kind instruction)
-
 pub good-iff : (kind : ℕ → ℕ) (word : ℕ) → T (goodWord kind word) ↔ GoodWord kind word
 unfolding goodWord
 good-iff kind word = (is-good (instructionOf word) refl, tests-good)
@@ -80,19 +76,14 @@ own-word-good kind instruction fits operands =
     good-iff kind (wordOf instruction) .1
     (record { instruction = instruction; says = word-read instruction fits; own = refl; operands = operands })
 
--- 9: this word is bad and all before it are good
-abbrev pub LowestBadWord : (ℕ → ℕ) → List ℕ → ℕ → Type 0
-LowestBadWord kind code place = LowestBad (λ k word. GoodWord kind word) 0 code place
-
--- not 9
-abbrev pub AllGoodWords : (ℕ → ℕ) → List ℕ → Type 0
-AllGoodWords kind code = AllGood (λ k word. GoodWord kind word) 0 code
-
 module _ (kind : ℕ → ℕ) (code : List ℕ) where
+  not-bad : (place : ℕ) → place < length code → T (not (not (goodWord kind (getD code place 0)))) ↔ GoodWord kind (getD code place 0)
+  not-bad place inside = Iff·trans (twice (goodWord kind (getD code place 0))) (good-iff kind (getD code place 0))
+
   pub bad-word-iff : (place : ℕ) → (badWord kind code ≡ some place) ↔ LowestBadWord kind code place
   unfolding badWord
-  bad-word-iff = lowest-bad-iff (λ k word. GoodWord kind word) (λ k word. goodWord kind word) (λ k word. good-iff kind word) 0 code
+  bad-word-iff = lowest-bad _ _ code 0 not-bad
 
   pub no-bad-word-iff : (badWord kind code ≡ none) ↔ AllGoodWords kind code
   unfolding badWord
-  no-bad-word-iff = none-bad-iff (λ k word. GoodWord kind word) (λ k word. goodWord kind word) (λ k word. good-iff kind word) 0 code
+  no-bad-word-iff = none-bad _ _ code 0 not-bad

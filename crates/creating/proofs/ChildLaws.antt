@@ -1,59 +1,37 @@
 -- Rows with children of their own: an encryption and a let.
-use Prim.Native.Nat.{ℕ, _+_, _-_, _*_, _≤_, _<_}
-use mathlib.Core.Path.{_≡_, sym, ap, subst, _∙_}
+use Prim.Native.Nat.{ℕ, _-_, _≤_}
+use mathlib.Core.Path.{_≡_, sym, _∙_}
 use mathlib.Core.List.{List}
 use native.Mathlib.Omega.{arith}
 use lib.Dec.{lit≤}
 use lib.ListN.{getD}
 use Rattle.code.specs.Instruction.{asObject}
 use Rattle.code.specs.declared.Instruction.the-variants.{Store, Decode, Encrypt}
-use Rattle.patterns.specs.Pattern.{Pattern, encryption, letIn, size}
+use Rattle.patterns.specs.Pattern.{encryption, letIn, size}
 use Rattle.patterns.specs.Row.{fieldsOf}
 use Rattle.patterns.specs.Tree.{keyBy}
+use Rattle.patterns.proofs.PatternLaws.{size-positive}
 use Rattle.theory.specs.Machine.{named}
 use Rattle.theory.specs.Emission.{Env, Emitted, emit}
 use Rattle.theory.specs.Compilers.{keyVar}
 use Rattle.emission.specs.Meets.{Does, Room}
 use Rattle.emission.specs.Budget.{patternIn, words, scratches, Row, RowAt}
 use Rattle.emission.proofs.MeetsLaws.{does-le, does-seq}
-use Rattle.emission.proofs.BudgetLaws.{size-pos, room-le, room-then, room-as, row-below}
-use Rattle.emission.proofs.PatternLaws.{good-row, encryption-child, encryption-row, let-children, let-row}
+use Rattle.emission.proofs.BudgetLaws.{as-row, room-le, room-then, row-below, encryption-room, let-room}
+use Rattle.emission.proofs.PatternLaws.{encryption-child, encryption-row, let-children, let-row}
 use Rattle.creating.specs.Creates.{keyCode, patternCode, Creates}
 use Rattle.creating.proofs.KeyLaws.{key-variable}
 
-pub slot : (children : List ℕ) (word i : ℕ) → children ≡ fieldsOf word .slots → getD children i 0 ≡ getD (fieldsOf word .slots) i 0
-slot children word i h = ap (λ (l : List ℕ). getD l i 0) h
-
--- the row's pattern is known
-pub as-pattern : (rows : List ℕ) (row : ℕ) (kinds : List ℕ) {e code e′ code′ : List ℕ} (p : Pattern) → patternIn rows row ≡ p → Does (patternCode kinds p) (words p) (scratches p) e code e′ code′
-    → Creates rows kinds row e code e′ code′
-as-pattern rows row kinds {e} {code} {e′} {code′} p h k = subst (λ (q : Pattern). Does (patternCode kinds q) (words q) (scratches q) e code e′ code′) (sym h) k
-
 module _ (rows : List ℕ) (row word : ℕ) {e : List ℕ} (asked : RowAt rows row word e) where
   -- e : E(key, p)
-  pub encryption-key : fieldsOf word .tag ≡ 5 → (fieldsOf word .f < 3) × (fieldsOf word .x < 64)
-  encryption-key five =
-      let key = good-row rows row word (asked .whole .good) (asked .whole .inside) (asked .here) .encryption five .0 in
-      (omega (arith, key .form), omega (arith, key .variable))
-
   module _ (five : fieldsOf word .tag ≡ 5) (child : ℕ) (first : child ≡ getD (fieldsOf word .slots) 0 0) where
-    is-encryption : patternIn rows row ≡ encryption row (fieldsOf word .v) (keyBy (fieldsOf word)) (patternIn rows child)
-    is-encryption = encryption-row rows row word (asked .whole .good) (asked .whole .inside) (asked .here) child first five
-
-    pub encryption-below : child < row
-    encryption-below = encryption-child rows row word (asked .whole .good) (asked .whole .inside) (asked .here) child first five
-
-    encryption-room : Room (8 * size (patternIn rows child) + 7) (2 * size (patternIn rows child) + 1) e
-    unfolding size
-    encryption-room = room-le (omega arith) (omega arith) (room-as rows row (encryption row (fieldsOf word .v) (keyBy (fieldsOf word)) (patternIn rows child)) is-encryption (asked .whole))
-
     module _ {f : Env → Emitted} {code e₁ code₁ : List ℕ} (keyed : Does f 3 0 e code e₁ code₁) where
       pub encryption-inside : Row rows child e₁
-      encryption-inside = row-below rows row child (asked .whole) encryption-below (room-then (omega arith) (omega arith) encryption-room keyed)
+      encryption-inside = row-below rows row child (asked .whole) (encryption-child asked child first five) (room-then (omega arith) (omega arith) (encryption-room asked child first five) keyed)
 
       module _ {g : Env → Emitted} {e₂ code₂ : List ℕ} (made : Does g (words (patternIn rows child)) (scratches (patternIn rows child)) e₁ code₁ e₂ code₂) where
         after-inside : Room 2 0 e₂
-        after-inside = room-then (omega arith) (omega arith) encryption-room (does-seq keyed made)
+        after-inside = room-then (omega arith) (omega arith) (encryption-room asked child first five) (does-seq keyed made)
 
         pub encrypt-room : Room 1 0 e₂
         encrypt-room = room-le (lit≤ tt) (lit≤ tt) after-inside
@@ -69,35 +47,25 @@ module _ (rows : List ℕ) (row word : ℕ) {e : List ℕ} (asked : RowAt rows r
         let same : x ≡ keyVar (keyBy (fieldsOf word)) = key ∙ sym (key-variable (fieldsOf word)) in
         let o : Does (emit row (Encrypt (asObject (keyVar (keyBy (fieldsOf word)))))) 1 0 e₂ code₂ e₃ code₃ = rw same at m in
         let p : Does (emit row (Decode (asObject (fieldsOf word .v)))) 1 0 e₃ code₃ e₄ code₄ = rw variable at n in
-        as-pattern rows row kinds (encryption row (fieldsOf word .v) (keyBy (fieldsOf word)) (patternIn rows child)) is-encryption
-        (does-le (omega (arith, size-pos (patternIn rows child))) (omega (arith, size-pos (patternIn rows child))) (does-seq k (does-seq l (does-seq o p))))
+        as-row (patternCode kinds) rows row (encryption row (fieldsOf word .v) (keyBy (fieldsOf word)) (patternIn rows child)) (encryption-row asked child first five)
+        (does-le (omega (arith, size-positive (patternIn rows child))) (omega (arith, size-positive (patternIn rows child))) (does-seq k (does-seq l (does-seq o p))))
 
   -- let r = p1 in p2
   module _ (nine : fieldsOf word .tag ≡ 9) (child : ℕ) (first : child ≡ getD (fieldsOf word .slots) 0 0) (other : ℕ) (second : other ≡ getD (fieldsOf word .slots) 1 0) where
-    is-let : patternIn rows row ≡ letIn row (fieldsOf word .r) (patternIn rows child) (patternIn rows other)
-    is-let = let-row rows row word (asked .whole .good) (asked .whole .inside) (asked .here) child first other second nine
-
-    pub let-below : (child < row) × (other < row)
-    let-below = let-children rows row word (asked .whole .good) (asked .whole .inside) (asked .here) child first other second nine
-
-    let-room : Room (8 * (size (patternIn rows child) + size (patternIn rows other)) + 7) (2 * (size (patternIn rows child) + size (patternIn rows other)) + 1) e
-    unfolding size
-    let-room = room-le (omega arith) (omega arith) (room-as rows row (letIn row (fieldsOf word .r) (patternIn rows child) (patternIn rows other)) is-let (asked .whole))
-
     pub let-first : Row rows child e
-    let-first = row-below rows row child (asked .whole) (let-below .0) (room-le (omega arith) (omega arith) let-room)
+    let-first = row-below rows row child (asked .whole) (let-children asked child first other second nine .0) (room-le (omega arith) (omega arith) (let-room asked child first other second nine))
 
     module _ {f : Env → Emitted} {code e₁ code₁ : List ℕ} (made : Does f (words (patternIn rows child)) (scratches (patternIn rows child)) e code e₁ code₁) where
       pub let-store : Room 1 0 e₁
-      let-store = room-then (omega arith) (omega arith) let-room made
+      let-store = room-then (omega arith) (omega arith) (let-room asked child first other second nine) made
 
       pub let-second : {g : Env → Emitted} {e₂ code₂ : List ℕ} → Does g 1 0 e₁ code₁ e₂ code₂ → Row rows other e₂
-      let-second stored = row-below rows row other (asked .whole) (let-below .1) (room-then (omega arith) (omega arith) let-room (does-seq made stored))
+      let-second stored = row-below rows row other (asked .whole) (let-children asked child first other second nine .1) (room-then (omega arith) (omega arith) (let-room asked child first other second nine) (does-seq made stored))
 
     pub let-done : (kinds : List ℕ) (r : ℕ) → r ≡ fieldsOf word .r → {code e₁ code₁ e₂ code₂ e₃ code₃ : List ℕ} → Creates rows kinds child e code e₁ code₁
         → Does (emit row (Store (named r))) 1 0 e₁ code₁ e₂ code₂ → Creates rows kinds other e₂ code₂ e₃ code₃ → Creates rows kinds row e code e₃ code₃
     unfolding patternCode size
     let-done kinds r raw {e₁ = e₁} {code₁ = code₁} {e₂ = e₂} {code₂ = code₂} k l m =
         let n : Does (emit row (Store (named (fieldsOf word .r)))) 1 0 e₁ code₁ e₂ code₂ = rw raw at l in
-        as-pattern rows row kinds (letIn row (fieldsOf word .r) (patternIn rows child) (patternIn rows other)) is-let
+        as-row (patternCode kinds) rows row (letIn row (fieldsOf word .r) (patternIn rows child) (patternIn rows other)) (let-row asked child first other second nine)
         (does-le (omega arith) (omega arith) (does-seq k (does-seq n m)))

@@ -1,14 +1,13 @@
 -- Variables and keys, instruction after instruction.
 use Prim.Native.Nat.{ℕ, zero, suc, _+_, _*_, _≤_, _<_}
 use mathlib.Core.Path.{_≡_, refl, sym, subst, _∙_}
-use mathlib.Core.Bool.{Bool, true, false, cond, _||_}
+use mathlib.Core.Bool.{Bool, true, false, cond, _||_, or-assoc, or-false}
 use mathlib.Core.List.{List, []}
 use native.Mathlib.Omega.{arith}
-use native.Mathlib.Decide.{ℕ-discrete}
-use borrow.Author.Tests.{ne-eqb}
 use lib.ListN.{length, getD}
 use lib.Dec.{eqb, lit≤}
 use Rattle.word.specs.Lowest.{oneOf}
+use Rattle.word.proofs.TestLaws.{eqb-swap}
 use Rattle.answers.specs.declared.Compiled.the-variants.{ReadWhileUnset}
 use Rattle.code.specs.Instruction.{asObject}
 use Rattle.code.specs.declared.Instruction.the-variants.{Decode, Encode, Create, Opposite, KeyOf}
@@ -28,14 +27,7 @@ use Rattle.creating.specs.Creates.{variableCode, keyCode}
 
 pub creatable-is : (kind : ℕ) → ((eqb kind 2 || eqb kind 5) || eqb kind 6) ≡ creatable kind
 unfolding creatable oneOf
-creatable-is kind = by (ℕ-discrete kind 2) (ℕ-discrete kind 5) (ℕ-discrete kind 6)
-  where
-    by : Dec (kind ≡ 2) → Dec (kind ≡ 5) → Dec (kind ≡ 6) → ((eqb kind 2 || eqb kind 5) || eqb kind 6) ≡ creatable kind
-    by (yes e) q r = rw e
-    by (no m) (yes e) r = rw e
-    by (no m) (no n) (yes e) = rw e
-    by (no m) (no n) (no o) =
-        simp (ne-eqb kind 2 m, ne-eqb kind 5 n, ne-eqb kind 6 o, ne-eqb 2 kind (λ e. m (sym e)), ne-eqb 5 kind (λ e. n (sym e)), ne-eqb 6 kind (λ e. o (sym e)))
+creatable-is kind = rw (eqb-swap kind 2, eqb-swap kind 5, eqb-swap kind 6, or-assoc, or-false)
 
 -- t is what was seen of the variable, s of its kind
 module _ (kinds : List ℕ) (row v : ℕ) (e code : List ℕ) (t : Bool) (seen : t ≡ known (getD e 0 0) v) where
@@ -102,12 +94,5 @@ module _ (kinds : List ℕ) (row word : ℕ) {e e₁ code code₁ : List ℕ} (x
     key-certified few n₀ n₁ d =
         let two : fieldsOf word .f ≡ 2 = omega (arith, n₀, n₁) in
         key-as (certifiedKey x y) (rw (two, key, second)) d
-
-pub key-low : (word : ℕ) → (fieldsOf word .f < 3) × (fieldsOf word .x < 64) → (x : ℕ) → x ≡ fieldsOf word .x → x < 64
-key-low word good x e = omega arith
-
-pub second-low : (word y : ℕ) → y ≡ fieldsOf word .y → y < 64
-unfolding fieldsOf
-second-low word y e = rw e (omega arith)
 
 pub ruleset variable-ways = (variable-set, variable-created, variable-refused)

@@ -1,60 +1,54 @@
 -- Rows with no children, by their tags.
-use Prim.Native.Nat.{ℕ, _-_, _≤_, _<_}
+use Prim.Native.Nat.{ℕ, _-_, _≤_}
 use mathlib.Core.Path.{_≡_, sym, _∙_}
 use mathlib.Core.List.{List}
 use native.Mathlib.Omega.{arith}
 use lib.Dec.{lit≤}
 use Rattle.code.specs.Instruction.{asObject}
 use Rattle.code.specs.declared.Instruction.the-variants.{Load, Decode, Sign}
-use Rattle.patterns.specs.Pattern.{Pattern, certifiedKey, object, raw, constant, opposite, keyOf, signature, hash}
+use Rattle.patterns.specs.Pattern.{certifiedKey, object, raw, constant, opposite, keyOf, signature, hash}
 use Rattle.patterns.specs.Row.{fieldsOf}
 use Rattle.patterns.specs.Tree.{keyBy}
 use Rattle.theory.specs.Machine.{named}
 use Rattle.theory.specs.Emission.{Env, Emitted, emit}
 use Rattle.theory.specs.Compilers.{keyVar}
 use Rattle.emission.specs.Meets.{Does, Room}
-use Rattle.emission.specs.Budget.{patternIn, RowAt, Leaf}
+use Rattle.emission.specs.Budget.{RowAt, Leaf}
 use Rattle.emission.proofs.MeetsLaws.{does-le, does-seq}
-use Rattle.emission.proofs.BudgetLaws.{size-pos, leaf-room, variable-low, room-le, room-then}
+use Rattle.emission.proofs.BudgetLaws.{as-leaf, leaf-room, variable-low, second-low, room-le, room-then}
 use Rattle.emission.proofs.PatternLaws.{good-row, object-row, raw-row, constant-row, opposite-row, key-of-row, signature-row, hash-row, above-four, seven-left}
 use Rattle.creating.specs.Creates.{keyCode, patternCode, Creates}
-use Rattle.creating.proofs.KeyLaws.{key-variable, second-low}
+use Rattle.creating.proofs.KeyLaws.{key-variable}
 use Rattle.creating.proofs.FormLaws.{raw-done, key-of-done}
 
 module _ (rows kinds : List ℕ) (row word : ℕ) {e code e′ code′ : List ℕ} (asked : RowAt rows row word e) where
-  as-leaf : (p : Pattern) → patternIn rows row ≡ p → Does (patternCode kinds p) 7 1 e code e′ code′ → Creates rows kinds row e code e′ code′
-  as-leaf p h k =
-      let s = size-pos (patternIn rows row) in
-      let j : Does (patternCode kinds (patternIn rows row)) 7 1 e code e′ code′ = rw h k in
-      does-le (omega arith) (omega arith) j
-
   module _ (tag : ℕ) (read : tag ≡ fieldsOf word .tag) where
     module _ (v : ℕ) (variable : v ≡ fieldsOf word .v) where
       pub leaf-object : tag ≡ 0 → Does (patternCode kinds (object row v)) 7 1 e code e′ code′ → Creates rows kinds row e code e′ code′
-      leaf-object h k = as-leaf (object row v) (object-row rows row word (asked .whole .good) (asked .whole .inside) (asked .here) (sym read ∙ h) ∙ rw variable) k
+      leaf-object h k = as-leaf (patternCode kinds) rows row (object row v) (object-row asked (sym read ∙ h) ∙ rw variable) k
 
       pub leaf-constant : (x : ℕ) → x ≡ fieldsOf word .x → tag ≡ 2 → ((any : List ℕ) → Does (patternCode any (constant row v x)) 7 1 e code e′ code′) → Creates rows kinds row e code e′ code′
       leaf-constant x second h k =
-          as-leaf (constant row v x) (constant-row rows row word (asked .whole .good) (asked .whole .inside) (asked .here) (sym read ∙ h) ∙ rw (variable, second)) (k kinds)
+          as-leaf (patternCode kinds) rows row (constant row v x) (constant-row asked (sym read ∙ h) ∙ rw (variable, second)) (k kinds)
 
       pub leaf-opposite : (y : ℕ) → y ≡ fieldsOf word .y → tag ≡ 3 → Does (patternCode kinds (opposite row v y)) 7 1 e code e′ code′ → Creates rows kinds row e code e′ code′
       leaf-opposite y second h k =
-          as-leaf (opposite row v y) (opposite-row rows row word (asked .whole .good) (asked .whole .inside) (asked .here) (sym read ∙ h) ∙ rw (variable, second)) k
+          as-leaf (patternCode kinds) rows row (opposite row v y) (opposite-row asked (sym read ∙ h) ∙ rw (variable, second)) k
 
       pub leaf-key-of : (y : ℕ) → y ≡ fieldsOf word .y → tag ≡ 4 → ((any : List ℕ) → Does (keyCode any row (certifiedKey v y)) 3 0 e code e′ code′) → Creates rows kinds row e code e′ code′
       leaf-key-of y second h k =
-          as-leaf (keyOf row v y) (key-of-row rows row word (asked .whole .good) (asked .whole .inside) (asked .here) (sym read ∙ h) ∙ rw (variable, second)) (key-of-done kinds row v y (k kinds))
+          as-leaf (patternCode kinds) rows row (keyOf row v y) (key-of-row asked (sym read ∙ h) ∙ rw (variable, second)) (key-of-done kinds row v y (k kinds))
 
       pub leaf-hash : (r : ℕ) → r ≡ fieldsOf word .r → Leaf (fieldsOf word .tag) → (tag ≡ 0 → ⊥) → (tag ≡ 1 → ⊥) → (tag ≡ 2 → ⊥) → (tag ≡ 3 → ⊥) → (tag ≡ 4 → ⊥) → (tag ≡ 6 → ⊥)
           → ((any : List ℕ) → Does (patternCode any (hash row v r)) 7 1 e code e′ code′) → Creates rows kinds row e code e′ code′
       leaf-hash r second leaf n₀ n₁ n₂ n₃ n₄ n₆ k =
-          let low = good-row rows row word (asked .whole .good) (asked .whole .inside) (asked .here) .tag in
+          let low = good-row asked .tag in
           let high = above-four tag n₀ n₁ n₂ n₃ n₄ in
           let seven = seven-left (fieldsOf word .tag) (omega arith) low (leaf .encryption) (λ h. n₆ (read ∙ h)) (leaf .tuple) (leaf .letIn) in
-          as-leaf (hash row v r) (hash-row rows row word (asked .whole .good) (asked .whole .inside) (asked .here) seven ∙ rw (variable, second)) (k kinds)
+          as-leaf (patternCode kinds) rows row (hash row v r) (hash-row asked seven ∙ rw (variable, second)) (k kinds)
 
     pub leaf-raw : (r : ℕ) → r ≡ fieldsOf word .r → tag ≡ 1 → Does (emit row (Load (named r))) 1 0 e code e′ code′ → Creates rows kinds row e code e′ code′
-    leaf-raw r second h k = as-leaf (raw row r) (raw-row rows row word (asked .whole .good) (asked .whole .inside) (asked .here) (sym read ∙ h) ∙ rw second) (raw-done kinds row r k)
+    leaf-raw r second h k = as-leaf (patternCode kinds) rows row (raw row r) (raw-row asked (sym read ∙ h) ∙ rw second) (raw-done kinds row r k)
 
 -- s : S(key, r)
 module _ (rows : List ℕ) (row word : ℕ) {e : List ℕ} (asked : RowAt rows row word e) where
@@ -63,11 +57,6 @@ module _ (rows : List ℕ) (row word : ℕ) {e : List ℕ} (asked : RowAt rows r
 
   pub key-room : Room 3 0 e
   key-room = room-le (lit≤ tt) (lit≤ tt) (leaf-room rows row word e asked)
-
-  pub signature-key : fieldsOf word .tag ≡ 6 → (fieldsOf word .f < 3) × (fieldsOf word .x < 64)
-  signature-key six =
-      let key = good-row rows row word (asked .whole .good) (asked .whole .inside) (asked .here) .signature six .0 in
-      (omega (arith, key .form), omega (arith, key .variable))
 
   module _ {f : Env → Emitted} {code e₁ code₁ : List ℕ} (keyed : Does f 3 0 e code e₁ code₁) where
     left : Room 4 1 e₁
@@ -90,8 +79,8 @@ module _ (rows : List ℕ) (row word : ℕ) {e : List ℕ} (asked : RowAt rows r
   signed kinds six v x r variable key body {e₂ = e₂} {code₂ = code₂} {e₃ = e₃} {code₃ = code₃} k l m n =
       let same : x ≡ keyVar (keyBy (fieldsOf word)) = key ∙ sym (key-variable (fieldsOf word)) in
       let o : Does (emit row (Sign (asObject (keyVar (keyBy (fieldsOf word)))))) 1 0 e₂ code₂ e₃ code₃ = rw same at m in
-      as-leaf rows kinds row word asked (signature row v (keyBy (fieldsOf word)) r)
-      (signature-row rows row word (asked .whole .good) (asked .whole .inside) (asked .here) six ∙ rw (variable, body))
+      as-leaf (patternCode kinds) rows row (signature row v (keyBy (fieldsOf word)) r)
+      (signature-row asked six ∙ rw (variable, body))
       (does-le (lit≤ tt) (lit≤ tt) (does-seq k (does-seq l (does-seq o n))))
 
 pub ruleset leaf-asks = (variable-low, second-low, leaf-room, load-room, key-room)

@@ -10,6 +10,7 @@ use Rattle.code.specs.declared.Raw.{Raw}
 use Rattle.code.specs.declared.Instruction.the-variants.{Store, CreateTuple, Encode}
 use Rattle.patterns.specs.Pattern.{Pattern, tuple, Parts, count, size}
 use Rattle.patterns.specs.Row.{fieldsOf}
+use Rattle.patterns.proofs.PatternLaws.{size-positive, count-sizes}
 use Rattle.theory.specs.Machine.{scratch}
 use Rattle.theory.specs.Emission.{Env, Emitted, emit, _then_}
 use Rattle.theory.specs.Compile.{kindIn}
@@ -20,10 +21,9 @@ use Rattle.emission.specs.Meets.{nextIn, Does, Quiet, Room}
 use Rattle.emission.specs.Budget.{patternIn, scratches, wordsOf, scratchesOf, Row, RowAt}
 use Rattle.emission.specs.Parts.{partsFrom, partAt, partsIn, PartsAt}
 use Rattle.emission.proofs.MeetsLaws.{then-assoc, does-le, does-seq, does-none, does-take}
-use Rattle.emission.proofs.BudgetLaws.{size-pos, count-sizes, room-le, room-then}
+use Rattle.emission.proofs.BudgetLaws.{as-row, room-le, room-then}
 use Rattle.emission.proofs.PartLaws.{InTurn, Walked, part-room, part-row, parts-next, tuple-is, tuple-counts, tuple-room, tuple-parts}
 use Rattle.creating.specs.Creates.{patternCode, partsCode, Creates, CreatesParts}
-use Rattle.creating.proofs.ChildLaws.{as-pattern}
 
 -- the part's code, and then STORE
 abbrev stores : List ℕ → Pattern → ℕ → ℕ → Env → Emitted
@@ -47,13 +47,13 @@ module _ (rows kinds : List ℕ) (row : ℕ) (parts : List Part) (n : ℕ) {e₀
 
   module _ {e₁ code₁ : List ℕ} (made : Creates rows kinds (partAt parts k .child) e code e₁ code₁) where
     pub part-stores : Room 1 0 e₁
-    part-stores = room-then (omega (arith, size-pos (patternIn rows (partAt parts k .child)))) (omega arith) room made
+    part-stores = room-then (omega (arith, size-positive (patternIn rows (partAt parts k .child)))) (omega arith) room made
 
     pub part-done : {s : Raw} {e₂ code₂ : List ℕ} → s ≡ scratch (partAt parts k .scratch) → Does (emit row (Store s)) 1 0 e₁ code₁ e₂ code₂
         → Walked (partsCode kinds) rows row parts n e₀ code₀ (k + 1) e₂ code₂
     part-done {e₂ = e₂} {code₂ = code₂} cell stored =
         let l : Does (emit row (STORE (scratch (partAt parts k .scratch)))) 1 0 e₁ code₁ e₂ code₂ = rw cell at stored in
-        parts-next (in-turn kinds) rows row parts n four asked k walked less (does-le (omega (arith, size-pos (patternIn rows (partAt parts k .child)))) (omega arith) (does-seq made l))
+        parts-next (in-turn kinds) rows row parts n four asked k walked less (does-le (omega (arith, size-positive (patternIn rows (partAt parts k .child)))) (omega arith) (does-seq made l))
 
 -- t : [p1 .. pn]
 module _ (rows : List ℕ) (row word : ℕ) {e : List ℕ} (asked : RowAt rows row word e) (eight : fieldsOf word .tag ≡ 8) (n : ℕ) (counted : n ≡ fieldsOf word .n)
@@ -96,7 +96,7 @@ module _ (rows : List ℕ) (row word : ℕ) {e : List ℕ} (asked : RowAt rows r
       rw (← variable, ← next, ← cell, counts) created in
       let three : Does (emit row (Encode (asObject (fieldsOf word .v)))) 1 0 e₂ code₂ e₃ code₃ = rw (← variable) encoded in
       let raised : Quiet (raise (count all)) (count all) e e₀ = subst (λ (m : ℕ). Quiet (raise m) m e e₀) (sym counts) taken in
-      as-pattern rows row kinds (tuple row (fieldsOf word .v) all) (tuple-is rows row word asked eight n counted slots got first parts laid)
+      as-row (patternCode kinds) rows row (tuple row (fieldsOf word .v) all) (tuple-is rows row word asked eight n counted slots got first parts laid)
       (does-le (omega arith) (omega arith)
       (does-take
       (λ rˢ. compile↑parts (kindIn kinds) all row rˢ then emit row (CREATE-TUPLE (fieldsOf word .v) (scratch rˢ) (count all)) then emit row (ENCODE (fieldsOf word .v))) raised

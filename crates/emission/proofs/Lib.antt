@@ -3,6 +3,6 @@ pub mod KnownLaws
 pub mod MeetsLaws
 pub mod StepLaws
 pub mod InstructionLaws
-pub mod BudgetLaws
 pub mod PatternLaws
+pub mod BudgetLaws
 pub mod PartLaws

@@ -1,13 +1,13 @@
 -- How steps of emission are joined.
-use Prim.Native.Nat.{ℕ, suc, _+_, _≤_}
+use Prim.Native.Nat.{ℕ, _+_, _≤_}
 use mathlib.Core.Path.{_≡_, refl, sym, ap, subst, fun-ext, _∙_}
 use mathlib.Core.Bool.{Bool, true, false, cond}
 use mathlib.Core.Option.{some}
-use mathlib.Core.List.{List, [], _∷_, _++_, append-assoc, map-append}
-use native.Mathlib.Nat.{add-zero}
+use mathlib.Core.List.{List, [], _++_, append-assoc, map-append}
 use native.Mathlib.Omega.{arith}
-use lib.ListN.{length, set, length-append, length-map}
+use lib.ListN.{length, length-append, length-map}
 use lib.Seq.{sets}
+use Rattle.word.proofs.ByteLaws.{sets-append}
 use Rattle.answers.specs.declared.Compiled.{Compiled}
 use Rattle.theory.specs.Machine.{Line}
 use Rattle.theory.specs.Emission.{Env, Emitted, ok, refuse, after, andThen, _then_, take, writes}
@@ -37,12 +37,6 @@ unfolding after
 after-nil (ok lines e) = refl
 after-nil (refuse answer) = refl
 
-sets-append : (xs ys blank : List ℕ) (start : ℕ) → sets (sets blank start xs) (start + length xs) ys ≡ sets blank start (xs ++ ys)
-sets-append [] ys blank start = rw add-zero
-sets-append (x ∷ xs) ys blank start =
-    let e : start + suc (length xs) ≡ suc start + length xs = omega arith in
-    rw e (sets-append xs ys (set blank start x) (suc start))
-
 codeWords-append : (c d : List Line) → codeWords (c ++ d) ≡ codeWords c ++ codeWords d
 codeWords-append c d = map-append _ c d
 
@@ -62,7 +56,7 @@ module _ {start : ℕ} {blank code e′ code′ : List ℕ} where
           fine = n .fine;
           env = n .env;
           written = rw length-append (omega (arith, n .written));
-          words = w ∙ sets-append (codeWords lines) (codeWords more) blank start ∙ ap (sets blank start) (sym (codeWords-append lines more));
+          words = w ∙ sym (sets-append blank start (codeWords lines) (codeWords more)) ∙ ap (sets blank start) (sym (codeWords-append lines more));
         };
       }
 

@@ -10,6 +10,7 @@ use lib.Seq.{drop-cons, getD-take, drop-length, length-take-le}
 use Rattle.patterns.specs.Pattern.{Pattern, tuple, Parts, end, part, count, size, sizes}
 use Rattle.patterns.specs.Row.{fieldsOf, childrenOf}
 use Rattle.patterns.specs.Tree.{partsBy}
+use Rattle.patterns.proofs.PatternLaws.{size-positive, count-sizes}
 use Rattle.patterns.proofs.RowLaws.{children-count}
 use Rattle.patterns.proofs.TreeLaws.{parts-count}
 use Rattle.theory.specs.Emission.{Env, Emitted, ok, _then_}
@@ -19,7 +20,7 @@ use Rattle.emission.specs.Meets.{nextIn, Does, Quiet, Room}
 use Rattle.emission.specs.Budget.{words, scratches, wordsOf, scratchesOf, patternIn, Row, RowAt, RoomParts}
 use Rattle.emission.specs.Parts.{partsFrom, partAt, partsIn, PartsAt, DoesParts}
 use Rattle.emission.proofs.MeetsLaws.{does-as, does-le, does-seq, does-none}
-use Rattle.emission.proofs.BudgetLaws.{size-pos, count-sizes, room-as}
+use Rattle.emission.proofs.BudgetLaws.{room-as}
 use Rattle.emission.proofs.PatternLaws.{good-row, slot-low, tuple-row}
 
 -- the parts of a tuple from the kth on
@@ -74,7 +75,7 @@ module _ {one : Pattern → ℕ → ℕ → Env → Emitted} {all : Parts → �
       unfolding sizes count
       part-room =
           let room = room-more in
-          let s = size-pos this in
+          let s = size-positive this in
           let t = count-sizes (partsIn rows parts n (k + 1)) in
           record { long = room .long; place = omega (arith, room .place); free = omega (arith, room .free) }
 
@@ -88,7 +89,7 @@ module _ {one : Pattern → ℕ → ℕ → Env → Emitted} {all : Parts → �
       parts-next {e₁} {code₁} made =
           let room = room-more in
           let rest = partsIn rows parts n (k + 1) in
-          let s = size-pos this in
+          let s = size-positive this in
           let t = count-sizes rest in
           let first = partAt parts 0 .scratch in
           let here : Does (one this row (first + k)) (8 * size this) (scratches this) e code e₁ code₁ = rw (asked .laid k less) at made in
@@ -121,7 +122,7 @@ children-slots word first = refl
 -- t : [p1 .. pn]
 module _ (rows : List ℕ) (row word : ℕ) {e : List ℕ} (asked : RowAt rows row word e) (eight : fieldsOf word .tag ≡ 8) (n : ℕ) (counted : n ≡ fieldsOf word .n) where
   tuple-few : n ≤ 4
-  tuple-few = omega (arith, good-row rows row word (asked .whole .good) (asked .whole .inside) (asked .here) .tuple eight .0)
+  tuple-few = omega (arith, good-row asked .tuple eight .0)
 
   module _ (slots : List ℕ) (got : slots ≡ fieldsOf word .slots) (first : ℕ) (parts : List Part) (made : parts ≡ partsFrom slots first) where
     parts-in : partsIn rows parts n 0 ≡ partsBy (patternIn rows) (childrenOf word)
@@ -130,7 +131,7 @@ module _ (rows : List ℕ) (row word : ℕ) {e : List ℕ} (asked : RowAt rows r
         ap (partsBy (patternIn rows)) same
 
     pub tuple-is : patternIn rows row ≡ tuple row (fieldsOf word .v) (partsIn rows parts n 0)
-    tuple-is = tuple-row rows row word (asked .whole .good) (asked .whole .inside) (asked .here) eight ∙ rw (← parts-in)
+    tuple-is = tuple-row asked eight ∙ rw (← parts-in)
 
     pub tuple-counts : count (partsIn rows parts n 0) ≡ n
     tuple-counts = rw parts-in (parts-count (patternIn rows) (childrenOf word) ∙ children-count word ∙ omega (arith, tuple-few))
@@ -155,7 +156,7 @@ module _ (rows : List ℕ) (row word : ℕ) {e : List ℕ} (asked : RowAt rows r
           most = asked .whole .most;
           few = tuple-few;
           below = λ k l. rw (made, part-slot slots first k (omega arith) .0, got)
-              (slot-low rows row word (asked .whole .good) (asked .whole .inside) (asked .here) n k (sym counted) l tuple-few);
+              (slot-low asked n k (sym counted) l tuple-few);
           laid = λ k l. rw made (part-slot slots first k (omega arith) .1);
           cells = rw made (omega (arith, room .free, before .free));
           room = record {

@@ -1,34 +1,30 @@
 -- The pattern of a good row, by the row's tag.
 use Prim.Native.Nat.{ℕ, _≤_, _<_}
-use mathlib.Core.Path.{_≡_, refl, ap, _∙_}
-use mathlib.Core.List.{List, [], _∷_}
+use mathlib.Core.Path.{_≡_, ap, _∙_}
+use mathlib.Core.List.{List}
 use native.Mathlib.Omega.{arith}
 use lib.ListN.{length, getD}
-use lib.Dec.{T}
-use Rattle.word.proofs.All.{All, all-at}
-use Rattle.patterns.specs.Pattern.{Pattern, object, raw, constant, opposite, keyOf, encryption, signature, hash, tuple, letIn}
+use Rattle.word.proofs.All.{All, all-at, all-map}
+use Rattle.patterns.specs.Pattern.{object, raw, constant, opposite, keyOf, encryption, signature, hash, tuple, letIn}
 use Rattle.patterns.specs.Row.{fieldsOf, children, childrenOf}
-use Rattle.patterns.specs.Rules.{rowFits}
 use Rattle.patterns.specs.Tree.{keyBy, partsBy, patternsOf}
 use Rattle.patterns.proofs.RowLaws.{children-count, child-slot}
-use Rattle.patterns.proofs.GoodRow.{GoodRow}
+use Rattle.patterns.specs.GoodRow.{GoodKey, GoodRow}
 use Rattle.patterns.proofs.GoodRow as fits
 use Rattle.patterns.proofs.FormLaws.{Formed, formed}
-use Rattle.emission.specs.Budget.{patternIn}
+use Rattle.patterns.proofs.TreeLaws.{parts-same}
+use Rattle.emission.specs.Budget.{patternIn, RowAt}
 
-parts-same : (f g : ℕ → Pattern) (row : ℕ) (cs : List ℕ) → ((c : ℕ) → c < row → f c ≡ g c) → All (λ c. c < row) cs → partsBy f cs ≡ partsBy g cs
-parts-same f g row [] h below = refl
-parts-same f g row (c ∷ cs) h below =
-    let e = h c (below .0) in
-    let t = parts-same f g row cs h (below .1) in
-    cc
+-- a child as the code holds it
+pub slot : (children : List ℕ) (word i : ℕ) → children ≡ fieldsOf word .slots → getD children i 0 ≡ getD (fieldsOf word .slots) i 0
+slot children word i h = ap (λ (l : List ℕ). getD l i 0) h
 
-module _ (rows : List ℕ) (row word : ℕ) (good : (place : ℕ) → place ≤ row → T (rowFits place (fieldsOf (getD rows place 0)))) (inside : row < length rows) (here : word ≡ getD rows row 0) where
+module _ {rows : List ℕ} {row word : ℕ} {e : List ℕ} (asked : RowAt rows row word e) where
   pub good-row : GoodRow row (fieldsOf word)
-  good-row = rw here (fits.good-row row (fieldsOf (getD rows row 0)) .0 (good row (omega arith)))
+  good-row = rw (asked .here) (fits.good-row row (fieldsOf (getD rows row 0)) .0 (asked .whole .good row (omega arith)))
 
   by-form : Formed (patternsOf rows) row word
-  by-form = rw here (formed rows row inside)
+  by-form = rw (asked .here) (formed rows row (asked .whole .inside))
 
   -- the children of a row are below it
   children-below : All (λ child. child < row) (children (fieldsOf word))
@@ -61,6 +57,16 @@ module _ (rows : List ℕ) (row word : ℕ) (good : (place : ℕ) → place ≤ 
   pub hash-row : fieldsOf word .tag ≡ 7 → patternIn rows row ≡ hash row (fieldsOf word .v) (fieldsOf word .r)
   hash-row h = by-form .form ∙ rw h
 
+  -- a key is F = 0, 1 or 2 of one of the 64 variables
+  key-fields : GoodKey (fieldsOf word) → (fieldsOf word .f < 3) × (fieldsOf word .x < 64)
+  key-fields key = (omega (arith, key .form), omega (arith, key .variable))
+
+  pub encryption-key : fieldsOf word .tag ≡ 5 → (fieldsOf word .f < 3) × (fieldsOf word .x < 64)
+  encryption-key h = key-fields (good-row .encryption h .0)
+
+  pub signature-key : fieldsOf word .tag ≡ 6 → (fieldsOf word .f < 3) × (fieldsOf word .x < 64)
+  signature-key h = key-fields (good-row .signature h .0)
+
   module _ (child : ℕ) (first : child ≡ getD (fieldsOf word .slots) 0 0) where
     pub encryption-child : fieldsOf word .tag ≡ 5 → child < row
     encryption-child h = rw first (slot-low 1 0 (good-row .encryption h .1) (omega arith) (omega arith))
@@ -82,7 +88,7 @@ module _ (rows : List ℕ) (row word : ℕ) (good : (place : ℕ) → place ≤ 
 
   pub tuple-row : fieldsOf word .tag ≡ 8 → patternIn rows row ≡ tuple row (fieldsOf word .v) (partsBy (patternIn rows) (childrenOf word))
   tuple-row h =
-      by-form .form ∙ rw h (ap (tuple row (fieldsOf word .v)) (parts-same (by-form .below) (patternIn rows) row (childrenOf word) (by-form .before) children-below))
+      by-form .form ∙ rw h (ap (tuple row (fieldsOf word .v)) (parts-same (by-form .below) (patternIn rows) (childrenOf word) (all-map (childrenOf word) (by-form .before) children-below)))
 
 -- tags told apart, as a match does
 pub above-four : (tag : ℕ) → (tag ≡ 0 → ⊥) → (tag ≡ 1 → ⊥) → (tag ≡ 2 → ⊥) → (tag ≡ 3 → ⊥) → (tag ≡ 4 → ⊥) → 5 ≤ tag

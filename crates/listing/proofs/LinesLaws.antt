@@ -6,23 +6,22 @@ use mathlib.Core.Option.{Option, none, some}
 use mathlib.Core.List.{List}
 use native.Mathlib.Omega.{arith}
 use borrow.Author.Tests.{not-true, not-false, eq-eqb, ne-eqb}
-use lib.ListN.{take, replicate}
+use lib.ListN.{length, take, replicate}
 use Rattle.text.specs.Written.{Wrote}
 use Rattle.answers.specs.Numbers.{compiledNumber, compiledPlace}
 use Rattle.answers.specs.declared.Compiled.{Compiled}
 use Rattle.answers.specs.declared.Compiled.the-variants.{Done, Limit, BadStore, BadPattern, WrongKind, WrittenWhileSet, ReadWhileUnset, CodeTooShort}
 use Rattle.bundles.specs.Opening.{headerIn, bundleIn, openedBy, opened}
-use Rattle.bundles.specs.Clear.{clearOf}
 use Rattle.bundles.specs.declared.Header.{Header}
 use Rattle.bundles.specs.declared.Opened.the-variants.{Refused, Is}
 use Rattle.bundles.proofs.OpeningLaws.{opened-is}
 use Rattle.bundles.proofs.BundleLaws.{lengths}
-use Rattle.theory.specs.Bundle.{Bundle, readBundle}
+use Rattle.theory.specs.Bundle.{Bundle, readBundle, clearOf}
 use Rattle.theory.specs.Compile.{CompileOutcome}
 use Rattle.theory.specs.Run.{Lent, RunOutcome, run, mostCodeWords}
-use Rattle.theory.specs.Listing.{refusedLine, lentTo, ranLines, compiledLines, bundleLines, listing}
+use Rattle.theory.specs.Listing.{refusedLine, lentTo, compileOf, compiledFrom, ranLines, compiledLines, bundleLines, listing}
+use Rattle.theory.proofs.CompileLaws.{part-fits}
 use Rattle.theory.proofs.Product.{compile-writes}
-use Rattle.listing.specs.Compiled.{compileOf}
 
 pub refused-none : (bytes : List ℕ) → opened bytes ≡ Refused → readBundle bytes ≡ none
 unfolding opened
@@ -47,14 +46,14 @@ module _ {before after : List ℕ} {next : ℕ} where
     listed c wrote e = subst (λ o. Wrote (compiledLines b o) before 0 after next) e wrote
 
     pub compile-refused : (number ≡ 0 → ⊥) → Wrote (refusedLine number place) before 0 after next
-        → Wrote (compiledLines b (compileOf b (replicate mostCodeWords 0))) before 0 after next
+        → Wrote (compiledLines b (compiledFrom b)) before 0 after next
     compile-refused other wrote =
         listed _ (rw (ne-eqb (compiledNumber answer) 0 (λ e. other (number-is ∙ e)), compiledLines, ← number-is, ← place-is) wrote) (rw zeros at is)
 
-    pub compile-ran : number ≡ 0 → Wrote (ranLines (take place code) (run (lentTo b) (take place code))) before 0 after next
-        → Wrote (compiledLines b (compileOf b (replicate mostCodeWords 0))) before 0 after next
-    compile-ran done wrote =
-        listed _ (rw (eq-eqb (compiledNumber answer) 0 (sym number-is ∙ done), compiledLines, ← place-is) wrote) (rw zeros at is)
+    pub compile-ran : number ≡ 0 → place ≤ length code → Wrote (ranLines (take place code) (run (lentTo b) (take place code))) before 0 after next
+        → Wrote (compiledLines b (compiledFrom b)) before 0 after next
+    compile-ran done fits wrote =
+        listed _ (rw (eq-eqb (compiledNumber answer) 0 (sym number-is ∙ done), compiledLines, ← place-is, part-fits place code fits) wrote) (rw zeros at is)
 
   -- a spare certificate bit is set, or none is
   module _ (bytes : List ℕ) {certificates : List ℕ} {clear : Bool} (are : certificates ≡ bundleIn bytes .certificates) (is : clear ≡ clearOf certificates) where
@@ -64,7 +63,7 @@ module _ {before after : List ℕ} {next : ℕ} where
         rw (set, bundleLines) wrote
 
     pub spare-clear : not clear ≡ false
-        → Wrote (compiledLines (bundleIn bytes) (compileOf (bundleIn bytes) (replicate mostCodeWords 0))) before 0 after next
+        → Wrote (compiledLines (bundleIn bytes) (compiledFrom (bundleIn bytes))) before 0 after next
         → Wrote (bundleLines (some (bundleIn bytes))) before 0 after next
     spare-clear fine wrote =
         let none : clearOf (bundleIn bytes .certificates) ≡ true = ap clearOf (sym are) ∙ sym is ∙ not-false clear fine in

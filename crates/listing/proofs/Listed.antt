@@ -27,11 +27,11 @@ use Rattle.theory.specs.Bundle.{Bundle, readBundle, certificatesClear}
 use Rattle.theory.specs.Outcome.{Outcome, done, stuck, room}
 use Rattle.theory.specs.RowModel.{rowWorld}
 use Rattle.theory.specs.Machine.{State, exec}
-use Rattle.theory.specs.Compile.{CompileOutcome, first, kindIn}
+use Rattle.theory.specs.Compile.{CompileOutcome, first, kindIn, compiledCode}
 use Rattle.theory.specs.Run.{Lent, stateOf, linesOf, leftBy, ended, refusals, runBy, run, mostCodeWords}
-use Rattle.theory.specs.Listing.{refusedWord, refusedLine, lentTo, ranLines, compiledLines, bundleLines, listing}
+use Rattle.theory.specs.Listing.{refusedWord, refusedLine, lentTo, compiledFrom, ranLines, compiledLines, bundleLines, listing}
+use Rattle.theory.proofs.CompileLaws.{part-length}
 use Rattle.theory.proofs.ValidAgain.{length-cells}
-use Rattle.listing.specs.Compiled.{compileOf}
 use Rattle.listing.proofs.LinesLaws.{few-words, refused-none}
 
 run-objects : (x : Lent) (code : List ℕ) → length (x .objects) ≡ 64 → length (run x code .objects) ≡ 64
@@ -55,7 +55,7 @@ compiled-short : (bytes : List ℕ) (header : Header) → opened bytes ≡ Is he
 compiled-short bytes header opens c few = go (eqb (compiledNumber (c .answer)) 0) (eqb-true (compiledNumber (c .answer)) 0)
   where
     words : List ℕ
-    words = take (compiledPlace (c .answer)) (c .code)
+    words = compiledCode c
 
     b : Bundle
     b = bundleIn bytes
@@ -65,7 +65,7 @@ compiled-short bytes header opens c few = go (eqb (compiledNumber (c .answer)) 0
     go true is =
         let long = run-objects (lentTo b) words (lengths bytes header opens .objects) in
         let fits = few (is refl) in
-        omega (arith, ran-length words (run (lentTo b) words) (omega (arith, length-take (compiledPlace (c .answer)) (c .code))) (omega arith))
+        omega (arith, ran-length words (run (lentTo b) words) (omega (arith, part-length (compiledPlace (c .answer)) (c .code))) (omega arith))
     go false is = refused-short _ _
 
 -- every listing fits 65,536 bytes
@@ -81,7 +81,7 @@ listing-short bytes = by (opened bytes) refl
         b = bundleIn bytes
 
         compiled : CompileOutcome
-        compiled = compileOf b (replicate mostCodeWords 0)
+        compiled = compiledFrom b
 
         go : (clear : Bool) → length {A = ℕ} (elim clear as (λ _. List ℕ) [ true ↦ compiledLines b compiled | false ↦ refusedLine 3 0 ]) ≤ 65536
         go true = compiled-short bytes header e compiled (few-words bytes header e (replicate mostCodeWords 0) refl refl refl)
@@ -101,7 +101,7 @@ module _ (bytes : List ℕ) {before after : List ℕ} {next : ℕ} (wrote : Wrot
 -- no bundle is longer than 34,088 bytes
 long-refused : (bytes : List ℕ) → 34088 < length bytes → listing bytes ≡ refusedLine 1 0
 unfolding listing
-long-refused bytes long = rw (refused-none bytes (sym (refuses bytes λ w. omega (arith, w .size, w .limits))))
+long-refused bytes long = rw (refused-none bytes (sym (refuses bytes λ w. omega (arith, w .size, w .header))))
 
 -- input beyond the buffer changes nothing
 pub cut : (bytes : List ℕ) → listing (take 65536 bytes) ≡ listing bytes

@@ -12,8 +12,7 @@ use Rattle.bundles.proofs.BundleLaws.{fields, lengths}
 use Rattle.stores.specs.Cells.{unset}
 use Rattle.theory.specs.Compile.{CompileOutcome, compile}
 use Rattle.theory.specs.Run.{RunOutcome, run}
-use Rattle.theory.specs.Listing.{lentTo}
-use Rattle.listing.specs.Compiled.{compileOf}
+use Rattle.theory.specs.Listing.{lentTo, compileOf}
 
 module _ (bytes : List ℕ) {header : Header} (opens : opened bytes ≡ Is header) where
   pub pattern-front : {rows : List ℕ} (rest : List ℕ) → rows ≡ bundleIn bytes .pattern ++ rest → take (header .«pattern_rows») rows ≡ bundleIn bytes .pattern

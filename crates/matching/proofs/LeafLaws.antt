@@ -1,70 +1,60 @@
 -- Rows with no children, by their tags.
-use Prim.Native.Nat.{ℕ, _≤_, _<_}
+use Prim.Native.Nat.{ℕ, _≤_}
 use mathlib.Core.Path.{_≡_, sym, _∙_}
 use mathlib.Core.List.{List}
 use native.Mathlib.Omega.{arith}
 use lib.Dec.{lit≤}
 use Rattle.code.specs.Instruction.{asObject}
 use Rattle.code.specs.declared.Instruction.the-variants.{Decode, Verify}
-use Rattle.patterns.specs.Pattern.{Pattern, Key, plainKey, opKey, certifiedKey, object, raw, constant, opposite, keyOf, signature, hash}
+use Rattle.patterns.specs.Pattern.{Key, plainKey, opKey, certifiedKey, object, raw, constant, opposite, keyOf, signature, hash}
 use Rattle.patterns.specs.Row.{fieldsOf}
 use Rattle.patterns.specs.Tree.{keyBy}
 use Rattle.theory.specs.Machine.{named}
 use Rattle.theory.specs.Emission.{emit}
 use Rattle.theory.specs.Compilers.{compile↓, verifying}
 use Rattle.emission.specs.Meets.{Does}
-use Rattle.emission.specs.Budget.{patternIn, RowAt, Leaf}
+use Rattle.emission.specs.Budget.{RowAt, Leaf}
 use Rattle.emission.proofs.MeetsLaws.{does-le, does-seq}
-use Rattle.emission.proofs.BudgetLaws.{size-pos, leaf-room, variable-low}
-use Rattle.emission.proofs.PatternLaws.{good-row, object-row, raw-row, constant-row, opposite-row, key-of-row, signature-row, hash-row, above-four, seven-left}
+use Rattle.emission.proofs.BudgetLaws.{as-leaf, leaf-room, variable-low}
+use Rattle.emission.proofs.PatternLaws.{good-row, signature-key, object-row, raw-row, constant-row, opposite-row, key-of-row, signature-row, hash-row, above-four, seven-left}
 use Rattle.matching.specs.Matches.{Matches}
 
 module _ (rows : List ℕ) (row word : ℕ) {e code e′ code′ : List ℕ} (asked : RowAt rows row word e) where
-  as-leaf : (p : Pattern) → patternIn rows row ≡ p → Does (compile↓ p) 7 1 e code e′ code′ → Matches rows row e code e′ code′
-  as-leaf p h k =
-      let s = size-pos (patternIn rows row) in
-      let j : Does (compile↓ (patternIn rows row)) 7 1 e code e′ code′ = rw h k in
-      does-le (omega arith) (omega arith) j
-
   module _ (tag : ℕ) (read : tag ≡ fieldsOf word .tag) where
     module _ (v : ℕ) (variable : v ≡ fieldsOf word .v) where
       pub leaf-object : tag ≡ 0 → Does (compile↓ (object row v)) 7 1 e code e′ code′ → Matches rows row e code e′ code′
-      leaf-object h k = as-leaf (object row v) (object-row rows row word (asked .whole .good) (asked .whole .inside) (asked .here) (sym read ∙ h) ∙ rw variable) k
+      leaf-object h k = as-leaf compile↓ rows row (object row v) (object-row asked (sym read ∙ h) ∙ rw variable) k
 
       pub leaf-constant : (x : ℕ) → x ≡ fieldsOf word .x → tag ≡ 2 → Does (compile↓ (constant row v x)) 7 1 e code e′ code′ → Matches rows row e code e′ code′
       leaf-constant x second h k =
-          as-leaf (constant row v x) (constant-row rows row word (asked .whole .good) (asked .whole .inside) (asked .here) (sym read ∙ h) ∙ rw (variable, second)) k
+          as-leaf compile↓ rows row (constant row v x) (constant-row asked (sym read ∙ h) ∙ rw (variable, second)) k
 
       pub leaf-opposite : (y : ℕ) → y ≡ fieldsOf word .y → tag ≡ 3 → Does (compile↓ (opposite row v y)) 7 1 e code e′ code′ → Matches rows row e code e′ code′
       leaf-opposite y second h k =
-          as-leaf (opposite row v y) (opposite-row rows row word (asked .whole .good) (asked .whole .inside) (asked .here) (sym read ∙ h) ∙ rw (variable, second)) k
+          as-leaf compile↓ rows row (opposite row v y) (opposite-row asked (sym read ∙ h) ∙ rw (variable, second)) k
 
       pub leaf-key-of : (y : ℕ) → y ≡ fieldsOf word .y → tag ≡ 4 → Does (compile↓ (keyOf row v y)) 7 1 e code e′ code′ → Matches rows row e code e′ code′
       leaf-key-of y second h k =
-          as-leaf (keyOf row v y) (key-of-row rows row word (asked .whole .good) (asked .whole .inside) (asked .here) (sym read ∙ h) ∙ rw (variable, second)) k
+          as-leaf compile↓ rows row (keyOf row v y) (key-of-row asked (sym read ∙ h) ∙ rw (variable, second)) k
 
       pub leaf-hash : (r : ℕ) → r ≡ fieldsOf word .r → Leaf (fieldsOf word .tag) → (tag ≡ 0 → ⊥) → (tag ≡ 1 → ⊥) → (tag ≡ 2 → ⊥) → (tag ≡ 3 → ⊥) → (tag ≡ 4 → ⊥) → (tag ≡ 6 → ⊥)
           → Does (compile↓ (hash row v r)) 7 1 e code e′ code′ → Matches rows row e code e′ code′
       leaf-hash r second leaf n₀ n₁ n₂ n₃ n₄ n₆ k =
-          let low = good-row rows row word (asked .whole .good) (asked .whole .inside) (asked .here) .tag in
+          let low = good-row asked .tag in
           let high = above-four tag n₀ n₁ n₂ n₃ n₄ in
           let seven = seven-left (fieldsOf word .tag) (omega arith) low (leaf .encryption) (λ h. n₆ (read ∙ h)) (leaf .tuple) (leaf .letIn) in
-          as-leaf (hash row v r) (hash-row rows row word (asked .whole .good) (asked .whole .inside) (asked .here) seven ∙ rw (variable, second)) k
+          as-leaf compile↓ rows row (hash row v r) (hash-row asked seven ∙ rw (variable, second)) k
 
     pub leaf-raw : (r : ℕ) → r ≡ fieldsOf word .r → tag ≡ 1 → Does (compile↓ (raw row r)) 7 1 e code e′ code′ → Matches rows row e code e′ code′
-    leaf-raw r second h k = as-leaf (raw row r) (raw-row rows row word (asked .whole .good) (asked .whole .inside) (asked .here) (sym read ∙ h) ∙ rw second) k
+    leaf-raw r second h k = as-leaf compile↓ rows row (raw row r) (raw-row asked (sym read ∙ h) ∙ rw second) k
 
 -- s : S(key, r)
-pub key-low : (rows : List ℕ) (row word : ℕ) (e : List ℕ) → RowAt rows row word e → fieldsOf word .tag ≡ 6 → (x : ℕ) → x ≡ fieldsOf word .x → x < 64
-key-low rows row word e asked six x h =
-    omega (arith, good-row rows row word (asked .whole .good) (asked .whole .inside) (asked .here) .signature six .0 .variable)
-
 module _ (rows : List ℕ) (row word : ℕ) {e code e₁ code₁ e₂ code₂ : List ℕ} (asked : RowAt rows row word e) (six : fieldsOf word .tag ≡ 6) where
   module _ (v x r form : ℕ) (variable : v ≡ fieldsOf word .v) (key : x ≡ fieldsOf word .x) (body : r ≡ fieldsOf word .r) (read : form ≡ fieldsOf word .f)
       (decoded : Does (emit row (Decode (asObject v))) 1 0 e code e₁ code₁) where
     signed : (k : Key) → keyBy (fieldsOf word) ≡ k → Does (verifying row k r) 6 1 e₁ code₁ e₂ code₂ → Matches rows row e code e₂ code₂
     signed k h m =
-        as-leaf rows row word asked (signature row v k r) (signature-row rows row word (asked .whole .good) (asked .whole .inside) (asked .here) six ∙ rw (variable, body, h))
+        as-leaf compile↓ rows row (signature row v k r) (signature-row asked six ∙ rw (variable, body, h))
         (does-seq decoded m)
 
     pub signed-plain : form ≡ 0 → Does (emit row (Verify (asObject x) (named r))) 1 0 e₁ code₁ e₂ code₂ → Matches rows row e code e₂ code₂
@@ -76,8 +66,7 @@ module _ (rows : List ℕ) (row word : ℕ) {e code e₁ code₁ e₂ code₂ : 
 
       pub signed-certified : (form ≡ 0 → ⊥) → (form ≡ 1 → ⊥) → Does (verifying row (certifiedKey x y) r) 6 1 e₁ code₁ e₂ code₂ → Matches rows row e code e₂ code₂
       signed-certified n₀ n₁ m =
-          let g = good-row rows row word (asked .whole .good) (asked .whole .inside) (asked .here) .signature six .0 .form in
-          let two : fieldsOf word .f ≡ 2 = omega (arith, n₀, n₁) in
+          let two : fieldsOf word .f ≡ 2 = omega (arith, signature-key asked six, n₀, n₁) in
           signed (certifiedKey x y) (rw (two, key, second)) m
 
 pub ruleset leaf-asks = (variable-low, leaf-room)

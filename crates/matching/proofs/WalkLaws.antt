@@ -1,7 +1,7 @@
 -- Rows with children.
 use Prim.Native.Nat.{ℕ, zero, suc, _+_, _*_, _<_}
 use mathlib.Core.Path.{_≡_, refl, sym, ap, subst, _∙_}
-use mathlib.Core.List.{List}
+use mathlib.Core.List.{List, []}
 use native.Mathlib.Omega.{arith}
 use lib.ListN.{length, getD}
 use Rattle.code.specs.Instruction.{asObject}
@@ -9,7 +9,7 @@ use Rattle.code.specs.declared.Raw.{Raw}
 use Rattle.code.specs.declared.Instruction.the-variants.{Load, Decode, AnalyzeTuple, Decrypt}
 use Rattle.patterns.specs.Pattern.{Pattern, plainKey, opKey, certifiedKey, encryption, tuple, letIn, size}
 use Rattle.patterns.specs.Row.{fieldsOf}
-use Rattle.patterns.specs.Tree.{keyBy}
+use Rattle.patterns.proofs.PatternLaws.{size-positive, count-sizes}
 use Rattle.answers.specs.declared.Compiled.the-variants.{WrongKind}
 use Rattle.theory.specs.Machine.{named, scratch}
 use Rattle.theory.specs.Emission.{Env, Emitted, refuse, emit, take, _then_}
@@ -20,37 +20,24 @@ use Rattle.emission.specs.Meets.{nextIn, Does, Quiet, Room}
 use Rattle.emission.specs.Budget.{words, scratches, wordsOf, scratchesOf, patternIn, Row, RowAt}
 use Rattle.emission.specs.Parts.{partsFrom, partAt, partsIn, PartsAt}
 use Rattle.emission.proofs.MeetsLaws.{then-assoc, does-le, does-seq, does-take, does-free}
-use Rattle.emission.proofs.BudgetLaws.{size-pos, count-sizes, room-le, room-then, room-as, row-below}
-use Rattle.emission.proofs.PatternLaws.{good-row, encryption-child, encryption-row, let-children, let-row}
+use Rattle.emission.proofs.BudgetLaws.{as-row, room-le, room-then, row-below, encryption-room, let-room}
+use Rattle.emission.proofs.PatternLaws.{encryption-key, encryption-child, encryption-row, let-children, let-row}
 use Rattle.emission.proofs.PartLaws.{InTurn, Walked, part-room, part-row, parts-next, tuple-is, tuple-counts, tuple-room}
 use Rattle.matching.specs.Matches.{Matches, MatchesParts}
 
-as-row : (rows : List ℕ) (row : ℕ) {e code e′ code′ : List ℕ} (p : Pattern) → patternIn rows row ≡ p → Does (compile↓ p) (words p) (scratches p) e code e′ code′ → Matches rows row e code e′ code′
-as-row rows row p h k = rw h k
-
 -- e : E(key, p)
 module _ (rows : List ℕ) (row word : ℕ) {e : List ℕ} (asked : RowAt rows row word e) (five : fieldsOf word .tag ≡ 5) (child : ℕ) (first : child ≡ getD (fieldsOf word .slots) 0 0) where
-  pub encryption-below : child < row
-  encryption-below = encryption-child rows row word (asked .whole .good) (asked .whole .inside) (asked .here) child first five
-
-  encryption-is : patternIn rows row ≡ encryption row (fieldsOf word .v) (keyBy (fieldsOf word)) (patternIn rows child)
-  encryption-is = encryption-row rows row word (asked .whole .good) (asked .whole .inside) (asked .here) child first five
-
   pub encryption-asks : {f g : Env → Emitted} {code e₁ code₁ e₂ code₂ : List ℕ} → Does f 1 0 e code e₁ code₁ → Does g 1 0 e₁ code₁ e₂ code₂ → Row rows child e₂
-  unfolding size
   encryption-asks k l =
-      let room = room-as rows row (encryption row (fieldsOf word .v) (keyBy (fieldsOf word)) (patternIn rows child)) encryption-is (asked .whole) in
-      let s = size-pos (patternIn rows child) in
-      row-below rows row child (asked .whole) encryption-below
-      (record { long = l .long ∙ k .long ∙ room .long; place = omega (arith, room .place, k .place, l .place); free = omega (arith, room .free, k .free, l .free) })
+      row-below rows row child (asked .whole) (encryption-child asked child first five) (room-then (omega arith) (omega arith) (encryption-room asked child first five) (does-seq k l))
 
   module _ {code e′ : List ℕ} (form : ℕ) (read : form ≡ fieldsOf word .f) where
     pub encryption-done : {e₁ code₁ e₂ code₂ code′ : List ℕ} (v x : ℕ) → v ≡ fieldsOf word .v → x ≡ fieldsOf word .x → form ≡ 0 → Does (emit row (Decode (asObject v))) 1 0 e code e₁ code₁
         → Does (emit row (Decrypt (asObject x))) 1 0 e₁ code₁ e₂ code₂ → Matches rows child e₂ code₂ e′ code′ → Matches rows row e code e′ code′
     unfolding size
     encryption-done v x variable key plain k l m =
-        let s = size-pos (patternIn rows child) in
-        as-row rows row (encryption row v (plainKey x) (patternIn rows child)) (encryption-is ∙ rw (variable, key, sym read ∙ plain))
+        let s = size-positive (patternIn rows child) in
+        as-row compile↓ rows row (encryption row v (plainKey x) (patternIn rows child)) (encryption-row asked child first five ∙ rw (variable, key, sym read ∙ plain))
         (does-le (omega arith) (omega arith) (does-seq k (does-seq l m)))
 
     -- only a plain key opens
@@ -59,64 +46,36 @@ module _ (rows : List ℕ) (row word : ℕ) {e : List ℕ} (asked : RowAt rows r
       where
         by : (f : ℕ) → fieldsOf word .f ≡ f → Matches rows row e code e′ code
         by zero h = absurd (other (read ∙ h))
-        by (suc zero) h = as-row rows row (encryption row (fieldsOf word .v) (opKey (fieldsOf word .x) (fieldsOf word .y)) (patternIn rows child)) (encryption-is ∙ rw h) (does-le (omega arith) (omega arith) (k .does code))
-        by (suc (suc zero)) h = as-row rows row (encryption row (fieldsOf word .v) (certifiedKey (fieldsOf word .x) (fieldsOf word .y)) (patternIn rows child)) (encryption-is ∙ rw h) (does-le (omega arith) (omega arith) (k .does code))
-        by (suc (suc (suc f))) h =
-            let g = good-row rows row word (asked .whole .good) (asked .whole .inside) (asked .here) .encryption five .0 .form in
-            absurd (omega arith)
+        by (suc zero) h = as-row compile↓ rows row (encryption row (fieldsOf word .v) (opKey (fieldsOf word .x) (fieldsOf word .y)) (patternIn rows child)) (encryption-row asked child first five ∙ rw h) (does-le (omega arith) (omega arith) (k .does code))
+        by (suc (suc zero)) h = as-row compile↓ rows row (encryption row (fieldsOf word .v) (certifiedKey (fieldsOf word .x) (fieldsOf word .y)) (patternIn rows child)) (encryption-row asked child first five ∙ rw h) (does-le (omega arith) (omega arith) (k .does code))
+        by (suc (suc (suc f))) h = absurd (omega (arith, encryption-key asked five))
 
 -- let r = p1 in p2
-module _ (rows : List ℕ) (row word : ℕ) {e : List ℕ} (asked : RowAt rows row word e) (nine : fieldsOf word .tag ≡ 9) (slots : List ℕ) (got : slots ≡ fieldsOf word .slots) where
-  pub let-below : (getD slots 0 0 < row) × (getD slots 1 0 < row)
-  let-below = let-children rows row word (asked .whole .good) (asked .whole .inside) (asked .here) (getD slots 0 0) (rw got) (getD slots 1 0) (rw got) nine
-
-  let-is : patternIn rows row ≡ letIn row (fieldsOf word .r) (patternIn rows (getD slots 0 0)) (patternIn rows (getD slots 1 0))
-  let-is = let-row rows row word (asked .whole .good) (asked .whole .inside) (asked .here) (getD slots 0 0) (rw got) (getD slots 1 0) (rw got) nine
-
+module _ (rows : List ℕ) (row word : ℕ) {e : List ℕ} (asked : RowAt rows row word e) (nine : fieldsOf word .tag ≡ 9)
+    (child : ℕ) (first : child ≡ getD (fieldsOf word .slots) 0 0) (other : ℕ) (second : other ≡ getD (fieldsOf word .slots) 1 0) where
   -- room for the second child, and then for the first
   module _ {e₁ : List ℕ} {r : ℕ} (freed : Quiet (freeRaw row r) 0 e e₁) where
-    pub let-second : Row rows (getD slots 1 0) e₁
-    unfolding size
+    pub let-second : Row rows other e₁
     let-second =
-        let room = room-as rows row (letIn row (fieldsOf word .r) (patternIn rows (getD slots 0 0)) (patternIn rows (getD slots 1 0))) let-is (asked .whole) in
-        let s = size-pos (patternIn rows (getD slots 0 0)) in
-        let t = size-pos (patternIn rows (getD slots 1 0)) in
-        row-below rows row (getD slots 1 0) (asked .whole) (let-below .1)
-        (record { long = freed .long ∙ room .long; place = omega (arith, room .place, freed .place); free = omega (arith, room .free, freed .free) })
+        row-below rows row other (asked .whole) (let-children asked child first other second nine .1)
+        (room-then (omega arith) (omega arith) (let-room asked child first other second nine) (freed .does []))
 
-    module _ {code e₂ code₂ : List ℕ} (walked : Matches rows (getD slots 1 0) e₁ code e₂ code₂) where
+    module _ {code e₂ code₂ : List ℕ} (walked : Matches rows other e₁ code e₂ code₂) where
       pub let-loads : Room 1 0 e₂
-      unfolding size
-      let-loads =
-          let room = room-as rows row (letIn row (fieldsOf word .r) (patternIn rows (getD slots 0 0)) (patternIn rows (getD slots 1 0))) let-is (asked .whole) in
-          let s = size-pos (patternIn rows (getD slots 0 0)) in
-          let t = size-pos (patternIn rows (getD slots 1 0)) in
-          record {
-            long = walked .long ∙ freed .long ∙ room .long;
-            place = omega (arith, room .place, freed .place, walked .place);
-            free = omega (arith, room .free, freed .free, walked .free);
-          }
+      let-loads = room-then (omega arith) (omega arith) (let-room asked child first other second nine) (does-seq (freed .does code) walked)
 
       module _ {e₃ code₃ : List ℕ} (loaded : Does (emit row (Load (named r))) 1 0 e₂ code₂ e₃ code₃) where
-        pub let-first : Row rows (getD slots 0 0) e₃
-        unfolding size
+        pub let-first : Row rows child e₃
         let-first =
-            let room = room-as rows row (letIn row (fieldsOf word .r) (patternIn rows (getD slots 0 0)) (patternIn rows (getD slots 1 0))) let-is (asked .whole) in
-            let s = size-pos (patternIn rows (getD slots 0 0)) in
-            let t = size-pos (patternIn rows (getD slots 1 0)) in
-            row-below rows row (getD slots 0 0) (asked .whole) (let-below .0)
-            (record {
-              long = loaded .long ∙ walked .long ∙ freed .long ∙ room .long;
-              place = omega (arith, room .place, freed .place, walked .place, loaded .place);
-              free = omega (arith, room .free, freed .free, walked .free, loaded .free);
-            })
+            row-below rows row child (asked .whole) (let-children asked child first other second nine .0)
+            (room-then (omega arith) (omega arith) (let-room asked child first other second nine) (does-seq (freed .does code) (does-seq walked loaded)))
 
-        pub let-done : r ≡ fieldsOf word .r → {e′ code′ : List ℕ} → Matches rows (getD slots 0 0) e₃ code₃ e′ code′ → Matches rows row e code e′ code′
+        pub let-done : r ≡ fieldsOf word .r → {e′ code′ : List ℕ} → Matches rows child e₃ code₃ e′ code′ → Matches rows row e code e′ code′
         unfolding size
         let-done h m =
-            let s = size-pos (patternIn rows (getD slots 0 0)) in
-            let t = size-pos (patternIn rows (getD slots 1 0)) in
-            as-row rows row (letIn row r (patternIn rows (getD slots 0 0)) (patternIn rows (getD slots 1 0))) (let-is ∙ rw h)
+            let s = size-positive (patternIn rows child) in
+            let t = size-positive (patternIn rows other) in
+            as-row compile↓ rows row (letIn row r (patternIn rows child) (patternIn rows other)) (let-row asked child first other second nine ∙ rw h)
             (does-le (omega arith) (omega arith) (does-free freed (does-seq walked (does-seq loaded m))))
 
 -- the parts of a tuple: LOAD, and then the part's code
@@ -136,16 +95,16 @@ module _ (rows : List ℕ) (row : ℕ) (parts : List Part) (n : ℕ) {e₀ : Lis
   room = part-room in-turn rows row parts n four asked k walked less
 
   pub part-loads : Room 1 0 e
-  part-loads = room-le (omega (arith, size-pos (patternIn rows (partAt parts k .child)))) (omega arith) room
+  part-loads = room-le (omega (arith, size-positive (patternIn rows (partAt parts k .child)))) (omega arith) room
 
   module _ {s : Raw} {e₁ code₁ : List ℕ} (made : s ≡ scratch (partAt parts k .scratch)) (loaded : Does (emit row (Load s)) 1 0 e code e₁ code₁) where
     pub part-asks : Row rows (partAt parts k .child) e₁
-    part-asks = part-row in-turn rows row parts n four asked k walked less (room-then (omega (arith, size-pos (patternIn rows (partAt parts k .child)))) (omega arith) room loaded)
+    part-asks = part-row in-turn rows row parts n four asked k walked less (room-then (omega (arith, size-positive (patternIn rows (partAt parts k .child)))) (omega arith) room loaded)
 
     pub part-done : {e₂ code₂ : List ℕ} → Matches rows (partAt parts k .child) e₁ code₁ e₂ code₂ → Walked compile↓parts rows row parts n e₀ code₀ (k + 1) e₂ code₂
     part-done m =
         let l : Does (emit row (LOAD (scratch (partAt parts k .scratch)))) 1 0 e code e₁ code₁ = rw made at loaded in
-        parts-next in-turn rows row parts n four asked k walked less (does-le (omega (arith, size-pos (patternIn rows (partAt parts k .child)))) (omega arith) (does-seq l m))
+        parts-next in-turn rows row parts n four asked k walked less (does-le (omega (arith, size-positive (patternIn rows (partAt parts k .child)))) (omega arith) (does-seq l m))
 
 -- t : [p1 .. pn]
 module _ (rows : List ℕ) (row word : ℕ) {e : List ℕ} (asked : RowAt rows row word e) (eight : fieldsOf word .tag ≡ 8) (n : ℕ) (counted : n ≡ fieldsOf word .n) where
@@ -175,7 +134,7 @@ module _ (rows : List ℕ) (row word : ℕ) {e : List ℕ} (asked : RowAt rows r
       let d = tuple-counts rows row word asked eight n counted slots got first parts made in
       let l : Does (emit row (ANALYZE-TUPLE t (scratch (nextIn e₁)) n)) 1 0 e₂ code₁ e₃ code₃ = rw here at analyzed in
       let k : Does (compile↓parts ps row (nextIn e₁)) (wordsOf ps) (scratchesOf ps) e₃ code₃ e′ code′ = rw start at m in
-      as-row rows row (tuple row t ps) (tuple-is rows row word asked eight n counted slots got first parts made ∙ rw variable)
+      as-row compile↓ rows row (tuple row t ps) (tuple-is rows row word asked eight n counted slots got first parts made ∙ rw variable)
       (subst (λ (x : ℕ). Does (emit row (DECODE t) then take x (λ rˢ. emit row (ANALYZE-TUPLE t (scratch rˢ) x) then compile↓parts ps row rˢ)) (words (tuple row t ps)) (scratches (tuple row t ps)) e code e′ code′) (sym d)
       (does-le (omega arith) (omega arith)
       (does-seq decoded (does-take (λ rˢ. emit row (ANALYZE-TUPLE t (scratch rˢ) n) then compile↓parts ps row rˢ) taken (does-seq l k)))))

@@ -1,9 +1,8 @@
--- A row that is good in itself, by document 01's table of the forms.
+-- The test of a row by itself says what document 01's table of the forms says.
 use Prim.Native.Nat.{ℕ, _<_, _≤_}
 use mathlib.Core.Path.{_≡_, refl, sym, subst}
 use mathlib.Core.Logic.{_↔_}
 use mathlib.Core.Bool.{Bool, true, false, not, _||_}
-use mathlib.Core.List.{List, [], _∷_}
 use native.Mathlib.Omega.{arith}
 use lib.ListN.{getD, drop}
 use lib.Dec.{T, eqb, leb, ltb, nleb→lt}
@@ -14,34 +13,7 @@ use Rattle.word.proofs.LowestLaws.{each-all}
 use Rattle.patterns.specs.Row.{Fields, children}
 use Rattle.patterns.proofs.ArmLaws.{below-ten}
 use Rattle.patterns.specs.Rules.{Form, form, forms, formFits, rowFits}
-
--- fields that a form does not use
-abbrev pub Zero : List ℕ → Type 0
-Zero fields = All (λ field. field ≡ 0) fields
-
--- F=0 variable X; F=1 X : op(Y); F=2 X : keyOf(Y); F=3 is bad. X above 63 is bad in a key
-pub record GoodKey (row : Fields) : Type 0 where
-  pub form : row .f ≤ 2
-  pub variable : row .x ≤ 63
-  pub alone : row .f ≡ 0 → row .y ≡ 0
-
-pub record GoodRow (place : ℕ) (row : Fields) : Type 0 where
-  pub tag : row .tag < 10
-  pub object : row .tag ≡ 0 → Zero (row .f ∷ row .x ∷ row .y ∷ row .r ∷ row .n ∷ [])
-  pub raw : row .tag ≡ 1 → Zero (row .v ∷ row .f ∷ row .x ∷ row .y ∷ row .n ∷ [])
-  pub constant : row .tag ≡ 2 → Zero (row .f ∷ row .y ∷ row .r ∷ row .n ∷ [])
-  pub opposite : row .tag ≡ 3 → Zero (row .f ∷ row .x ∷ row .r ∷ row .n ∷ [])
-  pub keyOf : row .tag ≡ 4 → Zero (row .f ∷ row .x ∷ row .r ∷ row .n ∷ [])
-  pub encryption : row .tag ≡ 5 → GoodKey row × (row .n ≡ 1) × Zero (row .r ∷ [])
-  pub signature : row .tag ≡ 6 → GoodKey row × Zero (row .n ∷ [])
-  pub hash : row .tag ≡ 7 → Zero (row .f ∷ row .x ∷ row .y ∷ row .n ∷ [])
-  pub tuple : row .tag ≡ 8 → (row .n ≤ 4) × Zero (row .f ∷ row .x ∷ row .y ∷ row .r ∷ [])
-  pub letIn : row .tag ≡ 9 → (row .n ≡ 2) × Zero (row .v ∷ row .f ∷ row .x ∷ row .y ∷ [])
-  -- slots past the children, and the last bit
-  pub rest : Zero (drop (row .n) (row .slots))
-  pub spare : row .spare ≡ 0
-  -- a child has a smaller number than its owner
-  pub below : All (λ child. child < place) (children row)
+use Rattle.patterns.specs.GoodRow.{Zero, GoodKey, GoodRow}
 
 -- the same by a form of the table
 record GoodAs (entry : Form) (place : ℕ) (row : Fields) : Type 0 where

@@ -1,13 +1,12 @@
 -- Kinds of a row and of its pattern.
 use Prim.Native.Nat.{ℕ, zero, suc, _-_, _≤_}
 use mathlib.Core.Path.{_≡_, refl, sym, ap, _∙_}
-use mathlib.Core.Bool.{Bool, true, false, not, _&&_, _||_, or-false}
-use mathlib.Core.List.{List, [], _∷_}
+use mathlib.Core.Bool.{Bool, true, false, not, _&&_}
+use mathlib.Core.List.{List}
 use native.Mathlib.Omega.{arith}
-use borrow.Author.Tests.{eqb-true, eqb-false, eq-eqb, ne-eqb}
 use lib.ListN.{getD, List·getD-map}
-use lib.Dec.{eqb, leb}
-use Rattle.word.specs.Lowest.{lowest, oneOf}
+use lib.Dec.{leb}
+use Rattle.word.specs.Lowest.{lowest}
 use Rattle.word.proofs.ScanLaws.{lowest-same}
 use Rattle.patterns.specs.Pattern.{Key, plainKey, Pattern, object}
 use Rattle.patterns.specs.Row.{Fields, fieldsOf}
@@ -53,14 +52,3 @@ plain-else row = go (row .f) refl
     go (suc zero) e op key = absurd (op e)
     go (suc (suc zero)) e op key = absurd (key e)
     go (suc (suc (suc f))) e op key = rw e
-
-eqb-swap : (m n : ℕ) → eqb m n ≡ eqb n m
-eqb-swap m n = go (eqb m n) refl
-  where
-    go : (b : Bool) → eqb m n ≡ b → b ≡ eqb n m
-    go true e = sym (eq-eqb n m (sym (eqb-true m n e)))
-    go false e = sym (ne-eqb n m λ same. eqb-false m n e (sym same))
-
-pub one-of-pair : (n a b : ℕ) → (eqb n a || eqb n b) ≡ oneOf (a ∷ b ∷ []) n
-unfolding oneOf
-one-of-pair n a b = rw (eqb-swap n a, eqb-swap n b, or-false)

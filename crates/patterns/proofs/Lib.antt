@@ -1,5 +1,6 @@
 -- Laws of pattern rows.
 pub mod ArmLaws
+pub mod PatternLaws
 pub mod RowLaws
 pub mod SlotLaws
 pub mod MarkLaws

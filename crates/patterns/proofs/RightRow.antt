@@ -1,53 +1,27 @@
--- Refusal 5 in the words of document 01.
+-- The tests of refusal 5 say what document 01 says.
 use Prim.Native.Nat.{ℕ, zero, suc, _<_, _≤_}
 use mathlib.Core.Path.{_≡_, refl, sym, subst, _∙_}
-use mathlib.Core.Logic.{_↔_, _⊎_, Iff·rfl}
+use mathlib.Core.Logic.{_↔_, Iff·rfl, Iff·trans}
 use mathlib.Core.Bool.{Bool, true, false, not, _&&_}
 use mathlib.Core.Option.{none, some}
 use mathlib.Core.List.{List}
 use native.Mathlib.Omega.{arith}
 use lib.ListN.{length}
-use lib.Dec.{T, T-not, not-T, eqb, leb}
-use Rattle.word.proofs.TestLaws.{both, equals, at-most}
-use Rattle.word.proofs.LowestLaws.{one-of-two, lowest-none}
-use Rattle.word.proofs.ScanLaws.{LowestWith, lowest-with}
+use lib.Dec.{T, T-not, eqb, leb}
+use Rattle.word.specs.Lowest.{LowestBad, AllGood}
+use Rattle.word.proofs.TestLaws.{both, twice, equals, at-most}
+use Rattle.word.proofs.LowestLaws.{one-of-two, none-bad, lowest-bad}
 use Rattle.patterns.specs.Pattern.{Key, plainKey, opKey, certifiedKey}
-use Rattle.patterns.specs.Row.{Fields, fieldsOf}
+use Rattle.patterns.specs.Row.{Fields}
 use Rattle.patterns.specs.Rules.{badPattern}
 use Rattle.patterns.specs.Tree.{keyBy}
 use Rattle.patterns.specs.Kinds.{privateSide, publicSide, encryptionKey, wrongKind}
 use Rattle.patterns.specs.RowKinds.{kindsBy, rowKinds}
+use Rattle.patterns.specs.RightRow.{PrivateKey, PublicKey, RightKey, RightRow}
 use Rattle.patterns.proofs.ArmLaws.{below-ten}
-use Rattle.patterns.proofs.GoodRow.{GoodRow}
+use Rattle.patterns.specs.GoodRow.{GoodRow, fieldsAt}
 use Rattle.patterns.proofs.KindLaws.{wrong-rows, other-way}
-use Rattle.patterns.proofs.RuleLaws.{fieldsAt, all-good}
-
-module _ (kind : ℕ → ℕ) (row : Fields) where
-  -- the key of a matched E or a created S: a variable of kind 5 or 6
-  pub record PrivateKey : Type 0 where
-    pub plain : row .f ≡ 0
-    pub kinds : (kind (row .x) ≡ 5) ⊎ (kind (row .x) ≡ 6)
-
-  -- the key of a matched S or a created E: a variable of kind 4 or 6, or a public key that is found
-  pub record PublicKey : Type 0 where
-    pub plain : row .f ≡ 0 → (kind (row .x) ≡ 4) ⊎ (kind (row .x) ≡ 6)
-    pub op : row .f ≡ 1 → (kind (row .x) ≡ 4) × (kind (row .y) ≡ 5)
-    pub own : row .f ≡ 2 → (kind (row .x) ≡ 4) × (kind (row .y) ≡ 3)
-
-  abbrev pub RightKey : Bool → Type 0
-  RightKey true = PublicKey
-  RightKey false = PrivateKey
-
--- every variable of a row has the kind that the row's form wants
-pub record RightRow (create : Bool) (kind : ℕ → ℕ) (row : Fields) : Type 0 where
-  pub object : row .tag ≡ 0 → (1 ≤ kind (row .v)) × (kind (row .v) ≤ 9)
-  pub constant : row .tag ≡ 2 → kind (row .v) ≡ 1
-  pub opposite : row .tag ≡ 3 → (kind (row .v) ≡ 4) × (kind (row .y) ≡ 5)
-  pub keyOf : row .tag ≡ 4 → (kind (row .v) ≡ 4) × (kind (row .y) ≡ 3)
-  pub encryption : row .tag ≡ 5 → (kind (row .v) ≡ 7) × RightKey kind row create
-  pub signature : row .tag ≡ 6 → (kind (row .v) ≡ 8) × RightKey kind row (not create)
-  pub hash : row .tag ≡ 7 → kind (row .v) ≡ 9
-  pub tuple : row .tag ≡ 8 → kind (row .v) ≡ 10
+use Rattle.patterns.proofs.RuleLaws.{all-good}
 
 -- what holds of each form of a key holds of a row's
 by-key : (P : Key → Type 0) (row : Fields) → row .f ≤ 2 → (row .f ≡ 0 → P (plainKey (row .x))) → (row .f ≡ 1 → P (opKey (row .x) (row .y))) → (row .f ≡ 2 → P (certifiedKey (row .x) (row .y)))
@@ -129,28 +103,14 @@ module _ (create : Bool) (kind : ℕ → ℕ) (row : Fields) where
         (row .tag) (good .tag) refl
 
 module _ (create : Bool) (kind : ℕ → ℕ) (rows : List ℕ) (passed : badPattern rows ≡ none) where
-  right-says : (place : ℕ) → place < length rows → T (rowKinds create kind (fieldsAt rows place)) ↔ RightRow create kind (fieldsAt rows place)
+  right-says : (place : ℕ) → place < length rows → T (not (not (rowKinds create kind (fieldsAt rows place)))) ↔ RightRow create kind (fieldsAt rows place)
   right-says place inside =
       let good = all-good rows passed place inside in
-      (into create kind (fieldsAt rows place) place good, back create kind (fieldsAt rows place) place good)
+      Iff·trans (twice (rowKinds create kind (fieldsAt rows place))) (into create kind (fieldsAt rows place) place good, back create kind (fieldsAt rows place) place good)
 
   -- 5, exactly, of rows that passed: the lowest row with a wrong kind
-  pub wrong-kind-at : (i : ℕ) → (wrongKind create kind rows ≡ some i) ↔ LowestWith (λ place. RightRow create kind (fieldsAt rows place) → ⊥) (length rows) i
-  wrong-kind-at i = rw (wrong-rows create kind rows) (lowest-with _ _ rows 0 says i)
-    where
-      says : (place : ℕ) → place < length rows → T (not (rowKinds create kind (fieldsAt rows place))) ↔ (RightRow create kind (fieldsAt rows place) → ⊥)
-      says place inside =
-          let test = rowKinds create kind (fieldsAt rows place) in
-          (λ h g. T-not test h (right-says place inside .1 g), λ h. not-T test λ t. h (right-says place inside .0 t))
+  pub wrong-kind-at : (i : ℕ) → (wrongKind create kind rows ≡ some i) ↔ LowestBad (λ place. RightRow create kind (fieldsAt rows place)) (length rows) i
+  wrong-kind-at i = rw (wrong-rows create kind rows) (lowest-bad _ _ rows 0 right-says i)
 
-  pub wrong-kind-none : (wrongKind create kind rows ≡ none) ↔ ((place : ℕ) → place < length rows → RightRow create kind (fieldsAt rows place))
-  wrong-kind-none =
-      let low = lowest-none (λ place word. not (rowKinds create kind (fieldsOf word))) 0 rows in
-      rw (wrong-rows create kind rows) (
-        λ e place inside. right-says place inside .0 (twice (rowKinds create kind (fieldsAt rows place)) .0 (low .0 e place inside)),
-        λ h. low .1 λ place inside. twice (rowKinds create kind (fieldsAt rows place)) .1 (right-says place inside .1 (h place inside)),
-      )
-    where
-      twice : (b : Bool) → T (not (not b)) ↔ T b
-      twice true = (λ h. h, λ h. h)
-      twice false = (λ h. h, λ h. h)
+  pub wrong-kind-none : (wrongKind create kind rows ≡ none) ↔ AllGood (λ place. RightRow create kind (fieldsAt rows place)) (length rows)
+  wrong-kind-none = rw (wrong-rows create kind rows) (none-bad _ _ rows 0 right-says)

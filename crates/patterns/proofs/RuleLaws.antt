@@ -1,4 +1,4 @@
--- Refusal 4 in the words of document 01.
+-- The tests of refusal 4 say what document 01 says.
 use Prim.Native.Nat.{ℕ, zero, suc, _-_, _<_}
 use mathlib.Core.Path.{_≡_, refl, sym, _∙_}
 use mathlib.Core.Logic.{_↔_, _⊎_, inl, inr, ⊎-elim}
@@ -9,47 +9,14 @@ use native.Mathlib.Omega.{arith}
 use lib.ListN.{length, getD, take}
 use lib.Seq.{length-take-le, getD-take}
 use lib.Dec.{T, T-not, not-T, eqb, eqb→eq}
-use Rattle.word.specs.Lowest.{lowest, oneOf}
+use Rattle.word.specs.Lowest.{lowest, LowestWith, NoneWith, oneOf}
 use Rattle.word.proofs.TestLaws.{either, equals}
-use Rattle.word.proofs.LowestLaws.{one-of}
-use Rattle.word.proofs.ScanLaws.{LowestWith, NoneWith, none-with, lowest-with}
-use Rattle.patterns.specs.Row.{Fields, fieldsOf, childrenOf}
+use Rattle.word.proofs.LowestLaws.{one-of, none-with, lowest-with}
+use Rattle.patterns.specs.Row.{childrenOf}
 use Rattle.patterns.specs.Rules.{rowFits, repeats, named, badRow, unnamed, badPattern}
 use Rattle.patterns.proofs.MarkLaws.{one-append}
-use Rattle.patterns.proofs.GoodRow.{GoodRow, good-row}
-
-abbrev pub fieldsAt : List ℕ → ℕ → Fields
-fieldsAt rows place = fieldsOf (getD rows place 0)
-
-abbrev pub childrenAt : List ℕ → ℕ → List ℕ
-childrenAt rows place = childrenOf (getD rows place 0)
-
--- a slot of a row names a child
-pub record Names (rows : List ℕ) (owner slot child : ℕ) : Type 0 where
-  pub inside : owner < length rows
-  pub used : slot < length (childrenAt rows owner)
-  pub here : getD (childrenAt rows owner) slot 0 ≡ child
-
--- a child is taken already, by a row before or by a slot before
-pub record TakenBefore (rows : List ℕ) (place slot child : ℕ) : Type 0 where
-  pub owner : ℕ
-  pub other : ℕ
-  pub names : Names rows owner other child
-  pub before : (owner < place) ⊎ ((owner ≡ place) × (other < slot))
-
-pub record NamesTaken (rows : List ℕ) (place : ℕ) : Type 0 where
-  pub slot : ℕ
-  pub child : ℕ
-  pub names : Names rows place slot child
-  pub taken : TakenBefore rows place slot child
-
--- a row that is bad in itself, or names a child already taken
-abbrev pub BadRow : List ℕ → ℕ → Type 0
-BadRow rows place = (GoodRow place (fieldsAt rows place) → ⊥) ⊎ NamesTaken rows place
-
--- a row that nobody names
-abbrev pub Unnamed : List ℕ → ℕ → Type 0
-Unnamed rows place = (owner slot : ℕ) → Names rows owner slot place → ⊥
+use Rattle.patterns.specs.GoodRow.{GoodRow, fieldsAt, childrenAt, Names, TakenBefore, NamesTaken, BadRow, Unnamed}
+use Rattle.patterns.proofs.GoodRow.{good-row}
 
 -- a child that some row names
 abbrev pub Named : List ℕ → ℕ → Type 0

@@ -2,17 +2,18 @@
 use Prim.Native.Nat.{ℕ, zero, suc, _+_, _-_, _<_, _≤_}
 use mathlib.Core.Path.{_≡_, refl, _∙_, ap, ap₂, subst}
 use mathlib.Core.Logic.{⊎-elim}
-use mathlib.Core.Bool.{Bool, true, false, not}
+use mathlib.Core.Bool.{Bool, not}
 use mathlib.Core.Option.{none}
-use mathlib.Core.List.{List, [], _∷_, _++_, flatMap}
+use mathlib.Core.List.{List, [], _∷_, flatMap}
 use native.Mathlib.Nat.{le-refl}
 use native.Mathlib.Omega.{arith}
 use lib.ListN.{length, getD, take, List·getD-eq-default}
 use lib.Seq.{take-length}
 use lib.Dec.{T}
+use Rattle.word.proofs.TestLaws.{twice}
 use Rattle.word.proofs.LowestLaws.{lowest-none}
 use Rattle.word.proofs.ScanLaws.{lt-or-ge}
-use Rattle.word.proofs.All.{All, all-at, all-getD, all-map}
+use Rattle.word.proofs.All.{All, all-at, all-getD, all-append, all-map}
 use Rattle.patterns.specs.Pattern.{Pattern, object, encryption, tuple, letIn, part, count, size, sizes, RawsBelow, PartsBelow, Packed, PackedParts}
 use Rattle.patterns.specs.Row.{Fields, fieldsOf, childrenOf}
 use Rattle.patterns.specs.Rules.{named, badPattern}
@@ -24,8 +25,8 @@ use Rattle.patterns.proofs.SlotLaws.{four}
 use Rattle.patterns.proofs.SumLaws.{times, sumOver, sumBelow, sum-append, sum-once, times-some, fresh-all}
 pub use Rattle.patterns.proofs.FormLaws.{patterns-length, formed}
 use Rattle.patterns.proofs.CheckLaws.{named-more}
-use Rattle.patterns.proofs.GoodRow.{GoodRow}
-use Rattle.patterns.proofs.RuleLaws.{fieldsAt, childrenAt, all-good, never-again, all-named}
+use Rattle.patterns.specs.GoodRow.{GoodRow, fieldsAt, childrenAt}
+use Rattle.patterns.proofs.RuleLaws.{all-good, never-again, all-named}
 
 -- what holds where it holds of all below holds of all
 from-below : (P : ℕ → Type 0) → ((n : ℕ) → ((k : ℕ) → k < n → P k) → P n) → (n : ℕ) → P n
@@ -35,12 +36,8 @@ from-below P step n = step n (below n)
     below zero k less = absurd (omega arith)
     below (suc n) k less = step k λ j l. below n j (omega arith)
 
-not-T-not : (b : Bool) → T (not (not b)) → T b
-not-T-not true h = h
-not-T-not false h = h
-
 -- parts over patterns that agree on the children
-parts-same : (g h : ℕ → Pattern) (children : List ℕ) → All (λ child. g child ≡ h child) children → partsBy g children ≡ partsBy h children
+pub parts-same : (g h : ℕ → Pattern) (children : List ℕ) → All (λ child. g child ≡ h child) children → partsBy g children ≡ partsBy h children
 parts-same g h [] same = refl
 parts-same g h (child ∷ rest) same = ap₂ part (same .0) (parts-same g h rest (same .1))
 
@@ -118,10 +115,6 @@ module _ (place word : ℕ) (good : GoodRow place (fieldsOf word)) where
       (λ e h. (under _ (child-before 0 (omega (arith, two-children e))), under _ (child-before 1 (omega (arith, two-children e)))))
       (row .tag) (good .tag) refl own
 
-all-append : (P : ℕ → Type 0) (front back : List ℕ) → All P front → All P back → All P (front ++ back)
-all-append P [] back f b = b
-all-append P (n ∷ front) back f b = (f .0, all-append P front back (f .1) b)
-
 module _ (rows : List ℕ) (passed : badPattern rows ≡ none) where
   abbrev at : ℕ → Pattern
   at = patternAt (patternsOf rows)
@@ -186,7 +179,7 @@ module _ (rows : List ℕ) (passed : badPattern rows ≡ none) where
     where
       own : (place : ℕ) → place < length rows → T (formKinds create kind (at place))
       own place inside =
-          not-T-not (formKinds create kind (at place)) (lowest-none (λ row p. not (formKinds create kind p)) noPattern (patternsOf rows) .0 right place (rw (patterns-length rows) inside))
+          twice (formKinds create kind (at place)) .0 (lowest-none (λ row p. not (formKinds create kind p)) noPattern (patternsOf rows) .0 right place (rw (patterns-length rows) inside))
 
       row-right : (place : ℕ) → ((child : ℕ) → child < place → child < length rows → RightKinds create kind (at child)) → place < length rows → RightKinds create kind (at place)
       row-right place below inside =

@@ -2,7 +2,9 @@
 pub mod Pattern
 pub mod Row
 pub mod Rules
+pub mod GoodRow
 pub mod Tree
 pub mod Kinds
 pub mod Marks
 pub mod RowKinds
+pub mod RightRow

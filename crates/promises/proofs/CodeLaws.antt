@@ -10,12 +10,12 @@ use Rattle.code.specs.Instruction.{wordOf}
 use Rattle.patterns.specs.Kinds.{RightKinds}
 use Rattle.patterns.specs.Tree.{patternOf}
 use Rattle.theory.specs.Machine.{namedCells}
-use Rattle.theory.specs.Compile.{CompileOutcome, kindIn, variables, codeWords, compile}
+use Rattle.theory.specs.Compile.{CompileOutcome, kindIn, variables, codeWords, usedPart, compiledCode, compile}
 use Rattle.theory.specs.Run.{Lent}
 use Rattle.theory.proofs.SetCells.{same-cells}
 use Rattle.theory.proofs.Product.{Written, compile-writes}
 use Rattle.promises.specs.Answers.{compileNumber}
-use Rattle.promises.specs.Demand3.{usedPart, CodeFor}
+use Rattle.promises.specs.Demand3.{CodeFor}
 use Rattle.promises.proofs.CompileLaws.{number-done}
 
 -- the same code as from the cells that run is lent
@@ -29,8 +29,8 @@ module _ {create : Bool} {pattern : List ℕ} {x : Lent} {code : List ℕ} (c : 
   own-done : own .answer ≡ Compiled.Done (compiledPlace (own .answer))
   own-done = number-done (own .answer) (subst (λ o. compileNumber o ≡ 0) same-own (c .done))
 
-  own-part : usedPart own ≡ code
-  own-part = subst (λ o. usedPart o ≡ code) same-own (c .part)
+  own-part : compiledCode own ≡ code
+  own-part = subst (λ o. compiledCode o ≡ code) same-own (c .part)
 
   pub written : Written create pattern (x .kinds) (x .objects) (take namedCells (x .messages)) long (compiledPlace (own .answer)) (own .code)
   written = compile-writes create pattern (x .kinds) (x .objects) (take namedCells (x .messages)) long (c .slice) (compiledPlace (own .answer)) own-done
@@ -50,5 +50,5 @@ module _ {create : Bool} {pattern : List ℕ} {x : Lent} {code : List ℕ} (c : 
   pub own-answer : own .answer ≡ Compiled.Done (length code)
   own-answer = own-done ∙ ap Compiled.Done counted
 
-  pub own-words : take (length code) (own .code) ≡ code
-  own-words = ap (λ n. take n (own .code)) (sym counted) ∙ own-part
+  pub own-words : usedPart (length code) (own .code) ≡ code
+  own-words = ap (λ n. usedPart n (own .code)) (sym counted) ∙ own-part

@@ -10,16 +10,12 @@ use lib.ListN.{length, getD}
 use Rattle.word.specs.Lowest.{each}
 use Rattle.word.proofs.All.{all-at}
 use Rattle.word.proofs.TestLaws.{both, equals, at-most}
-use Rattle.terms.specs.Rules.{usedRows}
 use Rattle.stores.specs.Cells.{unset}
 use Rattle.stores.specs.Valid.{kindsFit, eachVariable, undeclaredUnset, declared}
-use Rattle.stores.proofs.ValidLaws.{declared-stores, valid-stores}
+use Rattle.stores.proofs.ValidLaws.{declared-stores}
 use Rattle.theory.specs.Compile.{kindIn, variables}
 use Rattle.theory.specs.Compile as Compile
-use Rattle.theory.specs.Run.{Lent}
-use Rattle.theory.specs.Run as Run
-use Rattle.promises.specs.Conditions.{cell, CompileWithin, BadVariable, RunWithin, ValidStores}
-use Rattle.promises.proofs.RunLaws.{storesFit}
+use Rattle.promises.specs.Conditions.{cell, CompileWithin, BadVariable}
 
 -- 1
 pub compile-within : (create : Bool) (pattern kinds objects named : List ℕ) → T (Compile.lengthsFit create pattern kinds objects named) ↔ CompileWithin pattern kinds objects named
@@ -29,21 +25,7 @@ compile-within create pattern kinds objects named =
       λ w. (((w .pattern-rows, w .kinds-length), w .objects-length), w .named-length),
     )
 
-pub run-within : (x : Lent) (code : List ℕ) → T (Run.lengthsFit x code) ↔ RunWithin x code
-run-within x code =
-    simp (both, equals, at-most) (
-      λ h. (
-        record { kinds = h .0 .0 .0 .0 .0 .0; objects = h .0 .0 .0 .0 .0 .1; messages = h .0 .0 .0 .0 .1; certificates = h .0 .0 .0 .1; terms = h .0 .0 .1; counter = h .0 .1 },
-        h .1,
-      ),
-      λ w. ((((((w .0 .kinds, w .0 .objects), w .0 .messages), w .0 .certificates), w .0 .terms), w .0 .counter), w .1),
-    )
-
--- 3, in a run
-pub stores-valid : (x : Lent) → T (storesFit x) ↔ ValidStores x
-stores-valid x = valid-stores (x .terms) (usedRows (x .terms)) (x .kinds) (x .objects) (x .messages) (x .certificates) (x .accumulator)
-
--- and in compile
+-- 3, in compile
 -- a list that fails has an element that fails
 find-bad : {A : Type 0} (test : A → Bool) (all : List A) (default : A) → (T (each test all) → ⊥) → (i : ℕ) × (i < length all) × (T (test (getD all i default)) → ⊥)
 unfolding each

@@ -27,7 +27,7 @@ use Rattle.promises.specs.Conditions.{Room}
 use Rattle.promises.specs.Demand3.{Prepared, MatchesTo, CreatesTo, DecidesMatch, DecidesCreation}
 use Rattle.promises.proofs.CodeLaws.{right-kinds, own-answer, own-words}
 use Rattle.promises.proofs.RunLaws.{finished}
-use Rattle.promises.proofs.ValidLaws.{accepted, after-finish, message-finish}
+use Rattle.promises.proofs.ValidLaws.{after-finish, message-finish}
 
 enough : {x : Lent} {count : ℕ} → Room x count → Free count count (stateOf x .stores .memory)
 unfolding stateOver
@@ -107,7 +107,7 @@ decided-match {pattern} {code} {x} {m} p e =
     match-decides pattern x m code (right-kinds c long) refl
     (subst (λ m. MatchEnds x (patternOf pattern) m (length code) code (run x code)) (message .2)
     (subst (λ words. MatchEnds x (patternOf pattern) (meaning (x .terms) (message .0)) (length code) words (run x words)) (own-words c long)
-    (demand-3-matching pattern (c .slice) x (accepted v) (length code) (message .0) (message .1) (own-answer c long) (enough (p .room)))))
+    (demand-3-matching pattern (c .slice) x v (length code) (message .0) (message .1) (own-answer c long) (enough (p .room)))))
 
 pub decided-creation : {pattern code : List ℕ} {x : Lent} → Prepared true pattern x code → DecidesCreation pattern x code
 decided-creation {pattern} {code} {x} p =
@@ -116,4 +116,4 @@ decided-creation {pattern} {code} {x} p =
     let long = v .within .kinds in
     create-decides pattern x code (right-kinds c long) refl
     (subst (λ words. CreateEnds x (patternOf pattern) (length code) words (run x words)) (own-words c long)
-    (demand-3-creating pattern (c .slice) x (accepted v) (length code) (own-answer c long) (enough (p .room))))
+    (demand-3-creating pattern (c .slice) x v (length code) (own-answer c long) (enough (p .room))))

@@ -1,30 +1,32 @@
 -- The two cases by evaluation, and the figures by demand 3.
-use mathlib.Core.Path.{_≡_, refl}
-use mathlib.Core.Bool.{true, false}
+use Prim.Native.Nat.{ℕ, _-_}
+use mathlib.Core.Path.{_≡_, refl, _∙_, ap}
+use mathlib.Core.Bool.{Bool, true, false}
 use mathlib.Core.Option.{some}
-use mathlib.Core.List.{[]}
+use mathlib.Core.List.{List, []}
 use native.Mathlib.Omega.{arith}
-use lib.ListN.{take}
+use lib.ListN.{length, replicate}
 use Rattle.word.specs.Lowest.{lowestFrom, each, oneOf}
+use Rattle.answers.specs.declared.Compiled.the-variants as Compiled
 use Rattle.code.specs.Instruction as Code
 use Rattle.code.specs.Words.{goodWord, badWord}
 use Rattle.terms.specs.Row as Row
 use Rattle.terms.specs.Rules.{usedRows, knownTag, unusedZero, numberFits, partsBelow, keyFits, earlierEqual, badRow, badTerm}
 use Rattle.terms.specs.Finder.{equalRow, locate}
-use Rattle.stores.specs.Cells.{held, cellOf, storeOf, cellsFrom}
+use Rattle.stores.specs.Cells.{unset, held, cellOf, storeOf, cellsFrom}
 use Rattle.stores.specs.Certificates.{agentOf, keyOf, spareOf, certified, pairFits, agentsOnce}
 use Rattle.stores.specs.Valid.{kindsFit, eachVariable, valid}
 use Rattle.theory.specs.Store.{put}
-use Rattle.theory.specs.Machine.{namedCells, message, setMessage, setMessages, messages}
+use Rattle.theory.specs.Machine.{message, setMessage, setMessages, messages}
 use Rattle.theory.specs.Meaning.{termAt}
-use Rattle.theory.specs.Compile.{first}
-use Rattle.theory.specs.Run.{stateOver, leftBy, linesFrom, run}
-use Rattle.theory.specs.Cases.{cells, slice, P1-code, P2-code}
-use Rattle.theory.proofs.SetCells.{SameSet}
+use Rattle.theory.specs.Compile.{first, leaves, compiledCode, compile}
+use Rattle.theory.specs.Run.{Lent, stateOver, leftBy, linesFrom, run}
+use Rattle.theory.specs.Cases.{cells, slice, after, P1-code, P2-code}
 use Rattle.theory.proofs.Cases.{worked}
-use Rattle.promises.specs.Answers.{RunAnswers}
+use Rattle.theory.proofs.CompileLaws.{part-written}
+use Rattle.promises.specs.Answers.{RunAnswers, compileNumber}
 use Rattle.promises.specs.Reading.{messageBefore, messageAfter}
-use Rattle.promises.specs.Demand3.{Prepared}
+use Rattle.promises.specs.Demand3.{CodeFor, Prepared}
 use Rattle.promises.specs.Example.{P1-pattern, P1-lent, P1-message, P2-pattern, P2-lent, P2-message, Example}
 use Rattle.promises.proofs.NumberLaws.{run-table}
 use Rattle.promises.proofs.DecisionLaws.{decided-match, decided-creation}
@@ -44,25 +46,23 @@ P2-held : messageAfter (run P2-lent P2-code) ≡ some P2-message
 unfolding termAt held Row.wordOf Row.tagOf Row.shapeOf
 P2-held = let e = worked .0 .P2-run in rw e refl
 
--- all cells unset, as they are lent
-no-cells : SameSet (cells []) (take namedCells (P1-lent .messages))
-no-cells = record { same-length = refl; same-set = λ i. refl }
-
-same : SameSet (cells []) (cells [])
-same = record { same-length = refl; same-set = λ i. refl }
+-- code that was compiled with all cells unset is for a run with all cells unset
+compiled : {create : Bool} {pattern code : List ℕ} {x : Lent} → x .objects ≡ cells [] → x .messages ≡ replicate 256 unset
+    → compile create pattern (x .kinds) (cells []) (cells []) slice ≡ leaves (Compiled.Done (length code)) (after code) → CodeFor create pattern x code
+compiled {code = code} objects messages e = record {
+  objects = cells [];
+  named = cells [];
+  slice = slice;
+  done = ap compileNumber e;
+  part = ap compiledCode e ∙ part-written code (replicate (12 - length code) 7);
+  same-objects = rw objects (record { same-length = refl; same-set = λ i. refl });
+  same-named = rw messages (record { same-length = refl; same-set = λ i. refl });
+}
 
 P1-prepared : Prepared false P1-pattern P1-lent P1-code
 unfolding usedRows Row.wordOf
 P1-prepared = record {
-  compiled = let e = worked .0 .P1 in record {
-    objects = cells [];
-    named = cells [];
-    slice = slice;
-    done = rw e refl;
-    part = rw e refl;
-    same-objects = same;
-    same-named = no-cells;
-  };
+  compiled = compiled refl refl (worked .0 .P1);
   valid = run-table P1-lent P1-code .done 6 .0 P1-run .0 .valid;
   room = record { rows = omega arith; names = omega arith };
 }
@@ -70,15 +70,7 @@ P1-prepared = record {
 P2-prepared : Prepared true P2-pattern P2-lent P2-code
 unfolding usedRows
 P2-prepared = record {
-  compiled = let e = worked .0 .P2 in record {
-    objects = cells [];
-    named = cells [];
-    slice = slice;
-    done = rw e refl;
-    part = rw e refl;
-    same-objects = same;
-    same-named = no-cells;
-  };
+  compiled = compiled refl refl (worked .0 .P2);
   valid = run-table P2-lent P2-code .done 6 .0 P2-run .0 .valid;
   room = record { rows = omega arith; names = omega arith };
 }

@@ -2,9 +2,10 @@
 use Prim.Native.Nat.{ℕ}
 use mathlib.Core.Path.{_≡_, sym, _∙_, ap, subst}
 use mathlib.Core.Logic.{_↔_}
-use mathlib.Core.Bool.{Bool, true, false}
+use mathlib.Core.Bool.{Bool}
 use mathlib.Core.List.{List}
 use lib.Dec.{T}
+use Rattle.word.proofs.TestLaws.{stable}
 use Rattle.answers.specs.Numbers.{compiledNumber, compiledPlace, reasonOf, ranNumber, ranPlace, ranReason}
 use Rattle.answers.specs.declared.Compiled.{Compiled}
 use Rattle.answers.specs.declared.Compiled.the-variants as Compiled
@@ -20,21 +21,17 @@ use Rattle.theory.specs.Compile.{CompileOutcome, kindIn, compile}
 use Rattle.theory.specs.Run.{Lent, stateOf, linesOf, run}
 use Rattle.theory.proofs.CompileLaws.{Checked}
 use Rattle.theory.proofs.Models.{calm-rows}
+use Rattle.theory.proofs.RunLaws.{stepsOf, Passed, run-within, stores-valid, passed-valid, valid-passes}
 use Rattle.promises.specs.Answers.{CompileAnswers, RunAnswers}
 use Rattle.promises.specs.Conditions.{CompileWithin, BadVariable, CompileChecked, RunChecked}
 use Rattle.promises.specs.Steps.{After}
 use Rattle.promises.specs.Demand1.{CompileTable, RunTable}
 use Rattle.promises.proofs.StepLaws.{reason-back, exec-reasoned}
-use Rattle.promises.proofs.RunLaws.{Passed, stepsOf, RunGives, ranOf, answered, answered-stuck, gives-run, run-unchanged}
+use Rattle.promises.proofs.RunLaws.{RunGives, ranOf, answered, answered-stuck, gives-run, run-unchanged}
 use Rattle.promises.proofs.WalkLaws.{after-all, at-stuck, at-room}
-use Rattle.promises.proofs.ConditionLaws.{compile-within, run-within, bad-variable, stores-valid}
-use Rattle.promises.proofs.ValidLaws.{accepted, passed-valid}
+use Rattle.promises.proofs.ConditionLaws.{compile-within, bad-variable}
 use Rattle.promises.proofs.CompileLaws.{CompileGives, compiledOf, compile-answered, gives-compile, compile-unchanged}
 use Rattle.promises.proofs.TableLaws.{done-after, stuck-there, room-there}
-
-stable : (b : Bool) → ((T b → ⊥) → ⊥) → T b
-stable true h = tt
-stable false h = absurd (h λ n. n)
 
 module _ (create : Bool) (pattern kinds objects named slice : List ℕ) where
   abbrev outcome : CompileOutcome
@@ -117,14 +114,7 @@ module _ (x : Lent) (code : List ℕ) where
   passed : Passed x code ↔ RunChecked x code
   passed = (
     λ p. record { valid = passed-valid p; few = run-within x code .0 (p .lengths) .1; words = no-bad-word-iff (kindIn (x .kinds)) code .0 (p .words) },
-    λ c.
-        let a = accepted (c .valid) in
-        record {
-          lengths = run-within x code .1 (c .valid .within, c .few);
-          rows = a .good-rows;
-          stores = a .good-stores;
-          words = no-bad-word-iff (kindIn (x .kinds)) code .1 (c .words);
-        },
+    λ c. valid-passes (c .valid) (c .few) (no-bad-word-iff (kindIn (x .kinds)) code .1 (c .words)),
   )
 
   stuck-so : (word reason : ℕ) → Passed x code → stepsOf x code ≡ stuck word reason → RunAnswers (run x code) 10 word reason
@@ -154,8 +144,8 @@ module _ (x : Lent) (code : List ℕ) where
               let w = within .0 t in
               (w, record { within = w .0; table = table .0 e; stores = stores-valid x .0 s }, bad-word-iff (kindIn (x .kinds)) code word .0 b),
           λ h.
-              let v = accepted (h .1) in
-              comes (Ran.BadWord word) (gives (Ran.BadWord word) (within .1 (h .0), v .good-rows, v .good-stores, bad-word-iff (kindIn (x .kinds)) code word .1 (h .2))),
+              let v = h .1 in
+              comes (Ran.BadWord word) (gives (Ran.BadWord word) (within .1 (h .0), table .1 (v .table), stores-valid x .1 (v .stores), bad-word-iff (kindIn (x .kinds)) code word .1 (h .2))),
         );
         stuck = λ word reason. (
           λ a. let (p, e) = answered-stuck x code a in (passed .0 p, stuck-there x code p e),

@@ -2,33 +2,34 @@
 use Prim.Native.Nat.{ℕ}
 use mathlib.Core.Path.{_≡_, refl, sym, _∙_, ap}
 use mathlib.Core.Logic.{_≢_}
-use mathlib.Core.Bool.{Bool, true, false, cond, not}
-use mathlib.Core.Option.{none, some}
+use mathlib.Core.Bool.{Bool, true, false}
+use mathlib.Core.Option.{some}
 use mathlib.Core.List.{List, map}
 use native.Mathlib.Omega.{arith}
-use lib.Dec.{eqb}
 use lib.ListN.{length, getD, take}
 use Rattle.answers.specs.Numbers.{ranReason}
 use Rattle.answers.specs.declared.Ran.{Ran}
 use Rattle.answers.specs.declared.Ran.the-variants as Ran
-use Rattle.stores.specs.Cells.{unset, isSet, held, storeOf}
+use Rattle.stores.specs.Cells.{unset, storeOf}
 use Rattle.patterns.specs.Tree.{patternOf}
 use Rattle.patterns.proofs.TreeLaws.{raws-below}
-use Rattle.theory.specs.Outcome.{Outcome, done, stuck, room, isSome}
+use Rattle.theory.specs.Outcome.{Outcome, done, stuck, room}
 use Rattle.theory.specs.RowModel.{rowWorld}
 use Rattle.theory.specs.TermModel.{Term}
 use Rattle.theory.specs.Machine.{Line, namedCells, exec}
 use Rattle.theory.specs.Compilers.{compile↓, compile↑}
-use Rattle.theory.specs.Compile.{kindIn, variables, entry, compile}
+use Rattle.theory.specs.Compile.{kindIn, variables, entry}
 use Rattle.theory.specs.Run.{Lent, stateOver, stateOf, linesOf, run}
 use Rattle.theory.proofs.Compiled.{known}
+use Rattle.theory.proofs.SetCells as SetCells
+use Rattle.theory.proofs.SetCells.{set-held}
 use Rattle.theory.proofs.Places.{movedTo, same-instructions}
 use Rattle.theory.proofs.CompiledWords.{compiled-words-read}
 use Rattle.theory.proofs.Theorems.{reads-set-matching, reads-set-creating}
+use Rattle.theory.proofs.RunLaws.{stepsOf, Passed, passed-valid}
 use Rattle.promises.specs.Reading.{messageBefore}
 use Rattle.promises.specs.Demand3.{CodeFor}
-use Rattle.promises.proofs.RunLaws.{Passed, stepsOf, RunGives, run-gives}
-use Rattle.promises.proofs.ValidLaws.{passed-valid}
+use Rattle.promises.proofs.RunLaws.{RunGives, run-gives}
 use Rattle.promises.proofs.DecisionLaws.{held-row}
 use Rattle.promises.proofs.CodeLaws.{written, own-code}
 
@@ -48,22 +49,11 @@ stuck-there (done a) why e = absurd (let z : _≡_ {A = ℕ} 0 1 = cc in omega a
 stuck-there (stuck place other) why e = (place, cc)
 stuck-there (room place) why e = absurd (let z : _≡_ {A = ℕ} 0 1 = cc in omega arith)
 
--- compile sees of a row's cell whether it is set
-set-held : (cell : ℕ) → isSet cell ≡ isSome (held cell)
-unfolding held
-set-held cell = go (eqb cell unset)
-  where
-    go : (b : Bool) → not b ≡ isSome (cond b none (some cell))
-    go true = refl
-    go false = refl
-
 entry-known : (x : Lent) → entry (x .objects) (take namedCells (x .messages)) ≡ known rowWorld (stateOf x .stores)
 unfolding stateOver storeOf
-entry-known x = λ i. record {
-  objects = λ v. set-held (getD (x .objects) v unset) i;
-  raws = λ r. set-held (getD (take namedCells (x .messages)) r unset) i;
-  next = 0;
-}
+entry-known x =
+    SetCells.entry-known rowWorld (x .objects) (take namedCells (x .messages)) (stateOf x .stores)
+    (λ v. set-held (getD (x .objects) v unset)) (λ r. set-held (getD (take namedCells (x .messages)) r unset))
 
 module _ {create : Bool} {pattern : List ℕ} {x : Lent} {code : List ℕ} (c : CodeFor create pattern x code) (p : Passed x code) where
   long : length (x .kinds) ≡ variables

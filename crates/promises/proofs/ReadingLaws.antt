@@ -6,11 +6,10 @@ use mathlib.Core.List.{List}
 use native.Mathlib.Nat.{zero-add}
 use native.Mathlib.Omega.{arith}
 use native.Mathlib.Decide.{decLt}
-use borrow.Author.Tests.{ne-eqb}
 use lib.ListN.{length, getD, take, List·getD-eq-default}
 use lib.Seq.{take-at}
 use Rattle.answers.specs.declared.Ran.{Ran}
-use Rattle.stores.specs.Cells.{unset, held, cellOf, storeOf, cellsFrom}
+use Rattle.stores.specs.Cells.{unset, held, storeOf, cellsFrom}
 use Rattle.theory.specs.RowModel.{rowWorld}
 use Rattle.theory.specs.Machine.{State, namedCells, scratchCells}
 use Rattle.theory.specs.Compile.{kindIn, variables}
@@ -19,14 +18,8 @@ use Rattle.theory.specs.Meaning.{meaning, certifiedTerm}
 use Rattle.theory.proofs.ValidMemory.{row-small}
 use Rattle.theory.proofs.RowsRunAsTerms.{Held, IsUsed, HasTag, ValidState, termsOf}
 use Rattle.theory.proofs.ValidLent.{tagged}
-use Rattle.theory.proofs.ValidAgain.{length-cells, getD-cells}
+use Rattle.theory.proofs.ValidAgain.{length-cells, getD-cells, held-back}
 use Rattle.promises.specs.Reading.{termIn, before, after, messageAfter}
-
--- what a cell holds is what was put there, if it is a row
-held-back : (P : ℕ → Type 0) → ((row : ℕ) → P row → row < unset) → (o : Option ℕ) → Held P o → held (cellOf o) ≡ o
-unfolding held cellOf
-held-back P small none h = refl
-held-back P small (some row) h = rw (ne-eqb row 65535 (λ e. omega (arith, small row h)))
 
 none-held : held unset ≡ none
 unfolding held

@@ -21,6 +21,7 @@ use Rattle.theory.specs.Figure2.{TermStores, Matches}
 use Rattle.theory.specs.Figure3.{Creates}
 use Rattle.theory.specs.Compile.{kindIn, entry, emitted, compile}
 use Rattle.theory.proofs.Compiled.{known}
+use Rattle.theory.proofs.SetCells as SetCells
 use Rattle.theory.proofs.CompileLaws.{Checked}
 use Rattle.theory.proofs.Product.{checked-right}
 use Rattle.theory.proofs.Theorems.{figure2-then-match, figure3-then-create, refused-matching, refused-creating}
@@ -52,11 +53,9 @@ set-known cell o says = go (eqb cell unset) (equals cell unset) o says
     go false same (some m) says = refl
 
 entry-known : (objects named : List ℕ) (n : TermStores) → SetAs objects named n → entry objects named ≡ known termWorld n
-entry-known objects named n s = λ i. record {
-  objects = λ v. set-known (getD objects v unset) (n .σ v) (s .object-cells v) i;
-  raws = λ r. set-known (getD named r unset) (n .ρ r) (s .named-cells r) i;
-  next = 0;
-}
+entry-known objects named n s =
+    SetCells.entry-known termWorld objects named n
+    (λ v. set-known (getD objects v unset) (n .σ v) (s .object-cells v)) (λ r. set-known (getD named r unset) (n .ρ r) (s .named-cells r))
 
 module _ (pattern kinds objects named slice : List ℕ) where
   pub no-match : Refused (compile false pattern kinds objects named slice) → {n n′ : TermStores} {m : Term} → SetAs objects named n → Matches (kindIn kinds) n (patternOf pattern) m n′ → ⊥

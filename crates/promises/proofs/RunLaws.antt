@@ -11,32 +11,19 @@ use lib.ListN.{length, getD}
 use Rattle.answers.specs.Numbers.{reasonNumber, reasonOf, ranNumber, ranPlace, ranReason}
 use Rattle.answers.specs.declared.Ran.{Ran}
 use Rattle.answers.specs.declared.Ran.the-variants.{Done, Limit, BadTerm, BadStore, BadWord, Stuck, NoRoom}
+use Rattle.answers.proofs.NumberLaws.{reason-known}
 use Rattle.code.specs.Words.{badWord}
-use Rattle.terms.specs.Rules.{usedRows, badTerm}
-use Rattle.stores.specs.Valid.{valid}
+use Rattle.terms.specs.Rules.{badTerm}
 use Rattle.theory.specs.Outcome.{Outcome, done, stuck, room}
 use Rattle.theory.specs.RowModel.{rowWorld}
-use Rattle.theory.specs.Machine.{State, exec}
+use Rattle.theory.specs.Machine.{State}
 use Rattle.theory.specs.Compile.{when, first, kindIn}
 use Rattle.theory.specs.Run.{Lent, RunOutcome, stateOf, linesOf, unchanged, leftBy, ended, lengthsFit, runBy, run}
 use Rattle.theory.proofs.Models.{calm-rows}
+use Rattle.theory.proofs.CompileLaws.{passes-when, fails-when}
+use Rattle.theory.proofs.RunLaws.{storesFit, stepsOf, Passed, run-steps}
 use Rattle.promises.specs.Answers.{RunAnswers, runNumber}
-use Rattle.promises.proofs.StepLaws.{exec-reasoned, reason-back, number-back}
-
--- the test of 3, and the steps
-module _ (x : Lent) where
-  abbrev pub storesFit : Bool
-  storesFit = valid (x .terms) (usedRows (x .terms)) (x .kinds) (x .objects) (x .messages) (x .certificates) (x .accumulator)
-
-  abbrev pub stepsOf : List ℕ → Outcome (State rowWorld)
-  stepsOf code = exec rowWorld (kindIn (x .kinds)) (linesOf code) (stateOf x)
-
--- nothing is refused before the steps
-pub record Passed (x : Lent) (code : List ℕ) : Type 0 where
-  pub lengths : T (lengthsFit x code)
-  pub rows : badTerm (x .terms) (x .counter) ≡ none
-  pub stores : T (storesFit x)
-  pub words : badWord (kindIn (x .kinds)) code ≡ none
+use Rattle.promises.proofs.StepLaws.{exec-reasoned, reason-back}
 
 -- what each answer says
 abbrev pub RunGives : Lent → List ℕ → Ran → Type 0
@@ -101,7 +88,7 @@ ran-back Limit = refl
 ran-back (BadTerm row) = refl
 ran-back BadStore = refl
 ran-back (BadWord word) = refl
-ran-back (Stuck word reason) = ap (Stuck word) (number-back reason)
+ran-back (Stuck word reason) = ap (Stuck word) (reason-known reason)
 ran-back (NoRoom word) = refl
 
 -- a finished run
@@ -110,16 +97,6 @@ pub record Finished (x : Lent) (code : List ℕ) : Type 0 where
   pub state : State rowWorld
   pub steps : stepsOf x code ≡ done state
   pub left : run x code ≡ leftBy (Done (length code)) state
-
--- a check that passes, and one that fails
-module _ {A : Type 0} where
-  pub passes-when : (b : Bool) (answer : A) → T b → when (not b) answer ≡ none
-  passes-when true answer h = refl
-  passes-when false answer h = absurd h
-
-  pub fails-when : (b : Bool) (answer : A) → (T b → ⊥) → when (not b) answer ≡ some answer
-  fails-when true answer h = absurd (h tt)
-  fails-when false answer h = refl
 
 module _ (x : Lent) (code : List ℕ) where
   answer-is : {number place reason : ℕ} → RunAnswers (run x code) number place reason → run x code .answer ≡ ranOf number place reason
@@ -156,16 +133,12 @@ module _ (x : Lent) (code : List ℕ) where
   unfolding run first
   run-bad-word word h = rw (passes-when (lengthsFit x code) Limit (h .0), h .1, passes-when (storesFit x) BadStore (h .2), h .3)
 
-  run-steps : Passed x code → run x code ≡ ended (length code) x (stepsOf x code)
-  unfolding run first
-  run-steps p = rw (passes-when (lengthsFit x code) Limit (p .lengths), p .rows, passes-when (storesFit x) BadStore (p .stores), p .words)
-
   pub gives-run : (answer : Ran) → RunGives x code answer → run x code .answer ≡ answer
   unfolding leftBy
   gives-run Limit h = run-limit h
   gives-run (BadTerm row) h = run-bad-term row h
   gives-run BadStore h = run-bad-store h
   gives-run (BadWord word) h = run-bad-word word h
-  gives-run (Stuck word reason) (p, e) = rw (run-steps p, e) (ap (Stuck word) (number-back reason))
-  gives-run (NoRoom word) (p, e) = rw (run-steps p, e)
-  gives-run (Done words) (p, e, (t, q)) = rw (run-steps p, q, e)
+  gives-run (Stuck word reason) (p, e) = rw (run-steps x code p, e) (ap (Stuck word) (reason-known reason))
+  gives-run (NoRoom word) (p, e) = rw (run-steps x code p, e)
+  gives-run (Done words) (p, e, (t, q)) = rw (run-steps x code p, q, e)

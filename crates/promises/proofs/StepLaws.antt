@@ -8,8 +8,6 @@ use native.Mathlib.Decide.{decLt}
 use lib.Dec.{ltb, leb}
 use Rattle.word.proofs.TestLaws.{both, is-below, at-most}
 use Rattle.answers.specs.Numbers.{reasonNumber, reasonOf}
-use Rattle.answers.specs.declared.Reason.{Reason}
-use Rattle.answers.specs.declared.Reason.the-variants.{Unset, OtherKind, Differs, PartCount, NoCertificate, NotOpened, NotVerified}
 use Rattle.code.specs.declared.Instruction.{Instruction}
 use Rattle.code.specs.declared.Instruction.the-variants.{Load, Store, StoreConst, Decode, Encode, Create, AnalyzeTuple, CreateTuple, Opposite, KeyOf, Match, Encrypt, Decrypt, Sign, Verify, Hash}
 use Rattle.theory.specs.Outcome.{Outcome, done, stuck, room, bind, Answer, at, need}
@@ -18,6 +16,7 @@ use Rattle.theory.specs.World as Voc
 use Rattle.theory.specs.Machine.{Line, State, namedCells, message, messages, setMessage, setMessages, step, exec}
 use Rattle.theory.proofs.StoreLaws.{put-other}
 use Rattle.theory.proofs.CellLaws.{setMessage-named, setMessage-scratch}
+use Rattle.theory.proofs.RowSteps.{Any}
 use Rattle.theory.proofs.Reasons.{AnswerWithin, got-within, not-within, full-within, OwnReason, Calm}
 
 -- one of document 01's reasons
@@ -42,23 +41,11 @@ reason-back (suc (suc (suc (suc (suc (suc zero)))))) r = refl
 reason-back (suc (suc (suc (suc (suc (suc (suc zero))))))) r = refl
 reason-back (suc (suc (suc (suc (suc (suc (suc (suc why)))))))) r = absurd (omega arith)
 
-pub number-back : (reason : Reason) → reasonOf (reasonNumber reason) ≡ reason
-number-back Unset = refl
-number-back OtherKind = refl
-number-back Differs = refl
-number-back PartCount = refl
-number-back NoCertificate = refl
-number-back NotOpened = refl
-number-back NotVerified = refl
-
 module _ {A : Type 0} (place : ℕ) (P : A → Type 0) where
   pub data Ends : Outcome A → Type 0 where
     goes : {a : A} → P a → Ends (done a)
     sticks : {why : ℕ} → Reasoned why → Ends (stuck place why)
     fills : Ends (room place)
-
-abbrev Any : {A : Type 0} → A → Type 0
-Any a = Unit {0}
 
 module _ {A B : Type 0} {place : ℕ} {P : A → Type 0} {Q : B → Type 0} where
   ends-bind : {o : Outcome A} (f : A → Outcome B) → Ends place P o → ((a : A) → P a → Ends place Q (f a)) → Ends place Q (bind o f)

@@ -3,27 +3,26 @@ use Prim.Native.Nat.{ℕ, _≤_}
 use mathlib.Core.Path.{_≡_, refl, sym, _∙_, ap, subst}
 use mathlib.Core.Bool.{Bool}
 use mathlib.Core.List.{List}
-use lib.ListN.{length, take, drop, length-map}
-use lib.Seq.{take-at}
+use lib.ListN.{length, drop, length-map}
 use Rattle.word.proofs.All.{all-map}
 use Rattle.answers.specs.Numbers.{compiledNumber, compiledPlace}
-use Rattle.code.specs.Instruction.{wordOf}
 use Rattle.code.proofs.WordLaws.{no-bad-word-iff}
 use Rattle.theory.specs.Outcome.{Outcome, done, stuck, room}
 use Rattle.theory.specs.RowModel.{rowWorld}
 use Rattle.theory.specs.Machine.{State}
-use Rattle.theory.specs.Compile.{CompileOutcome, kindIn, codeWords, compile}
+use Rattle.theory.specs.Compile.{SameSet, CompileOutcome, kindIn, codeWords, compiledCode, compile}
 use Rattle.theory.specs.Run.{Lent, run}
-use Rattle.theory.proofs.InLimits.{AllInRange}
+use Rattle.theory.specs.Limits.{AllInRange}
 use Rattle.theory.proofs.SetCells as SetCells
-use Rattle.theory.proofs.SetCells.{SameSet, left, wrote, same-cells, same-slices}
+use Rattle.theory.proofs.SetCells.{left, wrote, same-cells, same-slices}
+use Rattle.theory.proofs.CompileLaws.{part-written}
 use Rattle.theory.proofs.CompiledWords.{compiled-words-good}
 use Rattle.theory.proofs.Product.{compile-writes}
+use Rattle.theory.proofs.RunLaws.{stepsOf, Passed}
 use Rattle.promises.specs.Answers.{compileNumber}
 use Rattle.promises.specs.Steps.{After, At}
-use Rattle.promises.specs.Demand3.{usedPart}
 use Rattle.promises.specs.Demand2.{WritesTable, SameCode, StepByStep}
-use Rattle.promises.proofs.RunLaws.{Passed, stepsOf, finished, answered, answered-stuck}
+use Rattle.promises.proofs.RunLaws.{finished, answered, answered-stuck}
 use Rattle.promises.proofs.WalkLaws.{Walked, all-done, stuck-at, room-at, walked}
 use Rattle.promises.proofs.CompileLaws.{compile-answered, compile-left, kinds-long, number-done}
 
@@ -51,10 +50,10 @@ table-written create pattern kinds objects named slice e =
     }
 
 -- the used part is the lines' words
-used-words : {create : Bool} {pattern kinds objects named slice : List ℕ} {o : CompileOutcome} (w : WritesTable create pattern kinds objects named slice o) → usedPart o ≡ codeWords (w .lines)
-used-words {slice = slice} {o} w =
-    ap (take (compiledPlace (o .answer))) (w .code)
-    ∙ take-at (codeWords (w .lines)) (drop (length (w .lines)) slice) (compiledPlace (o .answer)) (length-map (w .lines) (λ l. wordOf (l .instruction)) ∙ sym (w .count .1))
+used-words : {create : Bool} {pattern kinds objects named slice : List ℕ} {o : CompileOutcome} (w : WritesTable create pattern kinds objects named slice o) → compiledCode o ≡ codeWords (w .lines)
+used-words {slice = slice} w =
+    let count : length (codeWords (w .lines)) ≡ length (w .lines) = length-map (w .lines) _ in
+    rw (w .count .1, w .code, ← count) (part-written (codeWords (w .lines)) (drop (length (codeWords (w .lines))) slice))
 
 same-answer : {code code′ : List ℕ} {o o′ : CompileOutcome} → SetCells.SameCode code code′ o o′ → o .answer ≡ o′ .answer
 same-answer left = refl
@@ -69,7 +68,7 @@ same-code create pattern kinds {objects} {objects′} {named} {named′} slice s
     answers : compile create pattern kinds objects′ named′ slice .answer ≡ compile create pattern kinds objects′ named′ slice′ .answer
     answers = same-answer (same-slices create pattern kinds objects′ named′ slice slice′ l)
 
-    codes : compileNumber (compile create pattern kinds objects′ named′ slice) ≡ 0 → usedPart (compile create pattern kinds objects′ named′ slice) ≡ usedPart (compile create pattern kinds objects′ named′ slice′)
+    codes : compileNumber (compile create pattern kinds objects′ named′ slice) ≡ 0 → compiledCode (compile create pattern kinds objects′ named′ slice) ≡ compiledCode (compile create pattern kinds objects′ named′ slice′)
     codes e =
         let w = table-written create pattern kinds objects′ named′ slice e in
         let w′ = table-written create pattern kinds objects′ named′ slice′ (ap compiledNumber (sym answers) ∙ e) in

@@ -13,59 +13,30 @@ use Rattle.answers.specs.declared.Ran.the-variants as Ran
 use Rattle.code.specs.Instruction.{instructionOf}
 use Rattle.code.specs.Words.{operandsFit}
 use Rattle.code.specs.declared.Instruction.{Instruction}
-use Rattle.code.proofs.WordLaws.{GoodWord, good-iff, no-bad-word-iff}
-use Rattle.terms.proofs.TableLaws.{valid-table, used-rows}
+use Rattle.code.specs.GoodWords.{GoodWord}
+use Rattle.code.proofs.WordLaws.{good-iff, no-bad-word-iff}
+use Rattle.terms.proofs.TableLaws.{used-rows}
 use Rattle.stores.specs.Cells.{unset, held, storeOf}
 use Rattle.theory.specs.Outcome.{Outcome, done}
 use Rattle.theory.specs.RowModel.{rowWorld}
 use Rattle.theory.specs.TermModel.{termWorld}
 use Rattle.theory.specs.Machine.{Line, State, namedCells}
 use Rattle.theory.specs.Compile.{kindIn}
-use Rattle.theory.specs.Run.{Lent, addLine, linesFrom, linesOf, stateOver, stateOf, leftBy, run}
+use Rattle.theory.specs.Run.{Lent, lentAfter, addLine, linesFrom, linesOf, stateOver, stateOf, leftBy, run}
 use Rattle.theory.proofs.Fitting.{ByteFits, good-word-fits}
 use Rattle.theory.proofs.Models.{calm-rows}
 use Rattle.theory.proofs.Related.{OutcomeR, dones}
 use Rattle.theory.proofs.RowsRunAsTerms.{ValidState, Reads, termsOf, rows-run-as-terms}
 use Rattle.theory.proofs.RowsKept.{Appended, exec-appends}
-use Rattle.theory.proofs.ValidLent.{Accepted, accepted-state}
-use Rattle.theory.proofs.ValidAgain.{accepted-again}
+use Rattle.theory.proofs.ValidLent.{valid-state}
+use Rattle.theory.proofs.ValidAgain.{stays-valid}
+use Rattle.theory.proofs.RunLaws.{stepsOf, Passed, passed-valid}
 use Rattle.promises.specs.Answers.{runNumber}
 use Rattle.promises.specs.Reading.{after, messageAfter}
-use Rattle.promises.specs.Conditions.{LentWithin, Valid}
-use Rattle.promises.specs.Demand3.{lentAfter}
+use Rattle.theory.specs.Valid.{Valid}
 use Rattle.promises.proofs.StepLaws.{named-past}
 use Rattle.promises.proofs.ReadingLaws.{after-read, message-read}
-use Rattle.promises.proofs.RunLaws.{Passed, finished, stepsOf}
-use Rattle.promises.proofs.ConditionLaws.{run-within, stores-valid}
-
-pub accepted : {x : Lent} → Valid x → Accepted x
-accepted {x} v = record {
-  kinds-length = v .within .kinds;
-  objects-length = v .within .objects;
-  messages-length = v .within .messages;
-  few-certificates = v .within .certificates;
-  few-rows = v .within .terms;
-  few-names = v .within .counter;
-  good-rows = valid-table (x .terms) (x .counter) .1 (v .table);
-  good-stores = stores-valid x .1 (v .stores);
-}
-
-pub valid-accepted : {x : Lent} → Accepted x → Valid x
-valid-accepted {x} a =
-    let within : LentWithin x = record {
-      kinds = a .kinds-length;
-      objects = a .objects-length;
-      messages = a .messages-length;
-      certificates = a .few-certificates;
-      terms = a .few-rows;
-      counter = a .few-names;
-    } in
-    record { within = within; table = valid-table (x .terms) (x .counter) .0 (a .good-rows); stores = stores-valid x .0 (a .good-stores) }
-
-pub passed-valid : {x : Lent} {code : List ℕ} → Passed x code → Valid x
-passed-valid {x} {code} p =
-    let within = run-within x code .0 (p .lengths) .0 in
-    record { within = within; table = valid-table (x .terms) (x .counter) .0 (p .rows); stores = stores-valid x .0 (p .stores) }
+use Rattle.promises.proofs.RunLaws.{finished}
 
 -- the instructions of good words fit
 module _ (kind : ℕ → ℕ) where
@@ -93,7 +64,7 @@ module _ {x : Lent} {code : List ℕ} (p : Passed x code) (t : State rowWorld) (
   pub state-valid : ValidState (kindIn (x .kinds)) t
   state-valid =
       done-valid (rw steps at (rows-run-as-terms (kindIn (x .kinds)) (linesOf code) (stateOf x) (termsOf (stateOf x))
-      (good-lines (kindIn (x .kinds)) zero code (no-bad-word-iff (kindIn (x .kinds)) code .0 (p .words))) (accepted-state x (accepted (passed-valid p)), refl)))
+      (good-lines (kindIn (x .kinds)) zero code (no-bad-word-iff (kindIn (x .kinds)) code .0 (p .words))) (valid-state x (passed-valid p), refl)))
     where
       done-valid : {o : Outcome (State termWorld)} → OutcomeR (Reads (kindIn (x .kinds))) (done t) o → ValidState (kindIn (x .kinds)) t
       done-valid (dones r) = r .0
@@ -120,8 +91,7 @@ module _ {x : Lent} {code : List ℕ} (p : Passed x code) (t : State rowWorld) (
   message-finish answer = message-read x (passed-valid p .within .kinds) answer t state-valid certificates-kept none-past
 
   pub finish-valid : Valid (lentAfter x (leftBy (Ran.Done (length code)) t))
-  unfolding leftBy
-  finish-valid = valid-accepted (accepted-again x (accepted (passed-valid p)) t state-valid rows-appended)
+  finish-valid = stays-valid x (passed-valid p) t state-valid rows-appended (Ran.Done (length code))
 
 pub run-valid-again : (x : Lent) (code : List ℕ) → runNumber (run x code) ≡ 0 → Valid (lentAfter x (run x code))
 run-valid-again x code e =

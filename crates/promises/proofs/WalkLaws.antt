@@ -8,7 +8,7 @@ use lib.ListN.{length, getD, drop, drop-of-length-le}
 use lib.Seq.{drop-cons}
 use Rattle.code.specs.Instruction.{instructionOf}
 use Rattle.code.specs.declared.Instruction.{Instruction}
-use Rattle.code.proofs.WordLaws.{AllGoodWords}
+use Rattle.code.specs.GoodWords.{AllGoodWords}
 use Rattle.theory.specs.Outcome.{Outcome, done, stuck, room, bind}
 use Rattle.theory.specs.RowModel.{rowWorld}
 use Rattle.theory.specs.Machine.{Line, line, State, step, exec}
@@ -17,7 +17,7 @@ use Rattle.theory.specs.Run.{Lent, stateOf, linesFrom}
 use Rattle.theory.proofs.Models.{calm-rows}
 use Rattle.promises.specs.Steps.{Word, After, start, next, At}
 use Rattle.promises.proofs.StepLaws.{Ends, goes, sticks, fills, KeptPast, step-ends}
-use Rattle.promises.proofs.RunLaws.{stepsOf}
+use Rattle.theory.proofs.RunLaws.{stepsOf}
 
 module _ (x : Lent) (code : List ℕ) where
   abbrev kind : ℕ → ℕ

@@ -5,20 +5,20 @@ use mathlib.Core.Logic.{_≢_, _⊎_}
 use mathlib.Core.Bool.{Bool}
 use mathlib.Core.List.{List}
 use lib.ListN.{length, getD}
-use Rattle.word.proofs.ScanLaws.{LowestWith, NoneWith}
-use Rattle.code.proofs.WordLaws.{LowestBadWord, AllGoodWords}
+use Rattle.word.specs.Lowest.{LowestWith, NoneWith, LowestBad, AllGood}
+use Rattle.code.specs.GoodWords.{LowestBadWord, AllGoodWords}
 use Rattle.terms.specs.Rules.{usedRows}
-use Rattle.terms.proofs.TableLaws.{Sound, ValidTable}
+use Rattle.terms.specs.Table.{Sound}
 use Rattle.stores.specs.Cells.{unset}
-use Rattle.stores.proofs.ValidLaws as Stores
 use Rattle.patterns.specs.Tree.{patternOf}
-use Rattle.patterns.proofs.RuleLaws.{fieldsAt, BadRow, Unnamed}
-use Rattle.patterns.proofs.RightRow.{RightRow}
+use Rattle.patterns.specs.GoodRow.{fieldsAt, BadRow, Unnamed}
+use Rattle.patterns.specs.RightRow.{RightRow}
 use Rattle.theory.specs.RowModel.{mostNames}
 use Rattle.theory.specs.Machine.{Line}
 use Rattle.theory.specs.Emission.{Env, Emitted, ok}
 use Rattle.theory.specs.Compile.{kindIn, variables, mostPatternRows, tables, entry}
-use Rattle.theory.specs.Run.{Lent, mostCodeWords, mostTermRows, mostCertificates, messageCells}
+use Rattle.theory.specs.Run.{Lent, mostCodeWords}
+pub use Rattle.theory.specs.Valid.{LentWithin, ValidStores, Valid}
 
 -- a cell by its number
 abbrev pub cell : List ℕ → ℕ → ℕ
@@ -49,10 +49,10 @@ GoodPattern pattern = NoneWith (BadRow pattern) (length pattern) × NoneWith (Un
 
 -- 5: the lowest row with a wrong kind
 abbrev pub WrongKindAt : Bool → List ℕ → List ℕ → ℕ → Type 0
-WrongKindAt create kinds pattern row = LowestWith (λ row. RightRow create (kindIn kinds) (fieldsAt pattern row) → ⊥) (length pattern) row
+WrongKindAt create kinds pattern row = LowestBad (λ row. RightRow create (kindIn kinds) (fieldsAt pattern row)) (length pattern) row
 
 abbrev pub RightPattern : Bool → List ℕ → List ℕ → Type 0
-RightPattern create kinds pattern = (row : ℕ) → row < length pattern → RightRow create (kindIn kinds) (fieldsAt pattern row)
+RightPattern create kinds pattern = AllGood (λ row. RightRow create (kindIn kinds) (fieldsAt pattern row)) (length pattern)
 
 -- neither 1, 3, 4 nor 5
 pub record CompileChecked (create : Bool) (pattern kinds objects named : List ℕ) : Type 0 where
@@ -74,38 +74,19 @@ pub record Emits (create : Bool) (pattern kinds objects named : List ℕ) (words
 
 -- RUN
 
--- not 1, for what is lent: 64 kinds, 64 object cells, 256 message cells, at most 32 certificates and 4,096 rows, a name counter of at most 65,536
-pub record LentWithin (x : Lent) : Type 0 where
-  pub kinds : length (x .kinds) ≡ variables
-  pub objects : length (x .objects) ≡ variables
-  pub messages : length (x .messages) ≡ messageCells
-  pub certificates : length (x .certificates) ≤ mostCertificates
-  pub terms : length (x .terms) ≤ mostTermRows
-  pub counter : x .counter ≤ mostNames
-
--- and at most 768 words
+-- not 1: what is lent is within its limits, and there are at most 768 words
 abbrev pub RunWithin : Lent → List ℕ → Type 0
 RunWithin x code = LentWithin x × (length code ≤ mostCodeWords)
 
 -- 2: the lowest row that breaks a rule
 abbrev pub BadTermAt : Lent → ℕ → Type 0
-BadTermAt x row = LowestWith (λ row. Sound (x .terms) (x .counter) row (getD (x .terms) row 0) → ⊥) (length (x .terms)) row
-
--- not 3: kinds, cells, certificates and accumulator
-abbrev pub ValidStores : Lent → Type 0
-ValidStores x = Stores.ValidStores (x .terms) (usedRows (x .terms)) (x .kinds) (x .objects) (x .messages) (x .certificates) (x .accumulator)
-
--- what is lent to run is good: neither 1, 2 nor 3
-pub record Valid (x : Lent) : Type 0 where
-  pub within : LentWithin x
-  pub table : ValidTable (x .terms) (x .counter)
-  pub stores : ValidStores x
+BadTermAt x row = LowestBad (λ row. Sound (x .terms) (x .counter) row (getD (x .terms) row 0)) (length (x .terms)) row
 
 -- 9: the lowest bad word
 abbrev pub BadWordAt : Lent → List ℕ → ℕ → Type 0
 BadWordAt x code word = LowestBadWord (kindIn (x .kinds)) code word
 
--- nor 9: the steps are taken
+-- neither 1, 2 nor 3, nor 9: the steps are taken
 pub record RunChecked (x : Lent) (code : List ℕ) : Type 0 where
   pub valid : Valid x
   pub few : length code ≤ mostCodeWords

@@ -7,7 +7,7 @@ use mathlib.Core.List.{List}
 use lib.ListN.{length}
 use Rattle.answers.specs.declared.Compiled.{Compiled}
 use Rattle.answers.specs.declared.Compiled.the-variants.{WrittenWhileSet, ReadWhileUnset}
-use Rattle.terms.proofs.TableLaws.{ValidTable}
+use Rattle.terms.specs.Table.{ValidTable}
 use Rattle.theory.specs.Outcome.{stuck, room}
 use Rattle.theory.specs.RowModel.{rowWorld}
 use Rattle.theory.specs.Machine.{State}

@@ -4,21 +4,19 @@ use mathlib.Core.Path.{_≡_}
 use mathlib.Core.Bool.{Bool}
 use mathlib.Core.List.{List, _++_}
 use lib.ListN.{length, drop}
-use Rattle.word.proofs.All.{All}
+use Rattle.word.specs.All.{All}
 use Rattle.answers.specs.declared.Ran.the-variants as Ran
-use Rattle.code.proofs.WordLaws.{AllGoodWords}
+use Rattle.code.specs.GoodWords.{AllGoodWords}
 use Rattle.patterns.specs.Tree.{patternOf}
 use Rattle.theory.specs.Outcome.{stuck, room}
 use Rattle.theory.specs.RowModel.{rowWorld}
 use Rattle.theory.specs.Machine.{Line, State}
 use Rattle.theory.specs.Emission.{Env, ok}
-use Rattle.theory.specs.Compile.{CompileOutcome, kindIn, codeWords, tables, entry, compile}
+use Rattle.theory.specs.Limits.{CellsFit}
+use Rattle.theory.specs.Compile.{SameSet, CompileOutcome, kindIn, codeWords, compiledCode, tables, entry, compile}
 use Rattle.theory.specs.Run.{Lent, RunOutcome, leftBy, run}
-use Rattle.theory.proofs.InLimits.{CellsFit}
-use Rattle.theory.proofs.SetCells.{SameSet}
 use Rattle.promises.specs.Answers.{CompileAnswers, RunAnswers, compileNumber}
 use Rattle.promises.specs.Steps.{After, At}
-use Rattle.promises.specs.Demand3.{usedPart}
 
 -- The lines of figure 6 for creating and of figure 5 for matching, their words in front of the slice, and the rest of the slice as it was.
 pub record WritesTable (create : Bool) (pattern kinds objects named slice : List ℕ) (o : CompileOutcome) : Type 0 where
@@ -35,7 +33,7 @@ pub record WritesTable (create : Bool) (pattern kinds objects named slice : List
 -- Two calls with the same answer, and where it is 0 the same code.
 pub record SameCode (o o′ : CompileOutcome) : Type 0 where
   pub answer : o .answer ≡ o′ .answer
-  pub code : compileNumber o ≡ 0 → usedPart o ≡ usedPart o′
+  pub code : compileNumber o ≡ 0 → compiledCode o ≡ compiledCode o′
 
 -- What a finished, a stuck and a full run have done, word after word.
 pub record StepByStep (x : Lent) (code : List ℕ) (o : RunOutcome) : Type 0 where

@@ -6,23 +6,18 @@ use mathlib.Core.Bool.{Bool, true, false}
 use mathlib.Core.Option.{none, some}
 use mathlib.Core.List.{List}
 use lib.ListN.{length, take, getD}
-use Rattle.answers.specs.Numbers.{compiledPlace, ranReason}
+use Rattle.answers.specs.Numbers.{ranReason}
 use Rattle.stores.specs.Cells.{unset}
 use Rattle.patterns.specs.Tree.{patternOf}
 use Rattle.theory.specs.TermModel.{Term}
 use Rattle.theory.specs.Machine.{namedCells}
 use Rattle.theory.specs.Figure2.{TermStores, Matches}
 use Rattle.theory.specs.Figure3.{Creates}
-use Rattle.theory.specs.Compile.{CompileOutcome, kindIn, compile}
-use Rattle.theory.specs.Run.{Lent, RunOutcome, run}
-use Rattle.theory.proofs.SetCells.{SameSet}
+use Rattle.theory.specs.Compile.{SameSet, CompileOutcome, kindIn, compiledCode, compile}
+use Rattle.theory.specs.Run.{Lent, lentAfter, run}
 use Rattle.promises.specs.Answers.{RunAnswers, compileNumber, runNumber}
 use Rattle.promises.specs.Reading.{before, after, messageBefore, messageAfter}
 use Rattle.promises.specs.Conditions.{Valid, Room}
-
--- the used part of a code slice after compile
-abbrev pub usedPart : CompileOutcome → List ℕ
-usedPart o = take (compiledPlace (o .answer)) (o .code)
 
 -- Code that compile answered with 0, for cells of which the same are set as of those that run is lent.
 pub record CodeFor (create : Bool) (pattern : List ℕ) (x : Lent) (code : List ℕ) : Type 0 where
@@ -30,7 +25,7 @@ pub record CodeFor (create : Bool) (pattern : List ℕ) (x : Lent) (code : List 
   pub named : List ℕ
   pub slice : List ℕ
   pub done : compileNumber (compile create pattern (x .kinds) objects named slice) ≡ 0
-  pub part : usedPart (compile create pattern (x .kinds) objects named slice) ≡ code
+  pub part : compiledCode (compile create pattern (x .kinds) objects named slice) ≡ code
   pub same-objects : SameSet objects (x .objects)
   pub same-named : SameSet named (take namedCells (x .messages))
 
@@ -69,18 +64,6 @@ pub record SetAs (objects named : List ℕ) (n : TermStores) : Type 0 where
 -- 6 or 7
 abbrev pub Refused : CompileOutcome → Type 0
 Refused o = (compileNumber o ≡ 6) ⊎ (compileNumber o ≡ 7)
-
--- what was lent, after a run
-abbrev pub lentAfter : Lent → RunOutcome → Lent
-lentAfter x o = record {
-  kinds = x .kinds;
-  objects = o .objects;
-  messages = o .messages;
-  certificates = x .certificates;
-  accumulator = o .accumulator;
-  terms = o .terms;
-  counter = o .counter;
-}
 
 pub record Demand3 : Type 0 where
   pub matching : {pattern code : List ℕ} {x : Lent} {m : Term} → Prepared false pattern x code → messageBefore x ≡ some m → DecidesMatch pattern x code m

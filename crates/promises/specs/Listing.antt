@@ -1,45 +1,21 @@
 -- Demand 1 for the bundle and the listing: what is read, what is refused, what is printed.
-use Prim.Native.Nat.{ℕ, zero, _*_, _≤_}
+use Prim.Native.Nat.{ℕ, zero}
 use mathlib.Core.Path.{_≡_}
 use mathlib.Core.Logic.{_↔_, _≢_}
 use mathlib.Core.Option.{none, some}
 use mathlib.Core.List.{List, _++_}
-use lib.ListN.{length, drop, getD, replicate}
-use Rattle.word.specs.Bytes.{elements}
-use Rattle.word.proofs.All.{All}
+use Rattle.word.specs.All.{All}
 use Rattle.answers.specs.Numbers.{compiledNumber, compiledPlace}
 use Rattle.stores.specs.Certificates.{spareOf}
-use Rattle.theory.specs.RowModel.{mostNames}
-use Rattle.theory.specs.Compile.{CompileOutcome, mostPatternRows, compile}
-use Rattle.theory.specs.Run.{run, mostCodeWords, mostTermRows, mostCertificates}
-use Rattle.theory.specs.Bundle.{Header, Bundle, wordBytes, wordsIn, headerOf, bundleOf, readBundle}
-use Rattle.theory.specs.Listing.{refusedLine, codeLines, endLine, storeLines, lentTo, listing}
+use Rattle.theory.specs.Compile.{compiledCode}
+use Rattle.theory.specs.Run.{run}
+use Rattle.theory.specs.Bundle.{Bundle, bundleIn, readBundle, BundleWithin}
+use Rattle.theory.specs.Listing.{refusedLine, codeLines, endLine, storeLines, lentTo, compiledFrom, listing}
 use Rattle.promises.specs.Answers.{compileNumber}
-use Rattle.promises.specs.Demand3.{usedPart}
-
--- the header is the first word
-abbrev pub headerIn : List ℕ → Header
-headerIn bytes = headerOf (getD (elements wordBytes bytes) 0 0)
-
--- not 1: no spare header bit, counts and name counter within their limits, and exactly the size that they say
-pub record BundleWithin (bytes : List ℕ) : Type 0 where
-  pub spare : headerIn bytes .spare ≡ 0
-  pub pattern-rows : (1 ≤ headerIn bytes .patternRows) × (headerIn bytes .patternRows ≤ mostPatternRows)
-  pub certificates : headerIn bytes .certificates ≤ mostCertificates
-  pub term-rows : headerIn bytes .termRows ≤ mostTermRows
-  pub counter : headerIn bytes .counter ≤ mostNames
-  pub size : length bytes ≡ wordBytes * wordsIn (headerIn bytes)
-
-abbrev pub bundleIn : List ℕ → Bundle
-bundleIn bytes = bundleOf (headerIn bytes) (drop 1 (elements wordBytes bytes))
 
 -- not 3: no spare certificate bit
 abbrev pub CertificatesClear : Bundle → Type 0
 CertificatesClear b = All (λ word. spareOf word ≡ 0) (b .certificates)
-
--- compile into 768 words
-abbrev pub compiledFrom : Bundle → CompileOutcome
-compiledFrom b = compile (b .create) (b .pattern) (b .kinds) (b .objects) (b .named) (replicate mostCodeWords 0)
 
 pub record ListingTable (bytes : List ℕ) : Type 0 where
   pub unread : (readBundle bytes ≡ none) ↔ (BundleWithin bytes → ⊥)
@@ -49,6 +25,6 @@ pub record ListingTable (bytes : List ℕ) : Type 0 where
   pub refused : BundleWithin bytes → CertificatesClear (bundleIn bytes) → compileNumber (compiledFrom (bundleIn bytes)) ≢ 0
       → listing bytes ≡ refusedLine (compiledNumber (compiledFrom (bundleIn bytes) .answer)) (compiledPlace (compiledFrom (bundleIn bytes) .answer))
   pub listed : BundleWithin bytes → CertificatesClear (bundleIn bytes) → compileNumber (compiledFrom (bundleIn bytes)) ≡ 0
-      → let code = usedPart (compiledFrom (bundleIn bytes)) in
+      → let code = compiledCode (compiledFrom (bundleIn bytes)) in
       let ran = run (lentTo (bundleIn bytes)) code in
       listing bytes ≡ codeLines zero code ++ endLine ran ++ storeLines ran

@@ -1,15 +1,15 @@
 -- What check 9 gives of an instruction's operands, and a method's step as the instruction's.
 use Prim.Native.Nat.{ℕ, _+_, _<_, _≤_}
-use mathlib.Core.Path.{_≡_, subst}
-use mathlib.Core.Bool.{Bool, _&&_}
+use mathlib.Core.Path.{_≡_}
 use mathlib.Core.List.{List, [], _∷_}
 use native.Mathlib.Omega.{arith}
-use lib.Dec.{T, leb, ltb, leb→le, ltb→lt}
+use lib.Dec.{T, ltb}
 use lib.ListN.{length}
 use Rattle.word.specs.Lowest.{oneOf}
-use Rattle.word.proofs.TestLaws.{both, is-below, at-most}
+use Rattle.word.proofs.TestLaws.{both}
 use Rattle.word.proofs.LowestLaws.{one-all}
 use Rattle.code.specs.Words.{hasKind, cellsFit, operandsFit}
+use Rattle.code.proofs.KindLaws.{object-below, cells-below}
 use Rattle.code.specs.declared.Object.{Object}
 use Rattle.code.specs.declared.Raw.{Raw}
 use Rattle.code.specs.declared.Instruction.{Instruction}
@@ -19,14 +19,6 @@ use Rattle.theory.specs.Machine.{step}
 use Rattle.machine.specs.Machine.{Slices, stateAt, Agrees, Does}
 use Rattle.machine.specs.declared.Registers.{Registers}
 use Rattle.machine.specs.declared.Step.{Step}
-
-object-below : (kind : ℕ → ℕ) (v : Object) (kinds : List ℕ) → T (hasKind kind v kinds) → v .0 < 64
-object-below kind v kinds has = is-below (v .0) 64 .0 (both (ltb (v .0) 64) (oneOf kinds (kind (v .0))) .0 has .0)
-
-cells-below : (first : Raw) (n : ℕ) → T (cellsFit first n) → (n ≤ 4) × (first .0 + n ≤ 256)
-cells-below first n fit =
-    let tests = both (leb n 4) (leb (first .0 + n) 256) .0 fit in
-    (at-most n 4 .0 (tests .0), at-most (first .0 + n) 256 .0 (tests .1))
 
 creatable-small : (kind : ℕ) → T (oneOf (2 ∷ 5 ∷ 6 ∷ []) kind) → kind < 16
 creatable-small kind one = one-all (λ n. n < 16) (2 ∷ 5 ∷ 6 ∷ []) kind (omega arith) one

@@ -1,4 +1,4 @@
--- What valid certificates are, in propositions, and that they stay valid while rows are kept.
+-- The tests of certificates say what document 01 says; valid ones stay valid while rows are kept.
 use mathlib.Core.Path.{_≡_}
 use mathlib.Core.Logic.{_↔_, _≢_, Iff·rfl}
 use mathlib.Core.Bool.{not, _&&_}
@@ -8,26 +8,11 @@ use native.Mathlib.Omega.{arith}
 use lib.Dec.{T, eqb}
 use lib.ListN.{getD}
 use Rattle.word.specs.Lowest.{each}
-use Rattle.word.proofs.All.{All, all-map}
+use Rattle.word.proofs.All.{all-map}
 use Rattle.word.proofs.TestLaws.{both, fails, equals, is-below}
 use Rattle.word.proofs.LowestLaws.{each-all}
-use Rattle.terms.specs.Row.{tagOf}
-use Rattle.stores.specs.Certificates.{agentOf, keyOf, spareOf, pairFits, agentsOnce}
-
--- a pair of an agent row and a public key row, both used
-pub record GoodPair (rows : List ℕ) (used word : ℕ) : Type 0 where
-  pub spare : spareOf word ≡ 0
-  pub agent : (agentOf word < used) × (tagOf (getD rows (agentOf word) 0) ≡ 3)
-  pub key : (keyOf word < used) × (tagOf (getD rows (keyOf word) 0) ≡ 4)
-
--- no agent twice
-abbrev pub AgentsOnce : List ℕ → Type 0
-AgentsOnce [] = Unit {0}
-AgentsOnce (word ∷ rest) = All (λ other. agentOf other ≢ agentOf word) rest × AgentsOnce rest
-
-pub record ValidCertificates (rows : List ℕ) (used : ℕ) (certificates : List ℕ) : Type 0 where
-  pub pairs : All (GoodPair rows used) certificates
-  pub once : AgentsOnce certificates
+use Rattle.stores.specs.Certificates.{agentOf, keyOf, pairFits, agentsOnce}
+use Rattle.stores.specs.ValidStores.{GoodPair, AgentsOnce, ValidCertificates}
 
 good-pair : (rows : List ℕ) (used word : ℕ) → T (pairFits rows used word) ↔ GoodPair rows used word
 unfolding pairFits

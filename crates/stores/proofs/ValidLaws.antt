@@ -1,12 +1,12 @@
--- Refusal 3 in the words of document 01: what valid stores are to run, and what declared ones are to compile.
+-- The tests of refusal 3 say what document 01 says.
 use mathlib.Core.Path.{_≡_}
 use mathlib.Core.Logic.{_↔_, _⊎_, _≢_, inl, inr, ⊎-elim, Iff·rfl, Iff·trans}
-use mathlib.Core.Bool.{Bool, true, false, not, _&&_, _||_}
+use mathlib.Core.Bool.{Bool, not, _&&_, _||_}
 use mathlib.Core.List.{List, [], _∷_}
 use Prim.Native.Nat.{ℕ, zero, suc, _<_, _≤_}
 use native.Mathlib.Omega.{arith}
 use lib.Dec.{T, eqb, leb, ltb}
-use lib.ListN.{length, getD}
+use lib.ListN.{getD}
 use Rattle.word.specs.Lowest.{each}
 use Rattle.word.proofs.All.{All}
 use Rattle.word.proofs.TestLaws.{both, either, implied, twice, fails, equals, is-below, at-most}
@@ -15,41 +15,8 @@ use Rattle.terms.specs.Row.{tagOf}
 use Rattle.stores.specs.Cells.{unset, isSet}
 use Rattle.stores.specs.Certificates.{pairFits, agentsOnce}
 use Rattle.stores.specs.Valid.{kindsFit, eachVariable, undeclaredUnset, cellFits, objectFits, declared, valid}
-use Rattle.stores.proofs.CertificateLaws.{ValidCertificates, valid-certificates}
-
--- what is asked of each variable's kind and cell
-abbrev pub EachVariable : (ℕ → ℕ → Type 0) → List ℕ → List ℕ → Type 0
-EachVariable P kinds cells = (v : ℕ) → v < length kinds → v < length cells → P (getD kinds v 0) (getD cells v unset)
-
--- the cell of an undeclared variable is unset
-abbrev pub UndeclaredUnset : ℕ → ℕ → Type 0
-UndeclaredUnset kind cell = kind ≡ 0 → cell ≡ unset
-
--- a set object cell holds a used row of the variable's kind
-abbrev pub HoldsKind : List ℕ → ℕ → ℕ → ℕ → Type 0
-HoldsKind rows used kind cell = cell ≢ unset → (cell < used) × (tagOf (getD rows cell 0) ≡ kind)
-
--- a cell is unset or a used row
-abbrev pub UnsetOrUsed : ℕ → ℕ → Type 0
-UnsetOrUsed used cell = (cell ≡ unset) ⊎ (cell < used)
-
--- each kind is at most 10
-abbrev pub KnownKinds : List ℕ → Type 0
-KnownKinds kinds = All (λ kind. kind ≤ 10) kinds
-
--- not 3, as compile sees it
-pub record Declared (kinds objects : List ℕ) : Type 0 where
-  pub known : KnownKinds kinds
-  pub undeclared : EachVariable UndeclaredUnset kinds objects
-
--- not 3, as run sees it
-pub record ValidStores (rows : List ℕ) (used : ℕ) (kinds objects messages certificates : List ℕ) (accumulator : ℕ) : Type 0 where
-  pub known : KnownKinds kinds
-  pub undeclared : EachVariable UndeclaredUnset kinds objects
-  pub typed : EachVariable (HoldsKind rows used) kinds objects
-  pub cells : All (UnsetOrUsed used) messages
-  pub certified : ValidCertificates rows used certificates
-  pub held : UnsetOrUsed used accumulator
+use Rattle.stores.specs.ValidStores.{EachVariable, UndeclaredUnset, HoldsKind, UnsetOrUsed, KnownKinds, Declared, ValidStores}
+use Rattle.stores.proofs.CertificateLaws.{valid-certificates}
 
 -- each test, as a proposition
 pub known-kinds : (kinds : List ℕ) → T (kindsFit kinds) ↔ KnownKinds kinds

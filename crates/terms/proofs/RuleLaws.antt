@@ -4,7 +4,6 @@ use mathlib.Core.Path.{_≡_, refl, sym, _∙_, ap}
 use mathlib.Core.Bool.{Bool, true, false, not, _&&_, _||_}
 use mathlib.Core.Option.{Option, none, some}
 use mathlib.Core.List.{List, [], _∷_}
-use native.Mathlib.Decide.{ℕ-discrete}
 use native.Mathlib.Omega.{arith}
 use lib.ListN.{length, getD, take, drop}
 use lib.Seq.{length-take-le, take-all}
@@ -14,6 +13,7 @@ use Rattle.word.specs.Fields.{at}
 use Rattle.word.specs.Lowest.{each, oneOf, lowestFrom, placeOf}
 use Rattle.word.specs.declared.Place.{Place}
 use Rattle.word.specs.declared.Place.the-variants.{At, Nowhere}
+use Rattle.word.proofs.OneOfLaws.{one-here, one-later, one-last}
 use Rattle.word.proofs.ScanLaws.{placed-at, placed-nowhere, Left, scan-hit, scan-miss, each-stop, each-next, each-end}
 use Rattle.terms.specs.declared.Checked.the-variants.{Bad, Used}
 use Rattle.terms.specs.Shape.{Shape, atom, encrypted, signed, hashed, tupled, partsOf}
@@ -159,16 +159,10 @@ module _ (rows : List ℕ) (key word tag kind : ℕ) (row : word ≡ getD rows k
   whose = is ∙ ap tagOf row
 
   pub kind-first : tag ≡ kind → eqb tag kind ≡ oneOf (kind ∷ 6 ∷ []) (tagOf (getD rows key 0))
-  unfolding oneOf
-  kind-first e = rw (← whose, eq-eqb tag kind e, eq-eqb kind tag (sym e))
+  kind-first e = rw (← whose) (eq-eqb tag kind e ∙ sym (one-here kind (6 ∷ []) tag e))
 
   pub kind-second : (tag ≡ kind → ⊥) → eqb tag 6 ≡ oneOf (kind ∷ 6 ∷ []) (tagOf (getD rows key 0))
-  unfolding oneOf
-  kind-second e = rw (← whose, ne-eqb kind tag (λ q. e (sym q))) (go (ℕ-discrete tag 6))
-    where
-      go : Dec (tag ≡ 6) → eqb tag 6 ≡ eqb 6 tag || false
-      go (yes q) = rw (eq-eqb tag 6 q, eq-eqb 6 tag (sym q))
-      go (no q) = rw (ne-eqb tag 6 q, ne-eqb 6 tag (λ p. q (sym p)))
+  kind-second e = rw (← whose) (one-last 6 tag ∙ sym (one-later kind (6 ∷ []) tag e))
 
 pub ruleset kind-ways = (kind-first, kind-second)
 

@@ -1,62 +1,23 @@
--- What a valid term table is, in propositions, and that it stays valid when a row is added or the counter is raised.
+-- The tests of a term table say what document 01 says; a valid table stays valid when a row is added or the counter is raised.
 use mathlib.Core.Path.{_≡_, refl, sym, _∙_, ap}
-use mathlib.Core.Logic.{_↔_, _⊎_, _≢_, Iff·rfl}
+use mathlib.Core.Logic.{_↔_, _≢_, Iff·rfl, Iff·trans}
 use mathlib.Core.Bool.{Bool, true, false, cond, not}
 use mathlib.Core.Option.{none, some}
 use mathlib.Core.List.{List, [], _∷_}
 use Prim.Native.Nat.{ℕ, zero, suc, _<_, _≤_}
 use native.Mathlib.Omega.{arith}
 use native.Mathlib.Decide.{decLt, ℕ-discrete}
-use lib.Dec.{T, T-not, eqb, ltb}
+use lib.Dec.{T, eqb, ltb}
 use lib.ListN.{length, getD, set, length-set, List·getD-eq-default}
 use lib.Seq.{getD-take, getD-set-same, getD-set-other, length-take-le}
-use Rattle.word.proofs.All.{All}
+use Rattle.word.specs.Lowest.{LowestBad, AllGood}
 use Rattle.word.proofs.TestLaws.{both, chosen, fails, equals, is-below, not-below, at-most}
-use Rattle.word.proofs.LowestLaws.{each-all, one-of, one-of-two, lowest-none}
-use Rattle.word.proofs.ScanLaws.{LowestWith, lowest-with}
+use Rattle.word.proofs.LowestLaws.{each-all, one-of, one-of-two, none-bad, lowest-bad}
 use Rattle.terms.specs.Shape.{Shape, atom, encrypted, signed, hashed, tupled, partsOf}
 use Rattle.terms.specs.Row.{wordOf, tagOf, shapeOf}
 use Rattle.terms.specs.Rules.{usedRows, knownTag, unusedZero, numberFits, partsBelow, keyFits, earlierEqual, fits, badRow, badTerm}
+use Rattle.terms.specs.Table.{NumberFits, PartsBelow, KeyFits, GoodRow, ValidTable, Sound}
 use Rattle.terms.proofs.RowLaws.{Packs, kind-known, tag-word, shape-word, tag-nonzero}
-
--- a byte is at most 255; nonces and keys are below the name counter; agents are any
-abbrev pub NumberFits : ℕ → Shape ℕ → Type 0
-NumberFits counter (atom tag number) = (tag ≡ 1 → number < 256) × (tag ≢ 1 → tag ≢ 3 → number < counter)
-NumberFits counter (encrypted key body) = Unit {0}
-NumberFits counter (signed key body) = Unit {0}
-NumberFits counter (hashed body) = Unit {0}
-NumberFits counter (tupled parts) = Unit {0}
-
--- parts have smaller row numbers than their owner
-abbrev pub PartsBelow : ℕ → Shape ℕ → Type 0
-PartsBelow row shape = All (λ part. part < row) (partsOf shape)
-
--- the tags of keys that encrypt, and of those that sign
-abbrev pub Encrypts : ℕ → Type 0
-Encrypts tag = (tag ≡ 4) ⊎ (tag ≡ 6)
-
-abbrev pub Signs : ℕ → Type 0
-Signs tag = (tag ≡ 5) ⊎ (tag ≡ 6)
-
-abbrev pub KeyFits : List ℕ → Shape ℕ → Type 0
-KeyFits rows (atom tag number) = Unit {0}
-KeyFits rows (encrypted key body) = Encrypts (tagOf (getD rows key 0))
-KeyFits rows (signed key body) = Signs (tagOf (getD rows key 0))
-KeyFits rows (hashed body) = Unit {0}
-KeyFits rows (tupled parts) = Unit {0}
-
--- the rules of a used row
-pub record GoodRow (rows : List ℕ) (counter row word : ℕ) : Type 0 where
-  pub known : (1 ≤ tagOf word) × (tagOf word ≤ 10)
-  pub packed : wordOf (shapeOf word) ≡ word
-  pub number : NumberFits counter (shapeOf word)
-  pub below : PartsBelow row (shapeOf word)
-  pub key : KeyFits rows (shapeOf word)
-  pub new : (earlier : ℕ) → earlier < row → getD rows earlier 0 ≢ word
-
-pub record ValidTable (rows : List ℕ) (counter : ℕ) : Type 0 where
-  pub good : (row : ℕ) → row < usedRows rows → GoodRow rows counter row (getD rows row 0)
-  pub zeros : (row : ℕ) → usedRows rows ≤ row → getD rows row 0 ≡ 0
 
 -- each rule, as a test and as a proposition
 known-tag : (word : ℕ) → T (knownTag word) ↔ ((1 ≤ tagOf word) × (tagOf word ≤ 10))
@@ -127,10 +88,6 @@ used-once {rows} {count} u =
     let fewer : ¬ (usedRows rows < count) = λ l. u .nonzero (usedRows rows) l (used-rows rows .ends) in
     omega arith
 
--- what is asked of a row, used or not
-abbrev pub Sound : List ℕ → ℕ → ℕ → ℕ → Type 0
-Sound rows counter row word = (row < usedRows rows → GoodRow rows counter row word) × (usedRows rows ≤ row → word ≡ 0)
-
 not-chosen : (a b c : Bool) → not (cond a (not b) (not c)) ≡ cond a b c
 not-chosen true true c = refl
 not-chosen true false c = refl
@@ -141,34 +98,26 @@ sound-row : (rows : List ℕ) (counter row word : ℕ) → row ≤ length rows �
 unfolding badRow
 sound-row rows counter row word inside = simp (not-chosen, chosen, is-below, not-below, equals, good-row) Iff·rfl
 
+sound-at : (rows : List ℕ) (counter row : ℕ) → row < length rows → T (not (badRow rows counter row (getD rows row 0))) ↔ Sound rows counter row (getD rows row 0)
+sound-at rows counter row inside = sound-row rows counter row (getD rows row 0) (omega arith)
+
 -- 2 is given exactly where the table is not valid
 pub valid-table : (rows : List ℕ) (counter : ℕ) → (badTerm rows counter ≡ none) ↔ ValidTable rows counter
 unfolding badTerm
 valid-table rows counter =
-    simp (lowest-none (badRow rows counter) 0 rows) (
+    Iff·trans (none-bad (badRow rows counter) (λ row. Sound rows counter row (getD rows row 0)) rows 0 (sound-at rows counter)) (
       λ h. record { good = λ row. sound h row (decLt row (length rows)) .0; zeros = λ row. sound h row (decLt row (length rows)) .1 },
-      λ valid row inside. sound-row rows counter row (getD rows row 0) (omega arith) .1 (valid .good row, valid .zeros row),
+      λ valid row inside. (valid .good row, valid .zeros row),
     )
   where
-    sound : ((row : ℕ) → row < length rows → T (not (badRow rows counter row (getD rows row 0)))) → (row : ℕ) → Dec (row < length rows)
-        → Sound rows counter row (getD rows row 0)
-    sound h row (yes inside) = sound-row rows counter row (getD rows row 0) (omega arith) .0 (h row inside)
+    sound : AllGood (λ row. Sound rows counter row (getD rows row 0)) (length rows) → (row : ℕ) → Dec (row < length rows) → Sound rows counter row (getD rows row 0)
+    sound h row (yes inside) = h row inside
     sound h row (no outside) = (λ l. absurd (omega (arith, used-rows rows .inside)), λ l. List·getD-eq-default rows 0 (omega arith))
 
 -- 2, exactly: the lowest row that breaks a rule
-pub bad-term-at : (rows : List ℕ) (counter row : ℕ) → (badTerm rows counter ≡ some row) ↔ LowestWith (λ row. Sound rows counter row (getD rows row 0) → ⊥) (length rows) row
+pub bad-term-at : (rows : List ℕ) (counter row : ℕ) → (badTerm rows counter ≡ some row) ↔ LowestBad (λ row. Sound rows counter row (getD rows row 0)) (length rows) row
 unfolding badTerm
-bad-term-at rows counter = lowest-with (badRow rows counter) (λ row. Sound rows counter row (getD rows row 0) → ⊥) rows 0 says
-  where
-    twice : (b : Bool) → (T (not b) → ⊥) → T b
-    twice true h = tt
-    twice false h = absurd (h tt)
-
-    says : (row : ℕ) → row < length rows → T (badRow rows counter row (getD rows row 0)) ↔ (Sound rows counter row (getD rows row 0) → ⊥)
-    says row inside =
-        let bad = badRow rows counter row (getD rows row 0) in
-        let sound = sound-row rows counter row (getD rows row 0) (omega arith) in
-        (λ b s. T-not bad (sound .1 s) b, λ n. twice bad λ h. n (sound .0 h))
+bad-term-at rows counter = lowest-bad (badRow rows counter) (λ row. Sound rows counter row (getD rows row 0)) rows 0 (sound-at rows counter)
 
 -- a rule of a row looks at earlier rows only
 module _ (rows other : List ℕ) (row : ℕ) (same : (i : ℕ) → i < row → getD other i 0 ≡ getD rows i 0) where

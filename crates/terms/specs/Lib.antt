@@ -2,4 +2,5 @@
 pub mod Shape
 pub mod Row
 pub mod Rules
+pub mod Table
 pub mod Finder

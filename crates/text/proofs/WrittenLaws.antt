@@ -1,24 +1,21 @@
 -- Text written after text is the two as one.
-use Prim.Native.Nat.{ℕ, suc, _+_, _<_, _≤_}
+use Prim.Native.Nat.{ℕ, _+_, _<_, _≤_}
 use mathlib.Core.Path.{_≡_, refl, sym, _∙_, ap}
 use mathlib.Core.List.{List, [], _∷_, _++_}
-use native.Mathlib.Nat.{add-zero, add-suc, suc-add}
+use native.Mathlib.Nat.{add-zero}
 use native.Mathlib.Numerals.{add-one}
 use native.Mathlib.Omega.{arith}
 use lib.ListN.{length, getD, take, set, length-append}
-use lib.Seq.{sets, set-out, length-sets, take-suc}
+use lib.Seq.{set-out, length-sets, take-suc}
+use Rattle.word.proofs.ByteLaws.{sets-append}
 use Rattle.text.specs.Written.{Wrote}
-
-sets-append : (before text more : List ℕ) (at : ℕ) → sets (sets before at text) (at + length text) more ≡ sets before at (text ++ more)
-sets-append before [] more at = rw add-zero
-sets-append before (b ∷ text) more at = rw (add-suc at (length text), ← suc-add at (length text)) (sets-append (set before at b) text more (suc at))
 
 pub wrote-nothing : (before : List ℕ) (at : ℕ) → Wrote [] before at before at
 wrote-nothing before at = record { bytes = refl; place = sym (add-zero at) }
 
 pub wrote-then : {text more before middle after : List ℕ} {at next last : ℕ} → Wrote text before at middle next → Wrote more middle next after last → Wrote (text ++ more) before at after last
 wrote-then {text} {more} {before} {middle} {after} {at} {next} {last} f g = record {
-  bytes = g .bytes ∙ rw (f .bytes, f .place) (sets-append before text more at);
+  bytes = g .bytes ∙ rw (f .bytes, f .place) (sym (sets-append before at text more));
   place = rw (length-append text more) (omega (arith, f .place, g .place));
 }
 

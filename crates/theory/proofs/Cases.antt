@@ -21,7 +21,7 @@ use Rattle.theory.specs.Store.{put, puts}
 use Rattle.theory.specs.World.{creatable}
 use Rattle.theory.specs.Machine.{message, setMessage, setMessages, messages}
 use Rattle.theory.specs.Emission.{after, andThen, readable, occupied, addRaw, emit}
-use Rattle.theory.specs.Compile.{first, compile}
+use Rattle.theory.specs.Compile.{first, usedPart, compile}
 use Rattle.theory.specs.Run.{stateOver, leftBy, linesFrom, run}
 use Rattle.theory.specs.Bundle.{headerOf, bundleOf, readBundle}
 use Rattle.theory.specs.Listing.{codeLines, cellLines, listing}
@@ -29,7 +29,7 @@ use Rattle.theory.specs.Cases.{Cases}
 use Rattle.theory.specs.Orders.{Orders, Corners}
 
 pub worked : Cases × Orders × Corners
-unfolding flatMap number bytesOf words spelled lowestFrom each oneOf digits decimal spaced line wordLine Code.wordOf Code.instructionOf goodWord badWord Row.wordOf Row.tagOf Row.shapeOf usedRows knownTag unusedZero numberFits partsBelow keyFits earlierEqual badRow badTerm equalRow locate held cellOf storeOf cellsFrom agentOf keyOf spareOf certified pairFits agentsOnce kindsFit eachVariable declared valid count fieldsOf Patterns.repeats Patterns.badRow Patterns.unnamed Patterns.badPattern patternsFrom patternsOf patternOf wrongKind put puts creatable message setMessage setMessages messages after andThen readable occupied addRaw emit first compile stateOver leftBy linesFrom run headerOf bundleOf readBundle codeLines cellLines listing
+unfolding flatMap number bytesOf words spelled lowestFrom each oneOf digits decimal spaced line wordLine Code.wordOf Code.instructionOf goodWord badWord Row.wordOf Row.tagOf Row.shapeOf usedRows knownTag unusedZero numberFits partsBelow keyFits earlierEqual badRow badTerm equalRow locate held cellOf storeOf cellsFrom agentOf keyOf spareOf certified pairFits agentsOnce kindsFit eachVariable declared valid count fieldsOf Patterns.repeats Patterns.badRow Patterns.unnamed Patterns.badPattern patternsFrom patternsOf patternOf wrongKind put puts creatable message setMessage setMessages messages after andThen readable occupied addRaw emit first usedPart compile stateOver leftBy linesFrom run headerOf bundleOf readBundle codeLines cellLines listing
 worked = (
   record {
     P1 = refl;

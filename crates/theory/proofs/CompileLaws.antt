@@ -1,13 +1,15 @@
 -- What an answer of compile says: each check in its order, then emission, then the room in the slice.
-use mathlib.Core.Path.{_≡_, refl, sym, _∙_, ap, subst}
+use mathlib.Core.Path.{_≡_, refl, sym, _∙_, subst}
 use mathlib.Core.Bool.{Bool, true, false, cond, not}
 use mathlib.Core.Option.{Option, none, some, Option·map}
 use mathlib.Core.List.{List, [], _∷_, _++_}
-use Prim.Native.Nat.{ℕ}
+use Prim.Native.Nat.{ℕ, _≤_}
 use native.Mathlib.Omega.{arith}
+use borrow.Author.Tests.{le-leb}
 use lib.Dec.{T, leb}
-use lib.ListN.{length, take, drop, length-map}
+use lib.ListN.{length, take, drop, length-map, length-take, length-append}
 use lib.Seq.{take-append-seam}
+use Rattle.word.proofs.TestLaws.{twice}
 use Rattle.answers.specs.declared.Compiled.{Compiled}
 use Rattle.answers.specs.declared.Compiled.the-variants.{Done, Limit, BadStore, BadPattern, WrongKind, CodeTooShort}
 use Rattle.code.specs.Instruction.{wordOf}
@@ -16,7 +18,7 @@ use Rattle.patterns.specs.Rules.{badPattern}
 use Rattle.patterns.specs.Kinds.{wrongKind}
 use Rattle.theory.specs.Machine.{Line}
 use Rattle.theory.specs.Emission.{Env, Emitted, ok, refuse}
-use Rattle.theory.specs.Compile.{when, first, kindIn, codeWords, leaves, finished, lengthsFit, refusals, emitted, compileBy, compile}
+use Rattle.theory.specs.Compile.{when, first, kindIn, codeWords, usedPart, leaves, finished, lengthsFit, refusals, emitted, compileBy, compile}
 use Rattle.theory.proofs.InLimits.{Refusal}
 
 -- an answer that is not done
@@ -26,6 +28,23 @@ NotDone answer = (words : ℕ) → answer ≡ Done words → ⊥
 pub refusal-not-done : {answer : Compiled} → Refusal answer → NotDone answer
 refusal-not-done Refusal.written words e = let z : _≡_ {A = ℕ} 0 1 = cc in omega arith
 refusal-not-done Refusal.read words e = let z : _≡_ {A = ℕ} 0 1 = cc in omega arith
+
+-- the used part, where the slice has so many words; and of a slice with words in front
+pub part-fits : (n : ℕ) (code : List ℕ) → n ≤ length code → usedPart n code ≡ take n code
+unfolding usedPart
+part-fits n code fits = rw (le-leb n (length code) fits)
+
+pub part-written : (words rest : List ℕ) → usedPart (length words) (words ++ rest) ≡ words
+part-written words rest = part-fits (length words) (words ++ rest) (omega (arith, length-append words rest)) ∙ take-append-seam words rest
+
+-- no more words than asked for
+pub part-length : (n : ℕ) (code : List ℕ) → length (usedPart n code) ≤ n
+unfolding usedPart
+part-length n code = go (leb n (length code))
+  where
+    go : (b : Bool) → length (cond b (take n code) []) ≤ n
+    go true = omega (arith, length-take n code)
+    go false = omega arith
 
 -- the first refusal of checks in their order
 module _ {A : Type 0} where
@@ -52,6 +71,15 @@ module _ {A : Type 0} where
   when-some P true answer h other e = let p : answer ≡ other = cc in subst P p h
   when-some P false answer h other e = absurd (let z : _≡_ {A = ℕ} 0 1 = cc in omega arith)
 
+  -- a check that passes, and one that fails
+  pub passes-when : (b : Bool) (answer : A) → T b → when (not b) answer ≡ none
+  passes-when true answer h = refl
+  passes-when false answer h = absurd h
+
+  pub fails-when : (b : Bool) (answer : A) → (T b → ⊥) → when (not b) answer ≡ some answer
+  fails-when true answer h = absurd (h tt)
+  fails-when false answer h = refl
+
 module _ {A B : Type 0} (f : A → B) where
   pub map-none : (o : Option A) → Option·map f o ≡ none → o ≡ none
   map-none none e = refl
@@ -76,15 +104,11 @@ module _ (create : Bool) (pattern kinds objects named : List ℕ) where
       let (rows, e) = first-none _ _ e in
       let (right, e) = first-none _ _ e in
       record {
-        lengths = T-not-not (lengthsFit create pattern kinds objects named) (when-none (not (lengthsFit create pattern kinds objects named)) Limit limits);
-        cells = T-not-not (declared kinds objects) (when-none (not (declared kinds objects)) BadStore cells);
+        lengths = twice (lengthsFit create pattern kinds objects named) .0 (when-none (not (lengthsFit create pattern kinds objects named)) Limit limits);
+        cells = twice (declared kinds objects) .0 (when-none (not (declared kinds objects)) BadStore cells);
         rows = map-none BadPattern (badPattern pattern) rows;
         right = map-none WrongKind (wrongKind create (kindIn kinds) pattern) right;
       }
-    where
-      T-not-not : (b : Bool) → T (not (not b)) → T b
-      T-not-not true h = tt
-      T-not-not false h = h
 
   -- 1, 3, 4 and 5 are not done
   pub checks-not-done : (answer : Compiled) → first (refusals create pattern kinds objects named) ≡ some answer → NotDone answer
@@ -102,7 +126,7 @@ module _ (create : Bool) (pattern kinds objects named : List ℕ) where
     pub env : Env
     pub emits : emitted create pattern kinds objects named ≡ ok lines env
     pub counts : words ≡ length lines
-    pub writes : take words after ≡ codeWords lines
+    pub writes : usedPart words after ≡ codeWords lines
 
   pub done-compiles : (code : List ℕ) (words : ℕ) → (Checked → (answer : Compiled) → emitted create pattern kinds objects named ≡ refuse answer → Refusal answer)
       → compile create pattern kinds objects named code .answer ≡ Done words → Compiles words (compile create pattern kinds objects named code .code)
@@ -114,7 +138,7 @@ module _ (create : Bool) (pattern kinds objects named : List ℕ) where
           → Compiles words (cond b (leaves (Done (length (codeWords lines))) (codeWords lines ++ drop (length (codeWords lines)) code)) (leaves (CodeTooShort (length (codeWords lines))) code) .code)
       by-fit lines env c q true e =
           let n : length (codeWords lines) ≡ words = cc in
-          record { checks = c; lines = lines; env = env; emits = q; counts = sym n ∙ length-map lines (λ l. wordOf (l .instruction)); writes = rw (← n) (take-append-seam (codeWords lines) _) }
+          record { checks = c; lines = lines; env = env; emits = q; counts = sym n ∙ length-map lines (λ l. wordOf (l .instruction)); writes = rw (← n) (part-written (codeWords lines) _) }
       by-fit lines env c q false e = absurd (let z : _≡_ {A = ℕ} 0 1 = cc in omega arith)
 
       by-emission : (E : Emitted) → Checked → emitted create pattern kinds objects named ≡ E → finished E code .answer ≡ Done words → Compiles words (finished E code .code)

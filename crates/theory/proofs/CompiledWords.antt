@@ -1,36 +1,34 @@
 -- The words of compiled code pass run's check, and are read as the lines that they were written for.
-use mathlib.Core.Path.{_≡_, refl, sym, _∙_, ap}
-use mathlib.Core.Bool.{Bool, _&&_}
-use mathlib.Core.Option.{Option, none, some}
+use mathlib.Core.Path.{_≡_, refl, ap}
+use mathlib.Core.Bool.{_&&_}
+use mathlib.Core.Option.{none}
 use mathlib.Core.List.{List, [], _∷_, map}
-use Prim.Native.Nat.{ℕ, zero, suc, _+_, _<_, _≤_}
+use Prim.Native.Nat.{ℕ, zero, suc, _<_}
 use native.Mathlib.Omega.{arith}
-use lib.Dec.{T, ltb, leb}
-use lib.ListN.{length, getD, length-map}
-use Rattle.word.specs.Lowest.{oneOf}
-use Rattle.word.proofs.All.{All}
-use Rattle.word.proofs.TestLaws.{both, is-below, at-most}
-use Rattle.code.specs.Instruction.{wordOf, instructionOf}
-use Rattle.code.specs.Words.{hasKind, cellsFit, operandsFit, badWord}
+use lib.Dec.{T}
+use lib.ListN.{length, getD}
+use Rattle.word.proofs.TestLaws.{both}
+use Rattle.code.specs.Words.{hasKind, cellsFit, badWord}
 use Rattle.code.specs.declared.Object.{Object}
 use Rattle.code.specs.declared.Raw.{Raw}
 use Rattle.code.specs.declared.Instruction.{Instruction}
 use Rattle.code.specs.declared.Instruction.the-variants.{Load, Store, StoreConst, Decode, Encode, Create, AnalyzeTuple, CreateTuple, Opposite, KeyOf, Match, Encrypt, Decrypt, Sign, Verify, Hash}
-use Rattle.code.proofs.WordLaws.{FieldsFit, GoodWord, word-read, no-bad-word-iff}
-use Rattle.theory.specs.Machine.{Line, line}
+use Rattle.code.specs.GoodWords.{GoodWord}
+use Rattle.code.proofs.KindLaws.{object-below, cells-below}
+use Rattle.code.proofs.WordLaws.{FieldsFit, word-read, no-bad-word-iff}
+use Rattle.theory.specs.Machine.{Line}
 use Rattle.theory.specs.Compile.{codeWords}
-use Rattle.theory.specs.Run.{addLine, linesFrom, linesOf}
-use Rattle.theory.proofs.InLimits.{InRange, AllInRange}
+use Rattle.theory.specs.Run.{linesFrom, linesOf}
+use Rattle.theory.specs.Limits.{InRange, AllInRange}
 
 module _ (kind : ℕ → ℕ) where
   low : (v : Object) (kinds : List ℕ) → T (hasKind kind v kinds) → v .0 < 256
-  low v kinds has = let l = is-below (v .0) 64 .0 (both (ltb (v .0) 64) (oneOf kinds (kind (v .0))) .0 has .0) in omega arith
+  low v kinds has = omega (arith, object-below kind v kinds has)
 
   tuple-low : (t : Object) (b : Raw) (n : ℕ) → T (hasKind kind t (10 ∷ []) && cellsFit b n) → (t .0 < 256) × (n < 8)
   tuple-low t b n has =
       let (k, c) = both (hasKind kind t (10 ∷ [])) (cellsFit b n) .0 has in
-      let m = at-most n 4 .0 (both (leb n 4) (leb (b .0 + n) 256) .0 c .0) in
-      (low t (10 ∷ []) k, omega arith)
+      (low t (10 ∷ []) k, omega (arith, cells-below b n c))
 
   -- an instruction in range has room in a word's fields
   fields-fit : (i : Instruction) → InRange kind i → FieldsFit i

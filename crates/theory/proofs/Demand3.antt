@@ -1,13 +1,13 @@
 -- The run of compiled code on valid stores with those set cells, and enough room: finished with what the figures give, or stuck where they give nothing.
-use mathlib.Core.Path.{_≡_, refl, sym, _∙_, ap, subst, fun-ext}
-use mathlib.Core.Bool.{Bool, true, false, cond, not}
+use mathlib.Core.Path.{_≡_, refl, sym, _∙_, ap, subst}
+use mathlib.Core.Bool.{Bool, true, false}
 use mathlib.Core.Option.{Option, none, some, Option·map}
-use mathlib.Core.List.{List, [], _∷_, map}
-use Prim.Native.Nat.{ℕ, _≤_}
+use mathlib.Core.List.{List}
+use Prim.Native.Nat.{ℕ}
 use native.Mathlib.Omega.{arith}
-use lib.Dec.{T, eqb}
+use lib.Dec.{T}
 use lib.ListN.{length, getD, take, length-map}
-use Rattle.word.proofs.All.{All, all-map}
+use Rattle.word.proofs.All.{all-map}
 use Rattle.answers.specs.Numbers.{reasonOf}
 use Rattle.answers.specs.declared.Reason.{Reason}
 use Rattle.answers.specs.declared.Compiled.the-variants as Compiled
@@ -24,38 +24,38 @@ use Rattle.patterns.proofs.TreeLaws.{raws-below}
 use Rattle.theory.specs.Outcome.{Outcome, done, stuck, room, bind, isSome}
 use Rattle.theory.specs.RowModel.{rowWorld}
 use Rattle.theory.specs.TermModel.{Term, termWorld}
-use Rattle.theory.specs.Machine.{Line, Stores, State, exec, namedCells}
-use Rattle.theory.specs.Emission.{Env, ok}
+use Rattle.theory.specs.Machine.{Line, State, exec, namedCells}
 use Rattle.theory.specs.Compilers.{compile↓, compile↑}
 use Rattle.theory.specs.Rules.{match, create}
 use Rattle.theory.specs.Figure2.{TermStores, Matches}
 use Rattle.theory.specs.Figure3.{Creates}
-use Rattle.theory.specs.Compile.{kindIn, codeWords, entry, compile}
+use Rattle.theory.specs.Compile.{kindIn, codeWords, usedPart, entry, compile}
 use Rattle.theory.specs.Run.{Lent, RunOutcome, stateOver, stateOf, leftBy, unchanged, ended, linesOf, run}
 use Rattle.theory.proofs.Compiled.{known, storesOf, messageOf, madeOf, matching-runs, creating-runs}
 use Rattle.theory.proofs.MatchingRules.{matches-is-done, done-is-matches}
 use Rattle.theory.proofs.CreatingRules.{creates-is-done, done-is-creates}
-use Rattle.theory.proofs.InLimits.{InRange, AllInRange, InLimits}
+use Rattle.theory.specs.Limits.{InRange}
 use Rattle.theory.proofs.Fitting.{ByteFits}
 use Rattle.theory.proofs.Places.{movedTo, same-instructions}
 use Rattle.theory.proofs.Related.{SameEnd, both-done, both-stuck}
 use Rattle.theory.specs.Meaning.{meaning}
 use Rattle.theory.proofs.RowsRunAsTerms.{ValidState, termsOf, Reads}
 use Rattle.theory.proofs.Room.{Free, rows-end-as-terms}
-use Rattle.theory.proofs.ValidLent.{Accepted, accepted-state}
+use Rattle.theory.specs.Valid.{Valid}
+use Rattle.theory.proofs.ValidLent.{valid-state}
 use Rattle.theory.proofs.CompiledWords.{compiled-words-good, compiled-words-read}
-use Rattle.theory.proofs.CompileLaws.{Compiles}
 use Rattle.theory.proofs.Product.{Written, compile-writes}
-use Rattle.theory.proofs.RunLaws.{run-steps}
+use Rattle.theory.proofs.RunLaws.{run-steps, valid-passes}
+use Rattle.theory.proofs.SetCells as SetCells
+use Rattle.theory.proofs.SetCells.{set-held}
 
 -- compile sees of a cell what the rules see of its term: whether it is set
 set-some : (means : ℕ → Term) (cell : ℕ) → isSet cell ≡ isSome (Option·map means (held cell))
-unfolding held
-set-some means cell = go (eqb cell 65535)
+set-some means cell = set-held cell ∙ go (held cell)
   where
-    go : (b : Bool) → not b ≡ isSome (Option·map means (cond b none (some cell)))
-    go true = refl
-    go false = refl
+    go : (row : Option ℕ) → isSome row ≡ isSome (Option·map means row)
+    go none = refl
+    go (some row) = refl
 
 module _ (x : Lent) where
   abbrev kind : ℕ → ℕ
@@ -67,11 +67,9 @@ module _ (x : Lent) where
 
   entry-known : entry (x .objects) (take namedCells (x .messages)) ≡ known termWorld before
   unfolding stateOver storeOf
-  entry-known = λ i. record {
-    objects = λ v. set-some (meaning (x .terms)) (getD (x .objects) v unset) i;
-    raws = λ r. set-some (meaning (x .terms)) (getD (take namedCells (x .messages)) r unset) i;
-    next = 0;
-  }
+  entry-known =
+      SetCells.entry-known termWorld (x .objects) (take namedCells (x .messages)) before
+      (λ v. set-some (meaning (x .terms)) (getD (x .objects) v unset)) (λ r. set-some (meaning (x .terms)) (getD (take namedCells (x .messages)) r unset))
 
   -- the steps of code words end in a state
   abbrev pub Steps : List ℕ → State rowWorld → Type 0
@@ -155,18 +153,18 @@ byte-fits kind (Sign v) f = (f .operands, tt)
 byte-fits kind (Verify v r) f = (f .operands, tt)
 byte-fits kind (Hash h) f = (f .operands, tt)
 
-module _ (create : Bool) (pattern slice : List ℕ) (x : Lent) (a : Accepted x) (words : ℕ)
+module _ (create : Bool) (pattern slice : List ℕ) (x : Lent) (a : Valid x) (words : ℕ)
     (answer : compile create pattern (x .kinds) (x .objects) (take namedCells (x .messages)) slice .answer ≡ Compiled.Done words)
     (free : Free words words (stateOf x .stores .memory)) where
-  abbrev compiled : Written create pattern (x .kinds) (x .objects) (take namedCells (x .messages)) (a .kinds-length) words (compile create pattern (x .kinds) (x .objects) (take namedCells (x .messages)) slice .code)
-  compiled = compile-writes create pattern (x .kinds) (x .objects) (take namedCells (x .messages)) (a .kinds-length) slice words answer
+  abbrev compiled : Written create pattern (x .kinds) (x .objects) (take namedCells (x .messages)) (a .within .kinds) words (compile create pattern (x .kinds) (x .objects) (take namedCells (x .messages)) slice .code)
+  compiled = compile-writes create pattern (x .kinds) (x .objects) (take namedCells (x .messages)) (a .within .kinds) slice words answer
 
   abbrev lines : List Line
   lines = compiled .compiles .lines
 
   -- the words that compile wrote
   abbrev pub code : List ℕ
-  code = take words (compile create pattern (x .kinds) (x .objects) (take namedCells (x .messages)) slice .code)
+  code = usedPart words (compile create pattern (x .kinds) (x .objects) (take namedCells (x .messages)) slice .code)
 
   code-words : code ≡ codeWords lines
   code-words = compiled .compiles .writes
@@ -178,7 +176,8 @@ module _ (create : Bool) (pattern slice : List ℕ) (x : Lent) (a : Accepted x) 
   steps : run x code ≡ ended words x (exec rowWorld (kindIn (x .kinds)) (linesOf (codeWords lines)) (stateOf x))
   steps =
       rw code-words
-      (run-steps x (codeWords lines) a (omega (arith, code-length, compiled .limits .words, compiled .compiles .counts)) (compiled-words-good (kindIn (x .kinds)) lines (compiled .limits .lines))
+      (run-steps x (codeWords lines)
+      (valid-passes a (omega (arith, code-length, compiled .limits .words, compiled .compiles .counts)) (compiled-words-good (kindIn (x .kinds)) lines (compiled .limits .lines)))
       ∙ ap (λ n. ended n x (exec rowWorld (kindIn (x .kinds)) (linesOf (codeWords lines)) (stateOf x))) code-length)
 
   moved : movedTo 0 (exec rowWorld (kindIn (x .kinds)) (linesOf (codeWords lines)) (stateOf x)) ≡ movedTo 0 (exec rowWorld (kindIn (x .kinds)) lines (stateOf x))
@@ -188,13 +187,13 @@ module _ (create : Bool) (pattern slice : List ℕ) (x : Lent) (a : Accepted x) 
   ends-same : SameEnd (Reads (kindIn (x .kinds))) (exec rowWorld (kindIn (x .kinds)) lines (stateOf x)) (exec termWorld (kindIn (x .kinds)) lines (termsOf (stateOf x)))
   ends-same =
       rows-end-as-terms (kindIn (x .kinds)) lines (stateOf x) (termsOf (stateOf x))
-      (all-map lines (λ l f. byte-fits (kindIn (x .kinds)) (l .instruction) f) (compiled .limits .lines)) (accepted-state x a, refl)
+      (all-map lines (λ l f. byte-fits (kindIn (x .kinds)) (l .instruction) f) (compiled .limits .lines)) (valid-state x a, refl)
       (subst (λ n. Free n n (stateOf x .stores .memory)) (compiled .compiles .counts) free)
 
 -- Matching: the accumulator's term is the message.
-pub matching-demand : (pattern slice : List ℕ) (x : Lent) → Accepted x → (words : ℕ) (row : ℕ) → held (x .accumulator) ≡ some row
+pub matching-demand : (pattern slice : List ℕ) (x : Lent) → Valid x → (words : ℕ) (row : ℕ) → held (x .accumulator) ≡ some row
     → compile false pattern (x .kinds) (x .objects) (take namedCells (x .messages)) slice .answer ≡ Compiled.Done words → Free words words (stateOf x .stores .memory)
-    → MatchEnds x (patternOf pattern) (meaning (x .terms) row) words (take words (compile false pattern (x .kinds) (x .objects) (take namedCells (x .messages)) slice .code)) (run x (take words (compile false pattern (x .kinds) (x .objects) (take namedCells (x .messages)) slice .code)))
+    → MatchEnds x (patternOf pattern) (meaning (x .terms) row) words (usedPart words (compile false pattern (x .kinds) (x .objects) (take namedCells (x .messages)) slice .code)) (run x (usedPart words (compile false pattern (x .kinds) (x .objects) (take namedCells (x .messages)) slice .code)))
 unfolding stateOver
 matching-demand pattern slice x a words row set answer free =
     rw (steps false pattern slice x a words answer free)
@@ -204,9 +203,9 @@ matching-demand pattern slice x a words row set answer free =
     ∙ ap (λ m. match termWorld (kindIn (x .kinds)) (patternOf pattern) m (before x)) (ap (Option·map (meaning (x .terms))) set)))
 
 -- Creating: the message is in the accumulator afterwards.
-pub creating-demand : (pattern slice : List ℕ) (x : Lent) → Accepted x → (words : ℕ)
+pub creating-demand : (pattern slice : List ℕ) (x : Lent) → Valid x → (words : ℕ)
     → compile true pattern (x .kinds) (x .objects) (take namedCells (x .messages)) slice .answer ≡ Compiled.Done words → Free words words (stateOf x .stores .memory)
-    → CreateEnds x (patternOf pattern) words (take words (compile true pattern (x .kinds) (x .objects) (take namedCells (x .messages)) slice .code)) (run x (take words (compile true pattern (x .kinds) (x .objects) (take namedCells (x .messages)) slice .code)))
+    → CreateEnds x (patternOf pattern) words (usedPart words (compile true pattern (x .kinds) (x .objects) (take namedCells (x .messages)) slice .code)) (run x (usedPart words (compile true pattern (x .kinds) (x .objects) (take namedCells (x .messages)) slice .code)))
 creating-demand pattern slice x a words answer free =
     rw (steps true pattern slice x a words answer free)
     (create-ends x (patternOf pattern) words (code true pattern slice x a words answer free) (compiled true pattern slice x a words answer free .right)

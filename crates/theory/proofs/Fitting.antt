@@ -17,7 +17,7 @@ use Rattle.code.specs.Words.{wordFits, goodWord, hasKind, cellsFit, operandsFit
 use Rattle.code.specs.declared.Object.{Object}
 use Rattle.code.specs.declared.Instruction.{Instruction}
 use Rattle.code.specs.declared.Instruction.the-variants.{Load, Store, StoreConst, Decode, Encode, Create, AnalyzeTuple, CreateTuple, Opposite, KeyOf, Match, Encrypt, Decrypt, Sign, Verify, Hash}
-use Rattle.terms.proofs.TableLaws.{Encrypts, Signs}
+use Rattle.terms.specs.Table.{Encrypts, Signs}
 use Rattle.theory.specs.World.{creatable}
 
 abbrev pub Fits : (ℕ → ℕ) → Instruction → Type 0

@@ -1,68 +1,37 @@
 -- Compiled code is within its limits: below 8 words and 2 scratch numbers for each row of the pattern, and every operand fits.
-use mathlib.Core.Path.{_≡_, refl, sym}
-use mathlib.Core.Bool.{Bool, true, false, cond, not, _&&_}
+use mathlib.Core.Path.{_≡_, refl, subst}
+use mathlib.Core.Bool.{Bool, true, false, cond, _&&_}
 use mathlib.Core.Logic.{_⊎_, inl, inr, ⊎-elim}
-use mathlib.Core.List.{List, [], _∷_, _++_}
-use Prim.Native.Nat.{ℕ, zero, suc, _+_, _*_, _-_, _<_, _≤_}
+use mathlib.Core.List.{List, [], _∷_}
+use Prim.Native.Nat.{ℕ, suc, _+_, _*_, _-_, _<_, _≤_}
 use native.Mathlib.Omega.{arith}
 use lib.ListN.{length, length-append}
-use lib.Dec.{T, eqb, ltb, leb, eqb→eq, lt→ltb, nltb→le, le→leb}
+use lib.Dec.{T, not-T, eqb, ltb, leb, eqb→eq, lt→ltb, nltb→le, le→leb}
 use Rattle.word.specs.Lowest.{oneOf}
-use Rattle.word.proofs.All.{All}
-use Rattle.word.proofs.TestLaws.{both, at-most}
+use Rattle.word.proofs.All.{all-append}
+use Rattle.word.proofs.TestLaws.{both, stable, at-most}
 use Rattle.word.proofs.LowestLaws.{one-of-two}
+use Rattle.word.proofs.OneOfLaws.{from, one-up-to}
 use Rattle.answers.specs.declared.Compiled.{Compiled}
 use Rattle.answers.specs.declared.Compiled.the-variants.{WrittenWhileSet, ReadWhileUnset}
 use Rattle.code.specs.Instruction.{asObject}
-use Rattle.code.specs.Words.{hasKind, operandsFit}
+use Rattle.code.specs.Words.{hasKind}
 use Rattle.code.specs.declared.Instruction.{Instruction}
 use Rattle.code.specs.declared.Instruction.the-variants.{Load, Store, StoreConst, Decode, Encode, Create, AnalyzeTuple, CreateTuple, Opposite, KeyOf, Match, Encrypt, Decrypt, Sign, Verify, Hash}
 use Rattle.patterns.specs.Pattern.{Key, plainKey, opKey, certifiedKey, Pattern, object, raw, constant, opposite, keyOf, encryption, signature, hash, tuple, letIn, Parts, end, part, count, size, sizes, RawsBelow, PartsBelow, Packed, PackedParts}
 use Rattle.patterns.specs.Kinds.{RightKinds, RightParts, privateSide, publicSide}
+use Rattle.patterns.proofs.PatternLaws.{size-positive, count-sizes}
 use Rattle.theory.specs.Store.{put}
 use Rattle.theory.specs.World.{creatable}
 use Rattle.theory.specs.Machine.{Line, line, named, scratch}
 use Rattle.theory.specs.Emission.{Env, Emitted, ok, refuse, after, andThen, addObject, readable, occupied, addRaw, reads, writes, one, emit, _then_}
-use Rattle.theory.specs.Compilers.{compile↓, compile↓parts, compile↑, compile↑parts, compile↑K, keyVar, creating, verifying, LOAD, STORE, STORE-CONST, DECODE, ENCODE, CREATE, ANALYZE-TUPLE, CREATE-TUPLE, OPPOSITE, KEY-OF, MATCH, ENCRYPT, DECRYPT, SIGN, VERIFY, HASH}
-
--- every message cell of an instruction is at most cell 254, and its byte fits
-abbrev pub CellsFit : Instruction → Type 0
-CellsFit (Load r) = r .0 ≤ 254
-CellsFit (Store r) = r .0 ≤ 254
-CellsFit (StoreConst c b) = b < 256
-CellsFit (Decode v) = Unit {0}
-CellsFit (Encode v) = Unit {0}
-CellsFit (Create v) = Unit {0}
-CellsFit (AnalyzeTuple t b n) = (b .0 ≤ 254) × (b .0 + n ≤ 255)
-CellsFit (CreateTuple t b n) = (b .0 ≤ 254) × (b .0 + n ≤ 255)
-CellsFit (Opposite K k) = Unit {0}
-CellsFit KeyOf = Unit {0}
-CellsFit (Match r) = r .0 ≤ 254
-CellsFit (Encrypt v) = Unit {0}
-CellsFit (Decrypt v) = Unit {0}
-CellsFit (Sign v) = Unit {0}
-CellsFit (Verify v r) = r .0 ≤ 254
-CellsFit (Hash h) = Unit {0}
-
--- an instruction that passes run's check, with its cells at most 254
-pub record InRange (kind : ℕ → ℕ) (i : Instruction) : Type 0 where
-  pub operands : T (operandsFit kind i)
-  pub cells : CellsFit i
-
--- of every line
-abbrev pub AllInRange : (ℕ → ℕ) → List Line → Type 0
-AllInRange kind c = All (λ l. InRange kind (l .instruction)) c
+use Rattle.theory.specs.Limits.{InRange, AllInRange, InLimits}
+use Rattle.theory.specs.Compilers.{compile↓, compile↓parts, compile↑, compile↑parts, compile↑K, keyVar, creating, verifying, LOAD, STORE, DECODE, ENCODE, ANALYZE-TUPLE, OPPOSITE, KEY-OF, MATCH, VERIFY}
 
 -- what emission refuses with, where kinds are right: 6 or 7
 pub data Refusal : Compiled → Type 0 where
   written : {row : ℕ} → Refusal (WrittenWhileSet row)
   read : {row : ℕ} → Refusal (ReadWhileUnset row)
-
--- what a compiler that does not refuse has taken: at most 767 words, the scratch numbers up to 190, which are the cells up to 254, and lines in range
-pub record InLimits (kind : ℕ → ℕ) (c : List Line) (e : Env) : Type 0 where
-  pub words : length c ≤ 767
-  pub scratch-numbers : e .next ≤ 191
-  pub lines : AllInRange kind c
 
 -- at most so many words, scratch numbers below one, and fitting lines
 module _ (kind : ℕ → ℕ) where
@@ -85,10 +54,6 @@ module _ (kind : ℕ → ℕ) where
   choice true w n C D c d = c tt
   choice false w n C D c d = d
 
-  range-append : (c d : List Line) → AllInRange kind c → AllInRange kind d → AllInRange kind (c ++ d)
-  range-append [] d f g = g
-  range-append (l ∷ c) d f g = (f .0, range-append c d (f .1) g)
-
   -- a part of w₁ words, and then
   follows : (w₁ n₁ w n : ℕ) (C : Emitted) (K : Env → Emitted) → w₁ ≤ w → Takes w₁ n₁ C → ((e : Env) → e .next ≤ n₁ → Takes (w - w₁) n (K e)) → Takes w n (andThen C K)
   unfolding TakesT andThen after
@@ -97,7 +62,7 @@ module _ (kind : ℕ → ℕ) where
     where
       go : (D : Emitted) → Takes (w - w₁) n D → Takes w n (after c D)
       go (refuse answer) u = record { taken = u .taken }
-      go (ok d e′) u = record { taken = (simp length-append (omega (arith, t .taken .0, u .taken .0)), u .taken .1, range-append c d (t .taken .2) (u .taken .2)) }
+      go (ok d e′) u = record { taken = (simp length-append (omega (arith, t .taken .0, u .taken .0)), u .taken .1, all-append (λ l. InRange kind (l .instruction)) c d (t .taken .2) (u .taken .2)) }
 
   -- an instruction is one word, if any, and takes no scratch
   one-word : (row : ℕ) (i : Instruction) (e e′ : Env) (n : ℕ) → e′ .next ≡ e .next → e .next ≤ n → InRange kind i → Takes 1 n (ok (line row i ∷ []) e′)
@@ -153,33 +118,10 @@ module _ (kind : ℕ → ℕ) (row : ℕ) where
   final : (i : Instruction) → InRange kind i → (w n : ℕ) (e : Env) → 1 ≤ w → e .next ≤ n → Takes kind w n (emit row i e)
   final i f w n e l h = wider 1 w n (emit row i e) l (emit-word kind row n e h i f)
 
--- a pattern has a row at least, and a tuple no fewer than its parts
-pub size-positive : (p : Pattern) → 1 ≤ size p
-unfolding size
-size-positive (object row v) = omega arith
-size-positive (raw row r) = omega arith
-size-positive (constant row c b) = omega arith
-size-positive (opposite row k K) = omega arith
-size-positive (keyOf row k a) = omega arith
-size-positive (encryption row e key p) = omega arith
-size-positive (signature row s key r) = omega arith
-size-positive (hash row h r) = omega arith
-size-positive (tuple row t ps) = omega arith
-size-positive (letIn row r p₁ p₂) = omega arith
-
-pub count-sizes : (ps : Parts) → count ps ≤ sizes ps
-unfolding size count
-count-sizes end = omega arith
-count-sizes (part p ps) = omega (arith, size-positive p, count-sizes ps)
-
 -- kinds that operands have: a variable past the kinds is undeclared
 module _ (kind : ℕ → ℕ) (declared : (v : ℕ) → 64 ≤ v → kind v ≡ 0) where
   inside : (v : ℕ) → (kind v ≡ 0 → ⊥) → T (ltb v 64)
-  inside v n = go (ltb v 64) (nltb→le v 64)
-    where
-      go : (b : Bool) → (T (not b) → 64 ≤ v) → T b
-      go true h = tt
-      go false h = absurd (n (declared v (h tt)))
+  inside v n = stable (ltb v 64) λ out. n (declared v (nltb→le v 64 (not-T (ltb v 64) out)))
 
   -- of one kind, or of two
   has : (v k : ℕ) (ks : List ℕ) → kind v ≡ suc k → T (oneOf ks (suc k)) → T (hasKind kind (asObject v) ks)
@@ -190,21 +132,10 @@ module _ (kind : ℕ → ℕ) (declared : (v : ℕ) → 64 ≤ v → kind v ≡ 
 
   -- 1 to 9, and any declared kind
   abbrev any : List ℕ
-  any = 1 ∷ 2 ∷ 3 ∷ 4 ∷ 5 ∷ 6 ∷ 7 ∷ 8 ∷ 9 ∷ 10 ∷ []
+  any = from 1 10
 
   any-kind : (n : ℕ) → 1 ≤ n → n ≤ 9 → T (oneOf any n)
-  unfolding oneOf
-  any-kind zero h l = absurd (omega arith)
-  any-kind (suc zero) h l = tt
-  any-kind (suc (suc zero)) h l = tt
-  any-kind (suc (suc (suc zero))) h l = tt
-  any-kind (suc (suc (suc (suc zero)))) h l = tt
-  any-kind (suc (suc (suc (suc (suc zero))))) h l = tt
-  any-kind (suc (suc (suc (suc (suc (suc zero)))))) h l = tt
-  any-kind (suc (suc (suc (suc (suc (suc (suc zero))))))) h l = tt
-  any-kind (suc (suc (suc (suc (suc (suc (suc (suc zero)))))))) h l = tt
-  any-kind (suc (suc (suc (suc (suc (suc (suc (suc (suc zero))))))))) h l = tt
-  any-kind (suc (suc (suc (suc (suc (suc (suc (suc (suc (suc n)))))))))) h l = absurd (omega arith)
+  any-kind n h l = subst T (one-up-to 1 10 n h) (lt→ltb n 11 (omega arith))
 
   -- instructions that fit
   has-any : (v : ℕ) → 1 ≤ kind v → kind v ≤ 9 → T (hasKind kind (asObject v) any)

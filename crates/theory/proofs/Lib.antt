@@ -35,4 +35,5 @@ pub mod CompileLaws
 pub mod CompiledWords
 pub mod Product
 pub mod RunLaws
+pub mod BundleLaws
 pub mod Demand3

@@ -8,7 +8,7 @@ use Rattle.word.proofs.All.{All, all-map}
 use Rattle.terms.specs.Shape.{Shape, atom, encrypted, signed, hashed, tupled, partsOf}
 use Rattle.terms.specs.Row.{wordOf, shapeOf}
 use Rattle.terms.specs.Rules.{usedRows}
-use Rattle.terms.proofs.TableLaws.{ValidTable}
+use Rattle.terms.specs.Table.{ValidTable}
 use Rattle.theory.specs.TermModel.{Term, listed, collected, termOf}
 use Rattle.theory.specs.TermModel as Term
 use Rattle.theory.specs.Meaning.{reshaped, termAt, meaning}

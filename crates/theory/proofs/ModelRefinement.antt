@@ -12,7 +12,7 @@ use Rattle.word.proofs.LowestLaws.{one-all}
 use Rattle.answers.specs.Numbers.{reasonNumber}
 use Rattle.answers.specs.declared.Reason.the-variants.{OtherKind, Differs, PartCount, NotOpened, NotVerified}
 use Rattle.terms.specs.Shape.{Shape, atom, encrypted, signed, hashed, tupled, kindOf}
-use Rattle.terms.proofs.TableLaws.{Encrypts, Signs}
+use Rattle.terms.specs.Table.{Encrypts, Signs}
 use Rattle.theory.specs.Outcome.{Answer, andThen, sure}
 use Rattle.theory.specs.World.{Op, Test, creatable}
 use Rattle.theory.specs.Model.{Model, numberOf, goesWith, opened, certified, verified, taken, applyIn, testIn, world}

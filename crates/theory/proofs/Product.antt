@@ -1,28 +1,24 @@
 -- Demand 3, from packed words to the figures: what the run of compiled code comes to is what the rules give.
-use mathlib.Core.Path.{_≡_, refl, sym, _∙_, ap, subst, fun-ext}
-use mathlib.Core.Bool.{Bool, true, false, cond, not, _&&_}
-use mathlib.Core.Option.{Option, none, some, Option·map}
-use mathlib.Core.List.{List, [], _∷_, map}
-use Prim.Native.Nat.{ℕ, zero, suc, _+_, _≤_}
+use mathlib.Core.Path.{_≡_, refl}
+use mathlib.Core.Bool.{Bool, true, false, _&&_}
+use mathlib.Core.List.{List}
+use Prim.Native.Nat.{ℕ, _≤_}
 use native.Mathlib.Omega.{arith}
 use lib.Dec.{T, eqb, leb}
-use lib.ListN.{length, getD, take, List·getD-eq-default}
-use Rattle.word.proofs.All.{All, all-map}
+use lib.ListN.{length, List·getD-eq-default}
 use Rattle.word.proofs.TestLaws.{both, at-most}
 use Rattle.answers.specs.declared.Compiled.{Compiled}
 use Rattle.answers.specs.declared.Compiled.the-variants.{Done}
-use Rattle.code.specs.Words.{operandsFit}
 use Rattle.patterns.specs.Pattern.{Pattern, size, RawsBelow, Packed}
-use Rattle.patterns.specs.Rules.{badPattern}
 use Rattle.patterns.specs.Tree.{patternOf}
-use Rattle.patterns.specs.Kinds.{RightKinds, wrongKind}
+use Rattle.patterns.specs.Kinds.{RightKinds}
 use Rattle.patterns.proofs.TreeLaws.{pattern-size, right-kinds, raws-below, packed}
 use Rattle.theory.specs.Machine.{Line}
-use Rattle.theory.specs.Emission.{Env, Emitted, ok, refuse}
+use Rattle.theory.specs.Emission.{Env, ok, refuse}
 use Rattle.theory.specs.Compile.{kindIn, variables, tables, entry, compile}
-use Rattle.theory.proofs.InLimits.{InLimits, InRange, AllInRange, Refusal, matching-in-limits, creating-in-limits, matching-refuses, creating-refuses}
+use Rattle.theory.specs.Limits.{InLimits}
+use Rattle.theory.proofs.InLimits.{Refusal, matching-in-limits, creating-in-limits, matching-refuses, creating-refuses}
 use Rattle.theory.proofs.CompileLaws.{Checked, Compiles, done-compiles}
-use Rattle.theory.proofs.Fitting.{ByteFits}
 
 -- the lengths of 1, as far as the pattern's
 pattern-lengths : (a b c d e : Bool) → T (a && b && c && d && e) → T a × T b

@@ -10,7 +10,7 @@ use lib.ListN.{length}
 use Rattle.word.proofs.All.{All}
 use Rattle.code.specs.declared.Instruction.{Instruction}
 use Rattle.code.specs.declared.Instruction.the-variants.{Load, Store, StoreConst, Decode, Encode, Create, AnalyzeTuple, CreateTuple, Opposite, KeyOf, Match, Encrypt, Decrypt, Sign, Verify, Hash}
-use Rattle.terms.proofs.TableLaws.{Encrypts, Signs}
+use Rattle.terms.specs.Table.{Encrypts, Signs}
 use Rattle.theory.specs.Store.{put}
 use Rattle.theory.specs.World.{World, Op, Test, creatable}
 use Rattle.theory.specs.World as Voc

@@ -16,10 +16,11 @@ use Rattle.terms.specs.Row.{wordOf, tagOf, shapeOf}
 use Rattle.terms.specs.Rules.{usedRows}
 use Rattle.terms.specs.Finder.{locate}
 use Rattle.terms.proofs.RowLaws.{tag-kind, shape-word}
-use Rattle.terms.proofs.TableLaws.{NumberFits, GoodShape, good-word}
+use Rattle.terms.specs.Table.{NumberFits}
+use Rattle.terms.proofs.TableLaws.{GoodShape, good-word}
 use Rattle.terms.proofs.FinderLaws.{located-as}
 use Rattle.stores.specs.Certificates.{agentOf, keyOf, certified}
-use Rattle.stores.proofs.CertificateLaws.{GoodPair}
+use Rattle.stores.specs.ValidStores.{GoodPair}
 use Rattle.theory.specs.Outcome.{got, full}
 use Rattle.theory.specs.Model.{numberOf}
 use Rattle.theory.specs.RowModel.{Table, withRows, withCounter, mostNames, name, placed, rowModel, rowWorld}

@@ -1,37 +1,69 @@
--- A run whose checks pass is its steps.
-use mathlib.Core.Path.{_≡_, refl, ap}
-use mathlib.Core.Bool.{Bool, true, false, not, _&&_}
-use mathlib.Core.Option.{Option, none, some, Option·map}
-use mathlib.Core.List.{List, [], _∷_}
+-- A run whose checks pass is its steps; and what its checks say.
+use mathlib.Core.Path.{_≡_}
+use mathlib.Core.Logic.{_↔_}
+use mathlib.Core.Bool.{Bool}
+use mathlib.Core.Option.{none}
+use mathlib.Core.List.{List}
 use Prim.Native.Nat.{ℕ, _≤_}
-use lib.Dec.{T, eqb, leb}
+use lib.Dec.{T}
 use lib.ListN.{length}
 use Rattle.word.proofs.TestLaws.{both, equals, at-most}
-use Rattle.answers.specs.declared.Ran.{Ran}
-use Rattle.answers.specs.declared.Ran.the-variants.{Limit, BadTerm, BadStore, BadWord}
+use Rattle.answers.specs.declared.Ran.the-variants.{Limit, BadStore}
 use Rattle.code.specs.Words.{badWord}
 use Rattle.terms.specs.Rules.{usedRows, badTerm}
+use Rattle.terms.proofs.TableLaws.{valid-table}
 use Rattle.stores.specs.Valid.{valid}
-use Rattle.theory.specs.RowModel.{rowWorld, mostNames}
-use Rattle.theory.specs.Machine.{exec}
-use Rattle.theory.specs.Compile.{when, first, kindIn, variables}
-use Rattle.theory.specs.Run.{Lent, stateOf, linesOf, ended, lengthsFit, refusals, run, mostCodeWords, mostTermRows, mostCertificates, messageCells}
-use Rattle.theory.proofs.ValidLent.{Accepted}
+use Rattle.stores.proofs.ValidLaws.{valid-stores}
+use Rattle.theory.specs.Outcome.{Outcome}
+use Rattle.theory.specs.RowModel.{rowWorld}
+use Rattle.theory.specs.Machine.{State, exec}
+use Rattle.theory.specs.Compile.{first, kindIn}
+use Rattle.theory.specs.Valid.{LentWithin, ValidStores, Valid}
+use Rattle.theory.specs.Run.{Lent, stateOf, linesOf, ended, lengthsFit, run, mostCodeWords}
+use Rattle.theory.proofs.CompileLaws.{passes-when}
 
-passes : {A : Type 0} (b : Bool) (answer : A) → T b → when (not b) answer ≡ none
-passes true answer h = refl
-passes false answer h = absurd h
+-- the test of 3, and the steps
+module _ (x : Lent) where
+  abbrev pub storesFit : Bool
+  storesFit = valid (x .terms) (usedRows (x .terms)) (x .kinds) (x .objects) (x .messages) (x .certificates) (x .accumulator)
 
-module _ (x : Lent) (code : List ℕ) (a : Accepted x) (few : length code ≤ mostCodeWords) where
-  lengths : T (lengthsFit x code)
-  lengths = simp (both, equals, at-most) ((((((a .kinds-length, a .objects-length), a .messages-length), a .few-certificates), a .few-rows), a .few-names), few)
+  abbrev pub stepsOf : List ℕ → Outcome (State rowWorld)
+  stepsOf code = exec rowWorld (kindIn (x .kinds)) (linesOf code) (stateOf x)
 
-  -- nothing is refused
-  pub run-steps : badWord (kindIn (x .kinds)) code ≡ none → run x code ≡ ended (length code) x (exec rowWorld (kindIn (x .kinds)) (linesOf code) (stateOf x))
+-- nothing is refused before the steps
+pub record Passed (x : Lent) (code : List ℕ) : Type 0 where
+  pub lengths : T (lengthsFit x code)
+  pub rows : badTerm (x .terms) (x .counter) ≡ none
+  pub stores : T (storesFit x)
+  pub words : badWord (kindIn (x .kinds)) code ≡ none
+
+module _ (x : Lent) (code : List ℕ) where
+  pub run-steps : Passed x code → run x code ≡ ended (length code) x (stepsOf x code)
   unfolding run first
-  run-steps good = rw (
-    passes (lengthsFit x code) Limit lengths,
-    a .good-rows,
-    passes (valid (x .terms) (usedRows (x .terms)) (x .kinds) (x .objects) (x .messages) (x .certificates) (x .accumulator)) BadStore (a .good-stores),
-    good,
-  )
+  run-steps p = rw (passes-when (lengthsFit x code) Limit (p .lengths), p .rows, passes-when (storesFit x) BadStore (p .stores), p .words)
+
+-- what the checks say
+pub run-within : (x : Lent) (code : List ℕ) → T (lengthsFit x code) ↔ (LentWithin x × (length code ≤ mostCodeWords))
+run-within x code =
+    simp (both, equals, at-most) (
+      λ h. (
+        record { kinds = h .0 .0 .0 .0 .0 .0; objects = h .0 .0 .0 .0 .0 .1; messages = h .0 .0 .0 .0 .1; certificates = h .0 .0 .0 .1; terms = h .0 .0 .1; counter = h .0 .1 },
+        h .1,
+      ),
+      λ w. ((((((w .0 .kinds, w .0 .objects), w .0 .messages), w .0 .certificates), w .0 .terms), w .0 .counter), w .1),
+    )
+
+pub stores-valid : (x : Lent) → T (storesFit x) ↔ ValidStores x
+stores-valid x = valid-stores (x .terms) (usedRows (x .terms)) (x .kinds) (x .objects) (x .messages) (x .certificates) (x .accumulator)
+
+module _ {x : Lent} {code : List ℕ} where
+  pub passed-valid : Passed x code → Valid x
+  passed-valid p = record { within = run-within x code .0 (p .lengths) .0; table = valid-table (x .terms) (x .counter) .0 (p .rows); stores = stores-valid x .0 (p .stores) }
+
+  pub valid-passes : Valid x → length code ≤ mostCodeWords → badWord (kindIn (x .kinds)) code ≡ none → Passed x code
+  valid-passes v few good = record {
+    lengths = run-within x code .1 (v .within, few);
+    rows = valid-table (x .terms) (x .counter) .1 (v .table);
+    stores = stores-valid x .1 (v .stores);
+    words = good;
+  }

@@ -1,24 +1,37 @@
 -- Compile sees only which cells are set, and of the code slice only its length.
 use mathlib.Core.Path.{_≡_, refl, _∙_, ap, fun-ext}
-use mathlib.Core.Bool.{Bool, true, false, cond}
+use mathlib.Core.Bool.{Bool, true, false, cond, not}
 use mathlib.Core.Option.{Option, none, some}
 use mathlib.Core.List.{List, [], _∷_, _++_}
 use Prim.Native.Nat.{ℕ, zero, suc}
 use native.Mathlib.Omega.{arith}
 use lib.ListN.{length, getD, drop}
-use lib.Dec.{leb}
+use lib.Dec.{eqb, leb}
 use Rattle.answers.specs.declared.Compiled.{Compiled}
 use Rattle.answers.specs.declared.Compiled.the-variants.{Done, CodeTooShort}
-use Rattle.stores.specs.Cells.{unset, isSet}
+use Rattle.stores.specs.Cells.{unset, isSet, held}
 use Rattle.stores.specs.Valid.{undeclaredUnset, eachVariable, declared}
 use Rattle.patterns.specs.Tree.{patternOf}
+use Rattle.theory.specs.Outcome.{isSome}
+use Rattle.theory.specs.World.{World}
+use Rattle.theory.specs.Machine.{Stores}
 use Rattle.theory.specs.Emission.{Emitted, ok, refuse}
-use Rattle.theory.specs.Compile.{CompileOutcome, first, codeWords, kindIn, tables, leaves, written, finished, refusals, emitted, compileBy, compile}
+use Rattle.theory.specs.Compile.{SameSet, CompileOutcome, first, codeWords, kindIn, entry, tables, leaves, written, finished, refusals, emitted, compileBy, compile}
+use Rattle.theory.proofs.Compiled.{known}
 
--- as many cells, and the same ones set
-pub record SameSet (cells others : List ℕ) : Type 0 where
-  pub same-length : length cells ≡ length others
-  pub same-set : (i : ℕ) → isSet (getD cells i unset) ≡ isSet (getD others i unset)
+-- compile sees of a cell whether it holds a row
+pub set-held : (cell : ℕ) → isSet cell ≡ isSome (held cell)
+unfolding held
+set-held cell = go (eqb cell unset)
+  where
+    go : (b : Bool) → not b ≡ isSome (cond b none (some cell))
+    go true = refl
+    go false = refl
+
+-- and of cells what the stores of any world say of them
+pub entry-known : (W : World) (objects named : List ℕ) (n : Stores W) → ((v : ℕ) → isSet (getD objects v unset) ≡ isSome (n .σ v))
+    → ((r : ℕ) → isSet (getD named r unset) ≡ isSome (n .ρ r)) → entry objects named ≡ known W n
+entry-known W objects named n object raw = λ i. record { objects = λ v. object v i; raws = λ r. raw r i; next = 0 }
 
 set-function : (cells others : List ℕ) → SameSet cells others → _≡_ {A = ℕ → Bool} (λ v. isSet (getD cells v unset)) (λ v. isSet (getD others v unset))
 set-function cells others s = fun-ext (s .same-set)

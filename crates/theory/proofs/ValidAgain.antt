@@ -1,28 +1,28 @@
--- After a finished run the stores and the table pass run's checks again.
-use mathlib.Core.Path.{_≡_, refl, sym, _∙_, ap, subst}
+-- After a finished run what was lent is good again.
+use mathlib.Core.Path.{_≡_, refl, _∙_, ap, subst}
 use mathlib.Core.Option.{Option, none, some}
-use mathlib.Core.List.{List, [], _∷_, _++_}
+use mathlib.Core.List.{List, _++_}
 use Prim.Native.Nat.{ℕ, zero, suc, _+_, _<_, _≤_}
 use native.Mathlib.Nat.{zero-add, add-zero, add-suc, suc-add}
 use native.Mathlib.Omega.{arith}
 use borrow.Author.Tests.{ne-eqb}
-use lib.Dec.{T, eqb}
 use lib.ListN.{length, getD, length-append}
-use Rattle.word.proofs.All.{All}
+use Rattle.word.specs.All.{All}
+use Rattle.word.proofs.All.{all-append}
+use Rattle.answers.specs.declared.Ran.{Ran}
 use Rattle.terms.specs.Row.{tagOf}
 use Rattle.terms.specs.Rules.{usedRows}
-use Rattle.terms.proofs.TableLaws.{ValidTable, valid-table}
 use Rattle.stores.specs.Cells.{unset, held, cellOf, cellsFrom}
-use Rattle.stores.proofs.CertificateLaws.{ValidCertificates}
-use Rattle.stores.proofs.ValidLaws.{UndeclaredUnset, HoldsKind, UnsetOrUsed, valid-stores}
-use Rattle.theory.specs.RowModel.{Table, rowWorld}
+use Rattle.stores.specs.ValidStores.{ValidCertificates, UndeclaredUnset, HoldsKind, UnsetOrUsed}
+use Rattle.theory.specs.RowModel.{rowWorld}
 use Rattle.theory.specs.Machine.{State, namedCells, scratchCells}
 use Rattle.theory.specs.Compile.{kindIn, variables}
-use Rattle.theory.specs.Run.{Lent, stateOver, stateOf}
-use Rattle.theory.proofs.ValidMemory.{ValidMemory, used-inside}
+use Rattle.theory.specs.Run.{Lent, lentAfter, stateOver, stateOf, leftBy}
+use Rattle.theory.proofs.ValidMemory.{used-inside}
 use Rattle.theory.proofs.RowsRunAsTerms.{Held, IsUsed, HasTag, ValidState}
 use Rattle.theory.proofs.RowsKept.{Appended}
-use Rattle.theory.proofs.ValidLent.{Accepted, cell-held, object-held, tagged}
+use Rattle.theory.specs.Valid.{Valid}
+use Rattle.theory.proofs.ValidLent.{cell-held, object-held, tagged}
 
 -- the cells of a store
 pub length-cells : (n count : ℕ) (store : ℕ → Option ℕ) → length (cellsFrom n count store) ≡ count
@@ -36,11 +36,14 @@ getD-cells n zero store i h = absurd (omega arith)
 getD-cells n (suc count) store zero h = rw (add-zero n)
 getD-cells n (suc count) store (suc i) h = getD-cells (suc n) count store i (omega arith) ∙ rw (add-suc n i, suc-add n i)
 
--- a row below 65,535 in a cell is held there
-held-cell : (P : ℕ → Type 0) → ((row : ℕ) → P row → row < unset) → (cell : Option ℕ) → Held P cell → Held P (held (cellOf cell))
+-- what a cell holds is what was put there, if it is a row below 65,535
+pub held-back : (P : ℕ → Type 0) → ((row : ℕ) → P row → row < unset) → (cell : Option ℕ) → Held P cell → held (cellOf cell) ≡ cell
 unfolding held cellOf
-held-cell P small none h = tt
-held-cell P small (some row) h = rw (ne-eqb row 65535 (λ e. omega (arith, small row h))) h
+held-back P small none h = refl
+held-back P small (some row) h = rw (ne-eqb row 65535 (λ e. omega (arith, small row h)))
+
+held-cell : (P : ℕ → Type 0) → ((row : ℕ) → P row → row < unset) → (cell : Option ℕ) → Held P cell → Held P (held (cellOf cell))
+held-cell P small cell h = rw (held-back P small cell h) h
 
 module _ (used : ℕ) (few : used ≤ 4096) where
   fits-cell : (cell : Option ℕ) → Held (λ row. row < used) cell → UnsetOrUsed used (cellOf cell)
@@ -51,23 +54,7 @@ module _ (used : ℕ) (few : used ≤ 4096) where
   all-fit n zero store h = tt
   all-fit n (suc count) store h = (fits-cell (store n) (h n), all-fit (suc n) count store h)
 
-all-append : {A : Type 0} (P : A → Type 0) (l m : List A) → All P l → All P m → All P (l ++ m)
-all-append P [] m h g = g
-all-append P (a ∷ l) m h g = (h .0, all-append P l m (h .1) g)
-
--- what is lent after a finished run
-abbrev pub lentAfter : Lent → State rowWorld → Lent
-lentAfter x t = record {
-  kinds = x .kinds;
-  objects = cellsFrom 0 variables (t .stores .σ);
-  messages = cellsFrom 0 namedCells (t .stores .ρ) ++ cellsFrom 0 scratchCells (t .scratches);
-  certificates = x .certificates;
-  accumulator = cellOf (t .accumulator);
-  terms = t .stores .memory .rows;
-  counter = t .stores .memory .counter;
-}
-
-module _ (x : Lent) (a : Accepted x) (t : State rowWorld) (v : ValidState (kindIn (x .kinds)) t) (g : Appended (stateOf x .stores .memory) (t .stores .memory)) where
+module _ (x : Lent) (a : Valid x) (t : State rowWorld) (v : ValidState (kindIn (x .kinds)) t) (g : Appended (stateOf x .stores .memory) (t .stores .memory)) where
   abbrev rows : List ℕ
   rows = t .stores .memory .rows
 
@@ -103,25 +90,24 @@ module _ (x : Lent) (a : Accepted x) (t : State rowWorld) (v : ValidState (kindI
   unfolding stateOver
   certificates-fit = subst (λ c. ValidCertificates rows used c) (g .certificates) (subst (λ n. ValidCertificates rows n (t .stores .memory .certificates)) (v .table .counted) (v .table .certificates))
 
-  pub accepted-again : Accepted (lentAfter x t)
-  accepted-again =
-      let before = valid-stores (x .terms) (usedRows (x .terms)) (x .kinds) (x .objects) (x .messages) (x .certificates) (x .accumulator) .0 (a .good-stores) in
-      record {
-        kinds-length = a .kinds-length;
-        objects-length = length-cells 0 variables (t .stores .σ);
-        messages-length = length-append (cellsFrom 0 namedCells (t .stores .ρ)) (cellsFrom 0 scratchCells (t .scratches)) ∙ rw (length-cells 0 namedCells (t .stores .ρ), length-cells 0 scratchCells (t .scratches));
-        few-certificates = a .few-certificates;
-        few-rows = v .table .rowsFew;
-        few-names = v .table .namesFew;
-        good-rows = valid-table rows (t .stores .memory .counter) .1 (v .table .table);
-        good-stores =
-            valid-stores rows used (x .kinds) (cellsFrom 0 variables (t .stores .σ)) (cellsFrom 0 namedCells (t .stores .ρ) ++ cellsFrom 0 scratchCells (t .scratches)) (x .certificates) (cellOf (t .accumulator)) .1
-            (record {
-              known = before .known;
-              undeclared = λ o k c. objects-fit o k c .0;
-              typed = λ o k c. objects-fit o k c .1;
-              cells = messages-fit;
-              certified = certificates-fit;
-              held = fits-cell used few (t .accumulator) (counts (t .accumulator) (v .accumulator));
-            });
-      }
+  pub stays-valid : (answer : Ran) → Valid (lentAfter x (leftBy answer t))
+  unfolding leftBy
+  stays-valid answer = record {
+    within = record {
+      kinds = a .within .kinds;
+      objects = length-cells 0 variables (t .stores .σ);
+      messages = length-append (cellsFrom 0 namedCells (t .stores .ρ)) (cellsFrom 0 scratchCells (t .scratches)) ∙ rw (length-cells 0 namedCells (t .stores .ρ), length-cells 0 scratchCells (t .scratches));
+      certificates = a .within .certificates;
+      terms = v .table .rowsFew;
+      counter = v .table .namesFew;
+    };
+    table = v .table .table;
+    stores = record {
+      known = a .stores .known;
+      undeclared = λ o k c. objects-fit o k c .0;
+      typed = λ o k c. objects-fit o k c .1;
+      cells = messages-fit;
+      certified = certificates-fit;
+      held = fits-cell used few (t .accumulator) (counts (t .accumulator) (v .accumulator));
+    };
+  }

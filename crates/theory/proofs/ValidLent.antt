@@ -1,29 +1,26 @@
--- What run checks of the lent cells is that their state is valid; and a valid state passes the checks again.
-use mathlib.Core.Path.{_≡_, refl, sym, _∙_, ap, subst}
+-- What is lent and is good is a valid state.
+use mathlib.Core.Path.{_≡_, refl, _∙_}
 use mathlib.Core.Logic.{_↔_, _⊎_, inl, inr, ⊎-elim}
 use mathlib.Core.Bool.{Bool, true, false, cond, not}
-use mathlib.Core.Option.{Option, none, some}
-use mathlib.Core.List.{List, [], _∷_, _++_}
-use Prim.Native.Nat.{ℕ, zero, suc, _+_, _<_, _≤_}
+use mathlib.Core.Option.{none, some}
+use mathlib.Core.List.{List}
+use Prim.Native.Nat.{ℕ, _+_, _<_, _≤_}
 use native.Mathlib.Omega.{arith}
-use native.Mathlib.Nat.{zero-add, suc-add, add-suc}
-use lib.Dec.{T, eqb, leb, ltb, ltb→lt, nltb→le}
-use lib.ListN.{length, getD, take, drop, length-take, List·getD-eq-default}
+use lib.Dec.{T, eqb, ltb, ltb→lt, nltb→le}
+use lib.ListN.{length, getD, take, length-take, List·getD-eq-default}
 use lib.Seq.{getD-take, getD-drop}
 use Rattle.word.proofs.All.{All, all-getD}
 use Rattle.word.proofs.TestLaws.{equals}
 use Rattle.terms.specs.Row.{tagOf}
-use Rattle.terms.specs.Rules.{usedRows, badTerm}
-use Rattle.terms.proofs.TableLaws.{ValidTable, valid-table}
+use Rattle.terms.specs.Rules.{usedRows}
+use Rattle.terms.specs.Table.{ValidTable}
 use Rattle.stores.specs.Cells.{unset, held, storeOf}
-use Rattle.stores.specs.Valid.{valid}
-use Rattle.stores.proofs.ValidLaws.{UndeclaredUnset, HoldsKind, UnsetOrUsed, valid-stores}
-use Rattle.theory.specs.RowModel.{Table, rowWorld, mostNames}
-use Rattle.theory.specs.Machine.{State, namedCells, scratchCells}
-use Rattle.theory.specs.Compile.{kindIn, variables}
-use Rattle.theory.specs.Run.{Lent, stateOver, stateOf, messageCells, mostCertificates, mostTermRows}
-use Rattle.theory.proofs.ValidMemory.{ValidMemory}
-use Rattle.theory.proofs.RowsRunAsTerms.{Held, IsUsed, HasTag, ValidState}
+use Rattle.stores.specs.ValidStores.{UndeclaredUnset, HoldsKind, UnsetOrUsed}
+use Rattle.theory.specs.Machine.{namedCells}
+use Rattle.theory.specs.Compile.{kindIn}
+use Rattle.theory.specs.Run.{Lent, stateOver, stateOf}
+use Rattle.theory.specs.Valid.{Valid}
+use Rattle.theory.proofs.RowsRunAsTerms.{Held, ValidState}
 
 -- a cell that is unset or a used row holds a used row at most
 pub cell-held : (used cell : ℕ) → UnsetOrUsed used cell ↔ Held (λ row. row < used) (held cell)
@@ -45,17 +42,6 @@ object-held rows used kind cell known = go (eqb cell unset) (equals cell unset)
     go true e = (λ _. tt, λ _. (λ _. e .0 tt, λ set. absurd (set (e .0 tt))))
     go false e = (λ h. h .1 (e .1), λ g. (λ z. absurd (known cell (g .0) (g .1 ∙ z)), λ _. g))
 
--- what run has looked at before the code: 1, 2 and 3
-pub record Accepted (x : Lent) : Type 0 where
-  pub kinds-length : length (x .kinds) ≡ variables
-  pub objects-length : length (x .objects) ≡ variables
-  pub messages-length : length (x .messages) ≡ messageCells
-  pub few-certificates : length (x .certificates) ≤ mostCertificates
-  pub few-rows : length (x .terms) ≤ mostTermRows
-  pub few-names : x .counter ≤ mostNames
-  pub good-rows : badTerm (x .terms) (x .counter) ≡ none
-  pub good-stores : T (valid (x .terms) (usedRows (x .terms)) (x .kinds) (x .objects) (x .messages) (x .certificates) (x .accumulator))
-
 -- no used row of a valid table has tag 0
 pub tagged : {rows : List ℕ} {counter : ℕ} → ValidTable rows counter → (row : ℕ) → row < usedRows rows → tagOf (getD rows row 0) ≡ 0 → ⊥
 tagged v row h e = omega (arith, v .good row h .known .0)
@@ -73,25 +59,24 @@ inside-or-past P cells i h = go (ltb i (length cells)) (ltb→lt i (length cells
     go true l m = h (l tt)
     go false l m = rw (List·getD-eq-default cells unset (m tt)) tt
 
-module _ (x : Lent) (a : Accepted x) where
-  pub accepted-state : ValidState (kindIn (x .kinds)) (stateOf x)
+module _ (x : Lent) (v : Valid x) where
+  pub valid-state : ValidState (kindIn (x .kinds)) (stateOf x)
   unfolding stateOver storeOf
-  accepted-state =
-      let table = valid-table (x .terms) (x .counter) .0 (a .good-rows) in
-      let stores = valid-stores (x .terms) (usedRows (x .terms)) (x .kinds) (x .objects) (x .messages) (x .certificates) (x .accumulator) .0 (a .good-stores) in
+  valid-state =
+      let stores = v .stores in
       let cells = cells-held (usedRows (x .terms)) (x .messages) (stores .cells) in
       record {
         table = record {
-          table = table;
+          table = v .table;
           counted = refl;
-          rowsFew = a .few-rows;
-          namesFew = a .few-names;
+          rowsFew = v .within .terms;
+          namesFew = v .within .counter;
           certificates = stores .certified;
         };
         accumulator = cell-held (usedRows (x .terms)) (x .accumulator) .0 (stores .held);
         scratches = λ i. rw (getD-drop namedCells (x .messages) i unset) (cells (namedCells + i));
         raws = λ r. named r cells;
-        objects = λ v. object v table (λ k c. (stores .undeclared v k c, stores .typed v k c));
+        objects = object;
       }
     where
       named : (r : ℕ) → ((i : ℕ) → Held (λ row. row < usedRows (x .terms)) (held (getD (x .messages) i unset))) → Held (λ row. row < usedRows (x .terms)) (held (getD (take namedCells (x .messages)) r unset))
@@ -99,9 +84,7 @@ module _ (x : Lent) (a : Accepted x) where
           let inside : r < namedCells = omega (arith, simp length-take at h) in
           rw (getD-take namedCells (x .messages) r unset inside) (cells r)
 
-      object : (v : ℕ) → ValidTable (x .terms) (x .counter)
-          → (v < length (x .kinds) → v < length (x .objects)
-          → UndeclaredUnset (kindIn (x .kinds) v) (getD (x .objects) v unset) × HoldsKind (x .terms) (usedRows (x .terms)) (kindIn (x .kinds) v) (getD (x .objects) v unset))
-          → Held (λ row. (row < usedRows (x .terms)) × (tagOf (getD (x .terms) row 0) ≡ kindIn (x .kinds) v)) (held (getD (x .objects) v unset))
-      object v table fits = inside-or-past (λ row. (row < usedRows (x .terms)) × (tagOf (getD (x .terms) row 0) ≡ kindIn (x .kinds) v)) (x .objects) v λ h.
-          object-held (x .terms) (usedRows (x .terms)) (kindIn (x .kinds) v) (getD (x .objects) v unset) (tagged table) .0 (fits (omega (arith, a .kinds-length, a .objects-length)) h)
+      object : (o : ℕ) → Held (λ row. (row < usedRows (x .terms)) × (tagOf (getD (x .terms) row 0) ≡ kindIn (x .kinds) o)) (held (getD (x .objects) o unset))
+      object o = inside-or-past (λ row. (row < usedRows (x .terms)) × (tagOf (getD (x .terms) row 0) ≡ kindIn (x .kinds) o)) (x .objects) o λ h.
+          let k : o < length (x .kinds) = omega (arith, v .within .kinds, v .within .objects) in
+          object-held (x .terms) (usedRows (x .terms)) (kindIn (x .kinds) o) (getD (x .objects) o unset) (tagged (v .table)) .0 (v .stores .undeclared o k h, v .stores .typed o k h)

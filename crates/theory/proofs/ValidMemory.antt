@@ -6,8 +6,10 @@ use native.Mathlib.Omega.{arith}
 use lib.ListN.{length, getD, set, length-set}
 use lib.Seq.{getD-set-other}
 use Rattle.terms.specs.Rules.{usedRows}
-use Rattle.terms.proofs.TableLaws.{GoodRow, ValidTable, used-rows, used-added, valid-added, valid-raised}
-use Rattle.stores.proofs.CertificateLaws.{ValidCertificates, certificates-kept}
+use Rattle.terms.specs.Table.{GoodRow, ValidTable}
+use Rattle.terms.proofs.TableLaws.{used-rows, used-added, valid-added, valid-raised}
+use Rattle.stores.specs.ValidStores.{ValidCertificates}
+use Rattle.stores.proofs.CertificateLaws.{certificates-kept}
 use Rattle.theory.specs.RowModel.{Table, withRows, withCounter, mostNames}
 
 -- a table that run accepts: rows, counter and certificates

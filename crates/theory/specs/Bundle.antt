@@ -1,6 +1,7 @@
 -- A bundle: 64-bit words, high byte first.
-use Prim.Native.Nat.{ℕ, _+_, _*_}
-use mathlib.Core.Bool.{Bool, true, false, cond, _&&_, _||_}
+use Prim.Native.Nat.{ℕ, _+_, _*_, _≤_}
+use mathlib.Core.Path.{_≡_}
+use mathlib.Core.Bool.{Bool, true, false, _&&_}
 use mathlib.Core.Option.{Option, none, some}
 use mathlib.Core.List.{List, [], _∷_, flatMap}
 use lib.ListN.{length, take, drop, replicate, getD}
@@ -9,7 +10,7 @@ use Rattle.word.specs.Fields.{split, at}
 use Rattle.word.specs.Bytes.{elements}
 use Rattle.word.specs.Lowest.{each}
 use Rattle.stores.specs.Certificates.{spareOf}
-use Rattle.theory.specs.Compile.{mostPatternRows, variables}
+use Rattle.theory.specs.Compile.{mostPatternRows}
 use Rattle.theory.specs.RowModel.{mostNames}
 use Rattle.theory.specs.Run.{mostCertificates, mostTermRows}
 
@@ -89,6 +90,13 @@ bundleOf h words =
       counter = h .counter;
     }
 
+-- the header is the first word
+abbrev pub headerIn : List ℕ → Header
+headerIn bytes = headerOf (getD (elements wordBytes bytes) 0 0)
+
+abbrev pub bundleIn : List ℕ → Bundle
+bundleIn bytes = bundleOf (headerIn bytes) (drop 1 (elements wordBytes bytes))
+
 -- a header whose spare bits are zero and whose counts and name counter are within their limits
 abbrev pub headerFits : Header → Bool
 headerFits h =
@@ -99,17 +107,30 @@ headerFits h =
 abbrev pub sizeFits : Header → List ℕ → Bool
 sizeFits h bytes = eqb (length bytes) (wordBytes * wordsIn h)
 
-abbrev pub bundleBy : Bool → Header → List ℕ → Option Bundle
-bundleBy true h words = some (bundleOf h (drop 1 words))
-bundleBy false h words = none
+abbrev pub bundleBy : Bool → List ℕ → Option Bundle
+bundleBy true bytes = some (bundleIn bytes)
+bundleBy false bytes = none
 
 -- none is 1
 unfoldable pub readBundle : List ℕ → Option Bundle
-readBundle bytes =
-    let words = elements wordBytes bytes in
-    let h = headerOf (getD words 0 0) in
-    bundleBy (headerFits h && sizeFits h bytes) h words
+readBundle bytes = bundleBy (headerFits (headerIn bytes) && sizeFits (headerIn bytes) bytes) bytes
+
+-- not 1, in words: no spare header bit, counts and name counter within their limits,
+pub record HeaderWithin (h : Header) : Type 0 where
+  pub spare : h .spare ≡ 0
+  pub pattern-rows : (1 ≤ h .patternRows) × (h .patternRows ≤ mostPatternRows)
+  pub certificates : h .certificates ≤ mostCertificates
+  pub term-rows : h .termRows ≤ mostTermRows
+  pub counter : h .counter ≤ mostNames
+
+-- and exactly the size that they say
+pub record BundleWithin (bytes : List ℕ) : Type 0 where
+  pub header : HeaderWithin (headerIn bytes)
+  pub size : length bytes ≡ wordBytes * wordsIn (headerIn bytes)
 
 -- no spare bit of a certificate is set
+abbrev pub clearOf : List ℕ → Bool
+clearOf certificates = each (λ word. eqb (spareOf word) 0) certificates
+
 abbrev pub certificatesClear : Bundle → Bool
-certificatesClear b = each (λ word. eqb (spareOf word) 0) (b .certificates)
+certificatesClear b = clearOf (b .certificates)

@@ -1,10 +1,12 @@
 -- Compile's answer: it looks in the order 1, 3, 4, 5, then 6 and 7 by emission, then 8.
 use Prim.Native.Nat.{ℕ}
 use mathlib.Core.Bool.{Bool, true, false, cond, not, _&&_}
+use mathlib.Core.Path.{_≡_}
 use mathlib.Core.Option.{Option, none, some, Option·map}
 use mathlib.Core.List.{List, [], _∷_, _++_, map}
-use lib.ListN.{length, getD, drop}
+use lib.ListN.{length, getD, take, drop}
 use lib.Dec.{eqb, leb}
+use Rattle.answers.specs.Numbers.{compiledPlace}
 use Rattle.answers.specs.declared.Compiled.{Compiled}
 use Rattle.answers.specs.declared.Compiled.the-variants.{Done, Limit, BadStore, BadPattern, WrongKind, CodeTooShort}
 use Rattle.code.specs.Instruction.{wordOf}
@@ -44,6 +46,11 @@ kindIn kinds v = getD kinds v 0
 abbrev pub entry : List ℕ → List ℕ → Env
 entry objects named = record { objects = λ v. isSet (getD objects v unset); raws = λ r. isSet (getD named r unset); next = 0 }
 
+-- as many cells, and the same ones set
+pub record SameSet (cells others : List ℕ) : Type 0 where
+  pub same-length : length cells ≡ length others
+  pub same-set : (i : ℕ) → isSet (getD cells i unset) ≡ isSet (getD others i unset)
+
 -- figure 6 for creating, figure 5 for matching
 abbrev pub tables : Bool → (ℕ → ℕ) → Pattern → Env → Emitted
 tables true kind p e = compile↑ kind p e
@@ -59,6 +66,14 @@ pub record CompileOutcome : Type 0 where
 
 abbrev pub leaves : Compiled → List ℕ → CompileOutcome
 leaves answer code = record { answer = answer; code = code }
+
+-- the used part of a code slice: its first n words, or an empty part where n exceeds its length
+unfoldable pub usedPart : ℕ → List ℕ → List ℕ
+usedPart n code = cond (leb n (length code)) (take n code) []
+
+-- the code that compile wrote: as many words as it answers
+abbrev pub compiledCode : CompileOutcome → List ℕ
+compiledCode o = usedPart (compiledPlace (o .answer)) (o .code)
 
 -- 8 where the words do not fit; words past the written ones stay
 abbrev pub written : List ℕ → List ℕ → CompileOutcome

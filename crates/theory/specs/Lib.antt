@@ -8,12 +8,14 @@ pub mod TermModel
 pub mod Meaning
 pub mod Machine
 pub mod Emission
+pub mod Limits
 pub mod Compilers
 pub mod Rules
 pub mod Figure2
 pub mod Figure3
 pub mod Compile
 pub mod Run
+pub mod Valid
 pub mod Bundle
 pub mod Listing
 pub mod Cases

@@ -1,20 +1,18 @@
 -- The listing: from a bundle's bytes to the bytes printed.
 use Prim.Native.Nat.{ℕ, zero, suc, _-_}
-use mathlib.Core.Bool.{Bool, true, false, not}
+use mathlib.Core.Bool.{true, false}
 use mathlib.Core.Option.{Option, none, some}
 use mathlib.Core.List.{List, [], _∷_, _++_}
-use lib.ListN.{length, take, replicate, getD}
+use lib.ListN.{length, take, replicate}
 use lib.Dec.{eqb}
-use Rattle.word.specs.Fields.{split, at}
+use Rattle.word.specs.Fields.{split}
 use Rattle.text.specs.Lines.{line, wordLine}
 use Rattle.answers.specs.Numbers.{compiledNumber, compiledPlace, ranNumber, ranPlace, ranReason}
-use Rattle.answers.specs.declared.Compiled.{Compiled}
-use Rattle.answers.specs.declared.Compiled.the-variants as Compiled
 use Rattle.code.specs.Instruction.{wordWidths}
 use Rattle.terms.specs.Rules.{usedRows}
 use Rattle.stores.specs.Cells.{unset, isSet}
 use Rattle.theory.specs.Machine.{namedCells, scratchCells}
-use Rattle.theory.specs.Compile.{CompileOutcome, compile}
+use Rattle.theory.specs.Compile.{CompileOutcome, compiledCode, compile}
 use Rattle.theory.specs.Run.{Lent, RunOutcome, run, mostCodeWords, mostTermRows}
 use Rattle.theory.specs.Bundle.{Bundle, readBundle, certificatesClear}
 
@@ -69,13 +67,20 @@ lentTo b = record {
   counter = b .counter;
 }
 
+-- what compile answers for a bundle, into any slice and into 768 words
+abbrev pub compileOf : Bundle → List ℕ → CompileOutcome
+compileOf b code = compile (b .create) (b .pattern) (b .kinds) (b .objects) (b .named) code
+
+abbrev pub compiledFrom : Bundle → CompileOutcome
+compiledFrom b = compileOf b (replicate mostCodeWords 0)
+
 abbrev pub ranLines : List ℕ → RunOutcome → List ℕ
 ranLines code r = codeLines zero code ++ endLine r ++ storeLines r
 
 abbrev pub compiledLines : Bundle → CompileOutcome → List ℕ
 compiledLines b c =
     elim (eqb (compiledNumber (c .answer)) 0) [
-      | true ↦ ranLines (take (compiledPlace (c .answer)) (c .code)) (run (lentTo b) (take (compiledPlace (c .answer)) (c .code)))
+      | true ↦ ranLines (compiledCode c) (run (lentTo b) (compiledCode c))
       | false ↦ refusedLine (compiledNumber (c .answer)) (compiledPlace (c .answer))
     ]
 
@@ -83,10 +88,7 @@ compiledLines b c =
 abbrev pub bundleLines : Option Bundle → List ℕ
 bundleLines none = refusedLine 1 0
 bundleLines (some b) =
-    elim (certificatesClear b) [
-      | true ↦ compiledLines b (compile (b .create) (b .pattern) (b .kinds) (b .objects) (b .named) (replicate mostCodeWords 0))
-      | false ↦ refusedLine 3 0
-    ]
+    elim (certificatesClear b) [ true ↦ compiledLines b (compiledFrom b) | false ↦ refusedLine 3 0 ]
 
 unfoldable pub listing : List ℕ → List ℕ
 listing bytes = bundleLines (readBundle bytes)

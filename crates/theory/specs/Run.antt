@@ -1,9 +1,9 @@
 -- Run's answer: it looks in the order 1, 2, 3, 9, then steps. Any answer but 0 leaves the values on entry.
 use Prim.Native.Nat.{ℕ, zero, suc, _+_}
-use mathlib.Core.Bool.{Bool, true, false, not, _&&_}
+use mathlib.Core.Bool.{Bool, not, _&&_}
 use mathlib.Core.Option.{Option, none, some, Option·map}
 use mathlib.Core.List.{List, [], _∷_, _++_}
-use lib.ListN.{length, getD, take, drop}
+use lib.ListN.{length, take, drop}
 use lib.Dec.{eqb, leb}
 use Rattle.answers.specs.Numbers.{reasonOf}
 use Rattle.answers.specs.declared.Ran.{Ran}
@@ -16,7 +16,7 @@ use Rattle.stores.specs.Cells.{held, cellOf, storeOf, cellsFrom}
 use Rattle.stores.specs.Valid.{valid}
 use Rattle.theory.specs.Outcome.{Outcome, done, stuck, room}
 use Rattle.theory.specs.RowModel.{Table, rowWorld, mostNames}
-use Rattle.theory.specs.Machine.{Line, line, Stores, State, exec, namedCells, scratchCells}
+use Rattle.theory.specs.Machine.{Line, line, State, exec, namedCells, scratchCells}
 use Rattle.theory.specs.Compile.{when, first, kindIn, variables}
 
 abbrev pub mostCodeWords : ℕ
@@ -54,6 +54,18 @@ pub record RunOutcome : Type 0 where
 abbrev pub unchanged : Ran → Lent → RunOutcome
 unchanged answer x =
     record { answer = answer; objects = x .objects; messages = x .messages; accumulator = x .accumulator; terms = x .terms; counter = x .counter }
+
+-- what was lent, after a run
+abbrev pub lentAfter : Lent → RunOutcome → Lent
+lentAfter x o = record {
+  kinds = x .kinds;
+  objects = o .objects;
+  messages = o .messages;
+  certificates = x .certificates;
+  accumulator = o .accumulator;
+  terms = o .terms;
+  counter = o .counter;
+}
 
 -- an accumulator, cells and a table as a state of the machine at rows
 unfoldable pub stateOver : ℕ → List ℕ → List ℕ → Table → State rowWorld

@@ -149,7 +149,8 @@ pub spelled-elements : (size : ℕ) (bytes : List ℕ) → T (whole size bytes) 
 spelled-elements size bytes exact below = spelled-words size (length bytes / size) bytes
     (omega (arith, div-add-mod (length bytes) size, eqb→eq (length bytes % size) 0 exact)) below
 
-sets-append : (bytes : List ℕ) (at : ℕ) (first later : List ℕ) → sets bytes at (first ++ later) ≡ sets (sets bytes at first) (at + length first) later
+-- numbers stored after numbers are the two as one
+pub sets-append : (bytes : List ℕ) (at : ℕ) (first later : List ℕ) → sets bytes at (first ++ later) ≡ sets (sets bytes at first) (at + length first) later
 sets-append bytes at [] later = rw add-zero
 sets-append bytes at (byte ∷ first) later = sets-append (set bytes at byte) (suc at) first later ∙ rw (suc-add, add-suc)
 

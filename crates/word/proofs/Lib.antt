@@ -6,3 +6,4 @@ pub mod TestLaws
 pub mod LowestLaws
 pub mod ScanLaws
 pub mod OneOfLaws
+pub mod ArmLaws

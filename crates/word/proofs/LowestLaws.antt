@@ -1,6 +1,6 @@
 -- Tests over lists, as propositions: of each element, of one of several numbers, and the lowest place at which one holds.
 use mathlib.Core.Path.{_≡_, refl, _∙_, ap}
-use mathlib.Core.Logic.{_↔_, _⊎_, inl, inr, Iff·rfl, Iff·trans}
+use mathlib.Core.Logic.{_↔_, _⊎_, inl, inr, Iff·trans}
 use mathlib.Core.Bool.{Bool, true, false, not}
 use mathlib.Core.Option.{Option, none, some}
 use mathlib.Core.List.{List, [], _∷_}
@@ -10,8 +10,8 @@ use native.Mathlib.Omega.{arith}
 use lib.ListN.{length, getD}
 use lib.Dec.{T, T-not, not-T, eqb, eqb→eq, eqb-refl}
 use Rattle.word.proofs.All.{All, at-all}
-use Rattle.word.proofs.TestLaws.{either, twice}
-use Rattle.word.specs.Lowest.{lowestFrom, lowest, each, oneOf}
+use Rattle.word.proofs.TestLaws.{either, stable}
+use Rattle.word.specs.Lowest.{lowestFrom, lowest, each, LowestWith, NoneWith, LowestBad, AllGood, oneOf}
 
 -- a test of each element, where the test says a proposition
 module _ {A : Type 0} (test : A → Bool) (P : A → Type 0) (says : (a : A) → T (test a) ↔ P a) where
@@ -121,40 +121,53 @@ module _ {A : Type 0} (test : ℕ → A → Bool) (default : A) where
           let same : j ≡ i = omega arith in
           ap some same
 
--- a test for what is not good: this place is bad and all before it are good
-pub record LowestBad {A : Type 0} (Good : ℕ → A → Type 0) (absent : A) (all : List A) (place : ℕ) : Type 0 where
-  pub within : place < length all
-  pub bad : Good place (getD all place absent) → ⊥
-  pub before : (k : ℕ) → k < place → Good k (getD all k absent)
+-- where the test of a place says a property of it, so does the answer
+module _ {A : Type 0} (test : ℕ → A → Bool) (P : ℕ → Type 0) (all : List A) (default : A) (says : (i : ℕ) → i < length all → T (test i (getD all i default)) ↔ P i) where
+  pub none-with : (lowest test all ≡ none) ↔ NoneWith P (length all)
+  none-with = (
+    λ e i inside h. T-not (passes test default all i) (lowest-none test default all .0 e i inside) (says i inside .1 h),
+    λ h. lowest-none test default all .1 λ i inside. not-T (passes test default all i) λ t. h i inside (says i inside .0 t),
+  )
 
-abbrev pub AllGood : {A : Type 0} → (ℕ → A → Type 0) → A → List A → Type 0
-AllGood Good absent all = (k : ℕ) → k < length all → Good k (getD all k absent)
-
-module _ {A : Type 0} (Good : ℕ → A → Type 0) (good : ℕ → A → Bool) (means : (k : ℕ) (a : A) → T (good k a) ↔ Good k a) (absent : A) (all : List A) where
-  abbrev bad : ℕ → A → Bool
-  bad k a = not (good k a)
-
-  abbrev element : ℕ → A
-  element k = getD all k absent
-
-  not-bad : (k : ℕ) → T (not (bad k (element k))) ↔ Good k (element k)
-  not-bad k = Iff·trans (twice (good k (element k))) (means k (element k))
-
-  pub none-bad-iff : (lowest bad all ≡ none) ↔ AllGood Good absent all
-  none-bad-iff = Iff·trans (lowest-none bad absent all) (λ h k l. not-bad k .0 (h k l), λ h k l. not-bad k .1 (h k l))
-
-  pub lowest-bad-iff : (place : ℕ) → (lowest bad all ≡ some place) ↔ LowestBad Good absent all place
-  lowest-bad-iff place = Iff·trans (lowest-some bad absent all place) (
-    λ h.
+  pub lowest-with : (i : ℕ) → (lowest test all ≡ some i) ↔ LowestWith P (length all) i
+  lowest-with i = (
+    λ e.
+        let h = lowest-some test default all i .0 e in
+        let inside : i < length all = h .inside in
         record {
-          within = h .inside;
-          bad = λ is. T-not (good place (element place)) (h .holds) (means place (element place) .1 is);
-          before = λ k l. not-bad k .0 (h .earlier k l);
+          inside = inside;
+          holds = says i inside .0 (h .holds);
+          earlier = λ j less p. T-not (passes test default all j) (h .earlier j less) (says j (omega arith) .1 p);
         },
     λ h.
+        let inside : i < length all = h .inside in
+        lowest-some test default all i .1
+        (record {
+          inside = inside;
+          holds = says i inside .1 (h .holds);
+          earlier = λ j less. not-T (passes test default all j) λ t. h .earlier j less (says j (omega arith) .0 t);
+        }),
+  )
+
+-- where the test of a place says that it is not good
+module _ {A : Type 0} (test : ℕ → A → Bool) (Good : ℕ → Type 0) (all : List A) (default : A) (says : (i : ℕ) → i < length all → T (not (test i (getD all i default))) ↔ Good i) where
+  pub none-bad : (lowest test all ≡ none) ↔ AllGood Good (length all)
+  none-bad = Iff·trans (lowest-none test default all) (λ h i inside. says i inside .0 (h i inside), λ h i inside. says i inside .1 (h i inside))
+
+  pub lowest-bad : (i : ℕ) → (lowest test all ≡ some i) ↔ LowestBad Good (length all) i
+  lowest-bad i = Iff·trans (lowest-some test default all i) (
+    λ h.
+        let inside : i < length all = h .inside in
         record {
-          inside = h .within;
-          holds = not-T (good place (element place)) λ t. h .bad (means place (element place) .0 t);
-          earlier = λ k l. not-bad k .1 (h .before k l);
+          inside = inside;
+          bad = λ good. T-not (passes test default all i) (says i inside .1 good) (h .holds);
+          earlier = λ j less. says j (omega arith) .0 (h .earlier j less);
+        },
+    λ h.
+        let inside : i < length all = h .inside in
+        record {
+          inside = inside;
+          holds = stable (passes test default all i) λ not. h .bad (says i inside .0 (not-T (passes test default all i) not));
+          earlier = λ j less. says j (omega arith) .1 (h .earlier j less);
         },
   )

@@ -1,15 +1,16 @@
 -- A number is one of several: looked for from the front, or between two bounds.
 use Prim.Native.Nat.{ℕ, zero, suc, _+_, _<_, _≤_}
-use mathlib.Core.Bool.{true, false}
+use mathlib.Core.Bool.{true, false, _||_, or-false}
 use mathlib.Core.Path.{_≡_, refl, sym, _∙_}
 use mathlib.Core.Logic.{⊎-elim}
 use mathlib.Core.List.{List, [], _∷_}
-use native.Mathlib.Decide.{ℕ-discrete, decLt}
+use native.Mathlib.Decide.{decLt}
 use native.Mathlib.Nat.{eq-or-lt-of-le}
 use native.Mathlib.Omega.{arith}
 use borrow.Author.Tests.{lt-ltb, le-ltb, eq-eqb, ne-eqb}
 use lib.Dec.{ltb, eqb}
 use Rattle.word.specs.Lowest.{oneOf}
+use Rattle.word.proofs.TestLaws.{eqb-swap}
 
 pub one-here : (n : ℕ) (rest : List ℕ) (number : ℕ) → number ≡ n → oneOf (n ∷ rest) number ≡ true
 unfolding oneOf
@@ -21,11 +22,11 @@ one-later n rest number differs = rw (ne-eqb n number (λ is. differs (sym is)))
 
 pub one-last : (n number : ℕ) → eqb number n ≡ oneOf (n ∷ []) number
 unfolding oneOf
-one-last n number = go (ℕ-discrete number n)
-  where
-    go : Dec (number ≡ n) → eqb number n ≡ oneOf (n ∷ []) number
-    go (yes is) = rw (eq-eqb number n is, one-here n [] number is)
-    go (no differs) = rw (ne-eqb number n differs, one-later n [] number differs)
+one-last n number = rw (eqb-swap number n, or-false)
+
+pub one-of-pair : (n a b : ℕ) → (eqb n a || eqb n b) ≡ oneOf (a ∷ b ∷ []) n
+unfolding oneOf
+one-of-pair n a b = rw (eqb-swap n a, eqb-swap n b, or-false)
 
 -- so many numbers from one on
 abbrev pub from : ℕ → ℕ → List ℕ

@@ -1,7 +1,7 @@
 -- How a loop goes through `lowest` and `each`, and which tests give the same answer.
 use Prim.Native.Nat.{ℕ, suc, _+_, _<_, _≤_}
 use mathlib.Core.Path.{_≡_, refl, sym, _∙_}
-use mathlib.Core.Logic.{_↔_, _⊎_, inl, inr}
+use mathlib.Core.Logic.{_⊎_, inl, inr}
 use mathlib.Core.Bool.{Bool, true, false, _&&_, and-assoc, and-true}
 use mathlib.Core.Option.{Option, none, some}
 use mathlib.Core.List.{List, [], _∷_}
@@ -10,11 +10,11 @@ use native.Mathlib.Omega.{arith}
 use borrow.Author.Tests.{ltb-true, ltb-false}
 use lib.ListN.{length, getD, drop, drop-of-length-le}
 use lib.Seq.{drop-cons}
-use lib.Dec.{T, T-not, not-T, ltb}
+use lib.Dec.{ltb}
 use Rattle.word.specs.Lowest.{lowestFrom, lowest, each, placeOf}
 use Rattle.word.specs.declared.Place.{Place}
 use Rattle.word.specs.declared.Place.the-variants.{At, Nowhere}
-use Rattle.word.proofs.LowestLaws.{passes, lowest-none, lowest-some}
+use Rattle.word.proofs.LowestLaws.{lowest-none, lowest-some}
 
 pub lt-or-ge : (m n : ℕ) → (m < n) ⊎ (n ≤ m)
 lt-or-ge m n = go (ltb m n) refl
@@ -79,44 +79,6 @@ module _ {A B : Type 0} (test : ℕ → A → Bool) (other : ℕ → B → Bool)
             holds = rw (← (same i inside)) (h .holds);
             earlier = λ j l. rw (← (same j (omega arith))) (h .earlier j l);
           }))
-
--- the lowest number below a count that has a property
-pub record LowestWith (P : ℕ → Type 0) (count i : ℕ) : Type 0 where
-  pub inside : i < count
-  pub holds : P i
-  pub earlier : (j : ℕ) → j < i → P j → ⊥
-
--- no number below a count has it
-abbrev pub NoneWith : (ℕ → Type 0) → ℕ → Type 0
-NoneWith P count = (i : ℕ) → i < count → P i → ⊥
-
--- where the test of a place says a property of it, so does the answer
-module _ {A : Type 0} (test : ℕ → A → Bool) (P : ℕ → Type 0) (all : List A) (default : A) (says : (i : ℕ) → i < length all → T (test i (getD all i default)) ↔ P i) where
-  pub none-with : (lowest test all ≡ none) ↔ NoneWith P (length all)
-  none-with = (
-    λ e i inside h. T-not (passes test default all i) (lowest-none test default all .0 e i inside) (says i inside .1 h),
-    λ h. lowest-none test default all .1 λ i inside. not-T (passes test default all i) λ t. h i inside (says i inside .0 t),
-  )
-
-  pub lowest-with : (i : ℕ) → (lowest test all ≡ some i) ↔ LowestWith P (length all) i
-  lowest-with i = (
-    λ e.
-        let h = lowest-some test default all i .0 e in
-        let inside : i < length all = h .inside in
-        record {
-          inside = inside;
-          holds = says i inside .0 (h .holds);
-          earlier = λ j less p. T-not (passes test default all j) (h .earlier j less) (says j (omega arith) .1 p);
-        },
-    λ h.
-        let inside : i < length all = h .inside in
-        lowest-some test default all i .1
-        (record {
-          inside = inside;
-          holds = says i inside .1 (h .holds);
-          earlier = λ j less. not-T (passes test default all j) λ t. h .earlier j less (says j (omega arith) .0 t);
-        }),
-  )
 
 -- a loop over all elements: what is left gives the answer
 module _ {A : Type 0} (test : A → Bool) where

@@ -1,10 +1,11 @@
 -- Tests as propositions.
-use mathlib.Core.Path.{_≡_}
+use mathlib.Core.Path.{_≡_, refl, sym}
 use mathlib.Core.Logic.{_↔_, _⊎_, inl, inr, Iff·rfl}
 use mathlib.Core.Bool.{Bool, true, false, cond, not, _&&_, _||_}
 use Prim.Native.Nat.{ℕ, _<_, _≤_}
 use lib.Dec.{T, T-not, not-T, eqb, leb, ltb, eqb→eq, eqb-refl, ltb→lt, lt→ltb, leb→le, le→leb, nltb→le}
 use lib.Arith.{le→nltb}
+use borrow.Author.Tests.{eqb-true, eqb-false, eq-eqb, ne-eqb}
 
 -- two tests at once, and one of two
 pub both : (a b : Bool) → T (a && b) ↔ (T a × T b)
@@ -32,9 +33,30 @@ pub twice : (a : Bool) → T (not (not a)) ↔ T a
 twice true = Iff·rfl
 twice false = Iff·rfl
 
+-- a test that is not refuted holds
+pub stable : (a : Bool) → ((T a → ⊥) → ⊥) → T a
+stable true h = tt
+stable false h = absurd (h λ t. t)
+
+-- the value of a test
+pub is-true : (a : Bool) → T a → a ≡ true
+is-true true h = refl
+is-true false h = absurd h
+
+pub is-false : (a : Bool) → (T a → ⊥) → a ≡ false
+is-false true h = absurd (h tt)
+is-false false h = refl
+
 -- tests of numbers
 pub equals : (m n : ℕ) → T (eqb m n) ↔ (m ≡ n)
 equals m n = (eqb→eq m n, λ e. rw e (eqb-refl n))
+
+pub eqb-swap : (m n : ℕ) → eqb m n ≡ eqb n m
+eqb-swap m n = go (eqb m n) refl
+  where
+    go : (b : Bool) → eqb m n ≡ b → b ≡ eqb n m
+    go true e = sym (eq-eqb n m (sym (eqb-true m n e)))
+    go false e = sym (ne-eqb n m λ same. eqb-false m n e (sym same))
 
 pub is-below : (m n : ℕ) → T (ltb m n) ↔ (m < n)
 is-below m n = (ltb→lt m n, lt→ltb m n)

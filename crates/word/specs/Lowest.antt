@@ -1,5 +1,5 @@
 -- The lowest place at which a test holds.
-use Prim.Native.Nat.{ℕ, suc}
+use Prim.Native.Nat.{ℕ, suc, _<_}
 use mathlib.Core.Bool.{Bool, true, false, _||_}
 use mathlib.Core.Option.{Option, none, some}
 use mathlib.Core.List.{List, [], _∷_}
@@ -20,6 +20,26 @@ module _ {A : Type 0} where
   unfoldable pub each : (A → Bool) → List A → Bool
   each test [] = true
   each test (a ∷ rest) = elim (test a) [ true ↦ each test rest | false ↦ false ]
+
+-- the lowest number below a count that has a property
+pub record LowestWith (P : ℕ → Type 0) (count i : ℕ) : Type 0 where
+  pub inside : i < count
+  pub holds : P i
+  pub earlier : (j : ℕ) → j < i → P j → ⊥
+
+-- no number below a count has it
+abbrev pub NoneWith : (ℕ → Type 0) → ℕ → Type 0
+NoneWith P count = (i : ℕ) → i < count → P i → ⊥
+
+-- the lowest number below a count that is not good: all before it are
+pub record LowestBad (Good : ℕ → Type 0) (count i : ℕ) : Type 0 where
+  pub inside : i < count
+  pub bad : Good i → ⊥
+  pub earlier : (j : ℕ) → j < i → Good j
+
+-- all numbers below a count are good
+abbrev pub AllGood : (ℕ → Type 0) → ℕ → Type 0
+AllGood Good count = (i : ℕ) → i < count → Good i
 
 -- a number is one of several
 unfoldable pub oneOf : List ℕ → ℕ → Bool

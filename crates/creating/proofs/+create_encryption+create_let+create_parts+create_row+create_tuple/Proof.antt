@@ -2,10 +2,11 @@ use mathlib.Core.Path.{_≡_, refl, sym, _∙_}
 use native.Mathlib.Omega.{arith}
 use lib.ListN.{length}
 use Rattle.emission.proofs.BudgetLaws.{leaf-room, variable-low}
+use Rattle.emission.proofs.PatternLaws.{slot, encryption-key, encryption-child, let-children}
 use Rattle.emission.proofs.PartLaws.{Walked, parts-begin, parts-end}
 use Rattle.creating.specs.Creates.{partsCode}
 use Rattle.creating.proofs.LeafLaws.{key-room}
-use Rattle.creating.proofs.ChildLaws.{slot, encryption-key, encryption-below, encryption-inside, encrypt-room, seal-room, encryption-done, let-below, let-first, let-store, let-second, let-done}
+use Rattle.creating.proofs.ChildLaws.{encryption-inside, encrypt-room, seal-room, encryption-done, let-first, let-store, let-second, let-done}
 use Rattle.creating.proofs.PartLaws.{in-turn, part-asks, part-stores, part-done, tuple-asks, tuple-create, tuple-encode, tuple-done}
 use Prim.Native.Nat.{ℕ, _+_, _-_, _*_, _<_}
 use borrow.Author.Needs.{needs}
@@ -146,13 +147,13 @@ module _ (t : ℕ) where
   create-encryption-create-key-requires : create-encryption-lts.Need-create-key-requires create-encryption-callees (create-encryption-at t) create-encryption.Post
   create-encryption-create-key-requires c κs =
       let asked = c .before .before .before .before .before .pre .1 in
-      (encryption-key _ _ _ (asked .0) (asked .1), key-room _ _ _ (asked .0))
+      (encryption-key (asked .0) (asked .1), key-room _ _ _ (asked .0))
 
   create-encryption-create-row-requires : create-encryption-lts.Need-create-row-requires create-encryption-callees (create-encryption-at t) create-encryption.Post
   create-encryption-create-row-requires c κs =
       let asked = c .before .before .before .before .before .before .before .before .pre .1 in
       let first = slot _ _ 0 (c .before .before .before .before .before .slots .ensures) in
-      (omega (arith, c .before .before .before .before .before .before .before .before .pre .0, encryption-below _ _ _ (asked .0) (asked .1) _ first), encryption-inside _ _ _ (asked .0) (asked .1) _ first (c .before .before .create-key .ensures))
+      (omega (arith, c .before .before .before .before .before .before .before .before .pre .0, encryption-child (asked .0) _ first (asked .1)), encryption-inside _ _ _ (asked .0) (asked .1) _ first (c .before .before .create-key .ensures))
 
   create-encryption-encrypt-requires : create-encryption-lts.Need-encrypt-requires create-encryption-callees (create-encryption-at t) create-encryption.Post
   create-encryption-encrypt-requires c κs =
@@ -191,7 +192,7 @@ module _ (t : ℕ) where
       let asked = c .before .before .before .before .pre .1 in
       let first = slot _ _ 0 (c .before .before .slots .ensures) in
       let second = slot _ _ 1 (c .before .before .slots .ensures) in
-      (omega (arith, c .before .before .before .before .pre .0, let-below _ _ _ (asked .0) (asked .1) _ first _ second .0), let-first _ _ _ (asked .0) (asked .1) _ first _ second)
+      (omega (arith, c .before .before .before .before .pre .0, let-children (asked .0) _ first _ second (asked .1) .0), let-first _ _ _ (asked .0) (asked .1) _ first _ second)
 
   create-let-store-requires : create-let-lts.Need-store-requires create-let-callees (create-let-at t) create-let.Post
   create-let-store-requires c κs =
@@ -208,7 +209,7 @@ module _ (t : ℕ) where
       let asked = c .before .before .before .before .before .before .before .before .before .before .pre .1 in
       let first = slot _ _ 0 (c .before .before .before .before .before .before .before .before .slots .ensures) in
       let second = slot _ _ 1 (c .before .before .before .before .before .before .before .before .slots .ensures) in
-      (omega (arith, c .before .before .before .before .before .before .before .before .before .before .pre .0, let-below _ _ _ (asked .0) (asked .1) _ first _ second .1), let-second _ _ _ (asked .0) (asked .1) _ first _ second (c .before .before .before .before .before .create-row .ensures) (c .before .before .store .ensures))
+      (omega (arith, c .before .before .before .before .before .before .before .before .before .before .pre .0, let-children (asked .0) _ first _ second (asked .1) .1), let-second _ _ _ (asked .0) (asked .1) _ first _ second (c .before .before .before .before .before .create-row .ensures) (c .before .before .store .ensures))
 
   create-let-returns : create-let-lts.Need-returns create-let-callees (create-let-at t) create-let.Post
   create-let-returns c =

@@ -1,14 +1,14 @@
 use Prim.Native.Nat.{ℕ, _+_, _-_, _*_, _<_}
-use mathlib.Core.Path.{_≡_, refl, sym, ap, _∙_}
-use mathlib.Core.List.{List}
+use mathlib.Core.Path.{_≡_, refl, sym, _∙_}
 use native.Mathlib.Omega.{arith}
 use lib.Dec.{lit≤}
-use lib.ListN.{length, getD}
+use lib.ListN.{length}
 use borrow.Author.Needs.{needs}
 use Rattle.emission.proofs.BudgetLaws.{room-le, room-then, leaf-room, variable-low}
 use Rattle.theory.specs.Compilers.{compile↓parts}
+use Rattle.emission.proofs.PatternLaws.{slot, encryption-child, let-children}
 use Rattle.emission.proofs.PartLaws.{Walked, parts-begin, parts-end, tuple-parts}
-use Rattle.matching.proofs.WalkLaws.{encryption-below, encryption-asks, encryption-done, encryption-wrong, let-below, let-second, let-loads, let-first, let-done, in-turn, part-loads, part-asks, part-done, tuple-analyzes, tuple-done}
+use Rattle.matching.proofs.WalkLaws.{encryption-asks, encryption-done, encryption-wrong, let-second, let-loads, let-first, let-done, in-turn, part-loads, part-asks, part-done, tuple-analyzes, tuple-done}
 use borrow.Fn.Kinds.{In}
 use borrow.Fn.PlainCycle.{Measures, is, falls, and}
 use Rattle.matching.proofs.match_encryption.Reads as match-encryption
@@ -146,8 +146,8 @@ module _ (t : ℕ) where
   match-encryption-match-row-requires : match-encryption-lts.Need-match-row-requires match-encryption-callees (match-encryption-at t) match-encryption.Post
   match-encryption-match-row-requires c κs =
       let s = c .before .before .before .before .before .before .before .before .before .before .before .before .before in
-      let child = ap (λ (l : List ℕ). getD l 0 0) (c .before .before .slots .ensures) in
-      (omega (arith, s .pre .0, encryption-below _ _ _ (s .pre .1 .0) (s .pre .1 .1) _ child), encryption-asks _ _ _ (s .pre .1 .0) (s .pre .1 .1) _ child (c .before .before .before .before .before .before .before .decode .ensures) (c .before .before .before .decrypt .ensures))
+      let child = slot _ _ 0 (c .before .before .slots .ensures) in
+      (omega (arith, s .pre .0, encryption-child (s .pre .1 .0) _ child (s .pre .1 .1)), encryption-asks _ _ _ (s .pre .1 .0) (s .pre .1 .1) _ child (c .before .before .before .before .before .before .before .decode .ensures) (c .before .before .before .decrypt .ensures))
 
   match-encryption-wrong-kind-requires : match-encryption-lts.Need-wrong-kind-requires match-encryption-callees (match-encryption-at t) match-encryption.Post
   match-encryption-wrong-kind-requires c κs = c .before .before .before .pre .1 .0 .whole .room .long
@@ -155,7 +155,7 @@ module _ (t : ℕ) where
   match-encryption-returns : match-encryption-lts.Need-returns match-encryption-callees (match-encryption-at t) match-encryption.Post
   match-encryption-returns c =
       let s = c .before .before .before .before .before .before .before .before .before .before .before .before .before .before in
-      let child = ap (λ (l : List ℕ). getD l 0 0) (c .before .before .before .slots .ensures) in
+      let child = slot _ _ 0 (c .before .before .before .slots .ensures) in
       encryption-done _ _ _ (s .pre .1 .0) (s .pre .1 .1) _ child _ (c .before .before .before .before .before .before .before .before .before .before .before .before .before .key-form .ensures) _ _ (c .before .before .before .before .before .before .before .before .before .variable .ensures) (c .before .before .before .before .before .x .ensures) (c .before .before .before .before .before .before .before .before .before .before .before .before .if1 .taken)
       (c .before .before .before .before .before .before .before .before .decode .ensures) (c .before .before .before .before .decrypt .ensures) (c .match-row .ensures)
 
@@ -183,12 +183,16 @@ module _ (t : ℕ) where
   match-let-match-row-requires : match-let-lts.Need-match-row-requires match-let-callees (match-let-at t) match-let.Post
   match-let-match-row-requires c κs =
       let s = c .before .before .before .before .before .before in
-      (omega (arith, s .pre .0, let-below _ _ _ (s .pre .1 .0) (s .pre .1 .1) _ (c .before .before .before .before .slots .ensures)), let-second _ _ _ (s .pre .1 .0) (s .pre .1 .1) _ (c .before .before .before .before .slots .ensures) (c .before .before .free-raw .ensures))
+      let first = slot _ _ 0 (c .before .before .before .before .slots .ensures) in
+      let second = slot _ _ 1 (c .before .before .before .before .slots .ensures) in
+      (omega (arith, s .pre .0, let-children (s .pre .1 .0) _ first _ second (s .pre .1 .1) .1), let-second _ _ _ (s .pre .1 .0) (s .pre .1 .1) _ first _ second (c .before .before .free-raw .ensures))
 
   match-let-load-requires : match-let-lts.Need-load-requires match-let-callees (match-let-at t) match-let.Post
   match-let-load-requires c κs =
       let s = c .before .before .before .before .before .before .before .before .before in
-      let-loads _ _ _ (s .pre .1 .0) (s .pre .1 .1) _ (c .before .before .before .before .before .before .before .slots .ensures) (c .before .before .before .before .before .free-raw .ensures) (c .before .before .match-row .ensures)
+      let first = slot _ _ 0 (c .before .before .before .before .before .before .before .slots .ensures) in
+      let second = slot _ _ 1 (c .before .before .before .before .before .before .before .slots .ensures) in
+      let-loads _ _ _ (s .pre .1 .0) (s .pre .1 .1) _ first _ second (c .before .before .before .before .before .free-raw .ensures) (c .before .before .match-row .ensures)
 
   match-let-array-read-match-row-2 : match-let-lts.Need-array-read-match-row-2 match-let-callees (match-let-at t) match-let.Post
   match-let-array-read-match-row-2 c = search needs
@@ -196,12 +200,16 @@ module _ (t : ℕ) where
   match-let-match-row-requires-2 : match-let-lts.Need-match-row-requires-2 match-let-callees (match-let-at t) match-let.Post
   match-let-match-row-requires-2 c κs =
       let s = c .before .before .before .before .before .before .before .before .before .before .before .before in
-      (omega (arith, s .pre .0, let-below _ _ _ (s .pre .1 .0) (s .pre .1 .1) _ (c .before .before .before .before .before .before .before .before .before .before .slots .ensures)), let-first _ _ _ (s .pre .1 .0) (s .pre .1 .1) _ (c .before .before .before .before .before .before .before .before .before .before .slots .ensures) (c .before .before .before .before .before .before .before .before .free-raw .ensures) (c .before .before .before .before .before .match-row .ensures) (c .before .before .load .ensures))
+      let first = slot _ _ 0 (c .before .before .before .before .before .before .before .before .before .before .slots .ensures) in
+      let second = slot _ _ 1 (c .before .before .before .before .before .before .before .before .before .before .slots .ensures) in
+      (omega (arith, s .pre .0, let-children (s .pre .1 .0) _ first _ second (s .pre .1 .1) .0), let-first _ _ _ (s .pre .1 .0) (s .pre .1 .1) _ first _ second (c .before .before .before .before .before .before .before .before .free-raw .ensures) (c .before .before .before .before .before .match-row .ensures) (c .before .before .load .ensures))
 
   match-let-returns : match-let-lts.Need-returns match-let-callees (match-let-at t) match-let.Post
   match-let-returns c =
       let s = c .before .before .before .before .before .before .before .before .before .before .before .before .before in
-      let-done _ _ _ (s .pre .1 .0) (s .pre .1 .1) _ (c .before .before .before .before .before .before .before .before .before .before .before .slots .ensures) (c .before .before .before .before .before .before .before .before .before .free-raw .ensures) (c .before .before .before .before .before .before .match-row .ensures) (c .before .before .before .load .ensures) (c .before .before .before .before .before .before .before .before .before .before .before .before .raw .ensures) (c .match-row2 .ensures)
+      let first = slot _ _ 0 (c .before .before .before .before .before .before .before .before .before .before .before .slots .ensures) in
+      let second = slot _ _ 1 (c .before .before .before .before .before .before .before .before .before .before .before .slots .ensures) in
+      let-done _ _ _ (s .pre .1 .0) (s .pre .1 .1) _ first _ second (c .before .before .before .before .before .before .before .before .before .free-raw .ensures) (c .before .before .before .before .before .before .match-row .ensures) (c .before .before .before .load .ensures) (c .before .before .before .before .before .before .before .before .before .before .before .before .raw .ensures) (c .match-row2 .ensures)
 
   abbrev match-parts-callees : match-parts-lts.Claims
   match-parts-callees =

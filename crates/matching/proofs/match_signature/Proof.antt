@@ -1,6 +1,7 @@
 use lib.Dec.{lit≤}
-use Rattle.emission.proofs.BudgetLaws.{room-le, room-then, leaf-room, variable-low}
-use Rattle.matching.proofs.LeafLaws.{key-low, signed-plain, signed-opposite, signed-certified}
+use Rattle.emission.proofs.BudgetLaws.{room-le, room-then, leaf-room, variable-low, key-low}
+use Rattle.emission.proofs.PatternLaws.{signature-key}
+use Rattle.matching.proofs.LeafLaws.{signed-plain, signed-opposite, signed-certified}
 use borrow.Author.Needs.{needs}
 use Rattle.matching.proofs.match_signature.Statement.{statement}
 use Rattle.matching.proofs.match_signature.Tie as tie
@@ -29,7 +30,7 @@ y-requires c κs = search needs
 verify-opposite-requires : tie.Need-verify-opposite-requires
 verify-opposite-requires c κs =
     let s = c .before .before .before .before .before .before .before .before .before .before .before in
-    (key-low _ _ _ _ (s .pre .0) (s .pre .1) _ (c .before .before .before .before .before .before .x .ensures), room-then (lit≤ tt) (lit≤ tt) (leaf-room _ _ _ _ (s .pre .0)) (c .before .before .before .before .before .before .before .decode .ensures))
+    (key-low _ (signature-key (s .pre .0) (s .pre .1)) _ (c .before .before .before .before .before .before .x .ensures), room-then (lit≤ tt) (lit≤ tt) (leaf-room _ _ _ _ (s .pre .0)) (c .before .before .before .before .before .before .before .decode .ensures))
 
 y-requires-2 : tie.Need-y-requires-2
 y-requires-2 c κs = search needs
@@ -37,7 +38,7 @@ y-requires-2 c κs = search needs
 verify-certified-requires : tie.Need-verify-certified-requires
 verify-certified-requires c κs =
     let s = c .before .before .before .before .before .before .before .before .before .before .before in
-    (key-low _ _ _ _ (s .pre .0) (s .pre .1) _ (c .before .before .before .before .before .before .x .ensures), room-then (lit≤ tt) (lit≤ tt) (leaf-room _ _ _ _ (s .pre .0)) (c .before .before .before .before .before .before .before .decode .ensures))
+    (key-low _ (signature-key (s .pre .0) (s .pre .1)) _ (c .before .before .before .before .before .before .x .ensures), room-then (lit≤ tt) (lit≤ tt) (leaf-room _ _ _ _ (s .pre .0)) (c .before .before .before .before .before .before .before .decode .ensures))
 
 returns : tie.Need-returns
 returns c = search (signed-plain)

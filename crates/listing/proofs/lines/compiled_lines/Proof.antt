@@ -64,7 +64,7 @@ returns-2 c =
     let compiled = place .before .before .before in
     let room = compiled .before .before in
     compile-ran (bundleIn (room .before .before .before .args .bytes .now)) (room .code .ensures) (compiled .compiled .ensures) (place .before .number .ensures .0) (place .place .ensures)
-    (lines .before .before .before .if1 .left) (lines .ran-lines .ensures)
+    (lines .before .before .before .if1 .left) (array-share-prefix-code (lines .before .before .before)) (lines .ran-lines .ensures)
 
 pub compiled-lines-spec : {M : Type 1} → statement M
 compiled-lines-spec =

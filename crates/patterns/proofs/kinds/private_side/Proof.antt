@@ -1,6 +1,7 @@
 use mathlib.Core.Path.{_∙_}
 use Rattle.patterns.specs.Row.{fieldsOf}
-use Rattle.patterns.proofs.KindLaws.{one-of-pair, plain-else}
+use Rattle.word.proofs.OneOfLaws.{one-of-pair}
+use Rattle.patterns.proofs.KindLaws.{plain-else}
 use borrow.Author.Needs.{needs}
 use Rattle.patterns.proofs.kinds.private_side.Statement.{statement}
 use Rattle.patterns.proofs.kinds.private_side.Tie as tie

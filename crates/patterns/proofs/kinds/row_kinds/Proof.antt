@@ -1,6 +1,7 @@
+use native.Mathlib.Omega.{arith}
 use Rattle.patterns.specs.Row.{fieldsOf}
 use Rattle.patterns.specs.RowKinds.{kindsBy}
-use Rattle.patterns.proofs.ArmLaws.{past}
+use Rattle.word.proofs.ArmLaws.{past}
 use Rattle.patterns.proofs.KindLaws.{other-way, kinds-past}
 use borrow.Author.Needs.{needs}
 use Rattle.patterns.proofs.kinds.row_kinds.Statement.{statement}
@@ -70,7 +71,7 @@ returns-10 c = rw (← c .before .tag .ensures, c .match .keys10)
 returns-11 : tie.Need-returns-11
 returns-11 c =
     let word = c .before .before .before .before .before .before .before .args .word in
-    rw (kinds-past _ _ (fieldsOf word) (rw (← c .before .tag .ensures) (past (c .before .tag .result) 10 (c .match .rest))), c .before .before .before .before .kind-of .ensures, c .before .before .before .before .before .variable .ensures)
+    rw (kinds-past _ _ (fieldsOf word) (rw (← c .before .tag .ensures) (past 0 10 (c .before .tag .result) (c .match .rest) (omega arith))), c .before .before .before .before .kind-of .ensures, c .before .before .before .before .before .variable .ensures)
 
 pub row-kinds-spec : {M : Type 1} → statement M
 row-kinds-spec =

@@ -1,6 +1,7 @@
+use native.Mathlib.Omega.{arith}
 use borrow.Author.Needs.{needs}
 use borrow.Author.Tests.{le-ltb}
-use Rattle.patterns.proofs.ArmLaws.{past}
+use Rattle.word.proofs.ArmLaws.{past}
 use Rattle.patterns.proofs.rules.row_fits.Statement.{statement}
 use Rattle.patterns.proofs.rules.row_fits.Tie as tie
 
@@ -71,7 +72,7 @@ returns-10 : tie.Need-returns-10
 returns-10 c = rw (← c .before .before .tag .ensures, c .before .match .keys10, c .form-fits10 .ensures)
 
 returns-11 : tie.Need-returns-11
-returns-11 c = rw (← c .before .tag .ensures, le-ltb _ _ (past (c .before .tag .result) 10 (c .match .rest)))
+returns-11 c = rw (← c .before .tag .ensures, le-ltb _ _ (past 0 10 (c .before .tag .result) (c .match .rest) (omega arith)))
 
 pub row-fits-spec : {M : Type 1} → statement M
 row-fits-spec =

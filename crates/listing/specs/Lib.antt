@@ -1,2 +1,0 @@
--- A bundle, compiled.
-pub mod Compiled

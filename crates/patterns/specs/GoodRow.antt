@@ -1,0 +1,69 @@
+-- Refusal 4 in the words of document 01.
+use Prim.Native.Nat.{ℕ, _<_, _≤_}
+use mathlib.Core.Path.{_≡_}
+use mathlib.Core.Logic.{_⊎_}
+use mathlib.Core.List.{List, [], _∷_}
+use lib.ListN.{length, getD, drop}
+use Rattle.word.specs.All.{All}
+use Rattle.patterns.specs.Row.{Fields, fieldsOf, children, childrenOf}
+
+-- fields that a form does not use
+abbrev pub Zero : List ℕ → Type 0
+Zero fields = All (λ field. field ≡ 0) fields
+
+-- F=0 variable X; F=1 X : op(Y); F=2 X : keyOf(Y); F=3 is bad. X above 63 is bad in a key
+pub record GoodKey (row : Fields) : Type 0 where
+  pub form : row .f ≤ 2
+  pub variable : row .x ≤ 63
+  pub alone : row .f ≡ 0 → row .y ≡ 0
+
+pub record GoodRow (place : ℕ) (row : Fields) : Type 0 where
+  pub tag : row .tag < 10
+  pub object : row .tag ≡ 0 → Zero (row .f ∷ row .x ∷ row .y ∷ row .r ∷ row .n ∷ [])
+  pub raw : row .tag ≡ 1 → Zero (row .v ∷ row .f ∷ row .x ∷ row .y ∷ row .n ∷ [])
+  pub constant : row .tag ≡ 2 → Zero (row .f ∷ row .y ∷ row .r ∷ row .n ∷ [])
+  pub opposite : row .tag ≡ 3 → Zero (row .f ∷ row .x ∷ row .r ∷ row .n ∷ [])
+  pub keyOf : row .tag ≡ 4 → Zero (row .f ∷ row .x ∷ row .r ∷ row .n ∷ [])
+  pub encryption : row .tag ≡ 5 → GoodKey row × (row .n ≡ 1) × Zero (row .r ∷ [])
+  pub signature : row .tag ≡ 6 → GoodKey row × Zero (row .n ∷ [])
+  pub hash : row .tag ≡ 7 → Zero (row .f ∷ row .x ∷ row .y ∷ row .n ∷ [])
+  pub tuple : row .tag ≡ 8 → (row .n ≤ 4) × Zero (row .f ∷ row .x ∷ row .y ∷ row .r ∷ [])
+  pub letIn : row .tag ≡ 9 → (row .n ≡ 2) × Zero (row .v ∷ row .f ∷ row .x ∷ row .y ∷ [])
+  -- slots past the children, and the last bit
+  pub rest : Zero (drop (row .n) (row .slots))
+  pub spare : row .spare ≡ 0
+  -- a child has a smaller number than its owner
+  pub below : All (λ child. child < place) (children row)
+
+abbrev pub fieldsAt : List ℕ → ℕ → Fields
+fieldsAt rows place = fieldsOf (getD rows place 0)
+
+abbrev pub childrenAt : List ℕ → ℕ → List ℕ
+childrenAt rows place = childrenOf (getD rows place 0)
+
+-- a slot of a row names a child
+pub record Names (rows : List ℕ) (owner slot child : ℕ) : Type 0 where
+  pub inside : owner < length rows
+  pub used : slot < length (childrenAt rows owner)
+  pub here : getD (childrenAt rows owner) slot 0 ≡ child
+
+-- a child is taken already, by a row before or by a slot before
+pub record TakenBefore (rows : List ℕ) (place slot child : ℕ) : Type 0 where
+  pub owner : ℕ
+  pub other : ℕ
+  pub names : Names rows owner other child
+  pub before : (owner < place) ⊎ ((owner ≡ place) × (other < slot))
+
+pub record NamesTaken (rows : List ℕ) (place : ℕ) : Type 0 where
+  pub slot : ℕ
+  pub child : ℕ
+  pub names : Names rows place slot child
+  pub taken : TakenBefore rows place slot child
+
+-- a row that is bad in itself, or names a child already taken
+abbrev pub BadRow : List ℕ → ℕ → Type 0
+BadRow rows place = (GoodRow place (fieldsAt rows place) → ⊥) ⊎ NamesTaken rows place
+
+-- a row that nobody names
+abbrev pub Unnamed : List ℕ → ℕ → Type 0
+Unnamed rows place = (owner slot : ℕ) → Names rows owner slot place → ⊥
