@@ -9,9 +9,8 @@ use borrow.Author.Tests.{le-leb, lt-leb, eq-eqb, ne-eqb}
 use Rattle.answers.specs.Numbers.{compiledNumber, compiledPlace}
 use Rattle.answers.specs.declared.Compiled.{Compiled}
 use Rattle.answers.specs.declared.Compiled.the-variants.{Done, CodeTooShort}
-use Rattle.theory.specs.Compile.{CompileOutcome, leaves, written, compile}
+use Rattle.theory.specs.Compile.{CompileOutcome, leaves, written, compile, usedPart}
 use Rattle.compiler.specs.Buffer.{Compiles}
-use Rattle.compiler.specs.Used.{usedPart}
 
 -- the used part
 pub part-fits : (n : ℕ) (code : List ℕ) → n ≤ length code → take n code ≡ usedPart n code

@@ -1,5 +1,4 @@
 -- Laws of compile.
-pub mod CopyLaws
 pub mod CellLaws
 pub mod LookLaws
 pub mod RowLaws

@@ -1,19 +1,18 @@
 -- What compile finds before the walk, in the checks' order.
 use Prim.Native.Nat.{ℕ, _≤_}
 use mathlib.Core.Path.{_≡_, refl}
-use mathlib.Core.Bool.{Bool, true, false, _&&_}
+use mathlib.Core.Bool.{Bool, true, false}
 use mathlib.Core.Option.{Option, none, some}
 use mathlib.Core.List.{List}
 use native.Mathlib.Omega.{arith}
-use lib.Dec.{T, eqb, leb}
 use lib.ListN.{length}
-use Rattle.word.proofs.TestLaws.{equals, at-most}
 use Rattle.answers.specs.declared.Compiled.{Compiled}
 use Rattle.answers.specs.declared.Compiled.the-variants.{Limit, BadStore, BadPattern, WrongKind}
 use Rattle.stores.specs.Valid.{declared}
 use Rattle.patterns.specs.Rules.{badPattern}
 use Rattle.patterns.specs.Kinds.{wrongKind}
 use Rattle.theory.specs.Compile.{first, kindIn, lengthsFit, refusals}
+use Rattle.theory.proofs.CompileLaws.{compile-within}
 use Rattle.compiler.specs.Buffer.{findingOf}
 use Rattle.compiler.specs.declared.Finding.{Finding}
 use Rattle.compiler.specs.declared.Finding.the-variants.{Refused, Accepted}
@@ -26,35 +25,7 @@ pub found-none : (o : Option Compiled) → Accepted ≡ findingOf o → o ≡ no
 found-none none e = refl
 found-none (some other) e = absurd (let z : _≡_ {A = ℕ} 0 1 = cc in omega arith)
 
-five : (a b c d e : Bool) → T (a && b && c && d && e) → T a × T b × T c × T d × T e
-five true true true true true h = (tt, tt, tt, tt, tt)
-five false b c d e h = absurd h
-five true false c d e h = absurd h
-five true true false d e h = absurd h
-five true true true false e h = absurd h
-five true true true true false h = absurd h
-
 module _ (create : Bool) (pattern kinds objects named : List ℕ) where
-  -- 1
-  pub record Lengths : Type 0 where
-    pub some-rows : 1 ≤ length pattern
-    pub few-rows : length pattern ≤ 96
-    pub all-kinds : length kinds ≡ 64
-    pub all-objects : length objects ≡ 64
-    pub all-named : length named ≡ 64
-
-  pub lengths : T (lengthsFit create pattern kinds objects named) → Lengths
-  lengths h =
-      let (least, most, all-kinds, all-objects, all-named) =
-      five (leb 1 (length pattern)) (leb (length pattern) 96) (eqb (length kinds) 64) (eqb (length objects) 64) (eqb (length named) 64) h in
-      record {
-        some-rows = at-most 1 (length pattern) .0 least;
-        few-rows = at-most (length pattern) 96 .0 most;
-        all-kinds = equals (length kinds) 64 .0 all-kinds;
-        all-objects = equals (length objects) 64 .0 all-objects;
-        all-named = equals (length named) 64 .0 all-named;
-      }
-
   abbrev finding : Finding
   finding = findingOf (first (refusals create pattern kinds objects named))
 
@@ -64,7 +35,7 @@ module _ (create : Bool) (pattern kinds objects named : List ℕ) where
 
   module _ (fits : lengthsFit create pattern kinds objects named ≡ true) where
     pub few : length pattern ≤ 96
-    few = lengths (rw fits tt) .few-rows
+    few = compile-within create pattern kinds objects named .0 (rw fits tt) .pattern-rows .1
 
     pub found-store : declared kinds objects ≡ false → Refused BadStore ≡ finding
     unfolding first

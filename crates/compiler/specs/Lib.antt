@@ -1,3 +1,2 @@
 -- Compile over a buffer, and over the lent slice.
 pub mod Buffer
-pub mod Used

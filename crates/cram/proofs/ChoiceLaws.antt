@@ -3,10 +3,6 @@ use mathlib.Core.Path.{_≡_, refl}
 use mathlib.Core.Bool.{Bool, true, false, cond}
 use lib.Dec.{T}
 
-pub is-false : (b : Bool) → (T b → ⊥) → b ≡ false
-is-false true h = absurd (h tt)
-is-false false h = refl
-
 module _ {A : Type 0} where
   pub where-true : (b : Bool) (one other : A) → T b → one ≡ cond b one other
   where-true true one other t = refl

@@ -9,7 +9,7 @@ use lib.ListN.{length, take, drop, take-append-drop}
 use lib.Seq.{drop-at, length-take-le}
 use Rattle.word.specs.Bytes.{elements, spelled}
 use Rattle.word.proofs.ByteLaws.{Below, length-words, length-spelled, spelled-append, spelled-elements}
-use Rattle.word.proofs.TestLaws.{both, equals, at-most}
+use Rattle.word.proofs.TestLaws.{both, equals, at-most, is-false}
 use Rattle.answers.specs.Numbers.{compiledNumber, compiledPlace}
 use Rattle.answers.specs.declared.Compiled.{Compiled}
 use Rattle.answers.specs.declared.Compiled.the-variants.{Done, Limit, CodeTooShort}
@@ -18,7 +18,7 @@ use Rattle.compiler.specs.Buffer.{Compiles}
 use Rattle.compiler.proofs.DeliveryLaws.{too-short, all-fit, compile-refused, compile-done}
 use Rattle.running.proofs.LookLaws.{true-holds}
 use Rattle.cram.specs.Entries.{CompileLeft, compiledNumbers, compileSpelled, compileRefused, compileWhole, compileEntry}
-use Rattle.cram.proofs.ChoiceLaws.{is-false, where-true, either-way}
+use Rattle.cram.proofs.ChoiceLaws.{where-true, either-way}
 
 -- words that come to bytes
 module _ (words code : List ℕ) (exact : length code % 4 ≡ 0) (below : Below 256 code) where

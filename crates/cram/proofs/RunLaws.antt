@@ -9,7 +9,7 @@ use lib.Dec.{T, eqb, leb}
 use lib.ListN.{length}
 use Rattle.word.specs.Bytes.{whole, elements, spelled}
 use Rattle.word.proofs.ByteLaws.{Below, length-words, spelled-elements}
-use Rattle.word.proofs.TestLaws.{both, equals, at-most}
+use Rattle.word.proofs.TestLaws.{both, equals, at-most, is-false}
 use Rattle.answers.specs.Numbers.{ranNumber, ranPlace, ranReason}
 use Rattle.answers.specs.declared.Ran.{Ran}
 use Rattle.answers.specs.declared.Ran.the-variants.{Limit}
@@ -20,7 +20,7 @@ use Rattle.running.proofs.LookLaws.{true-holds, found-some, found-limit, run-re
 use Rattle.running.proofs.AttemptLaws.{attempted, withCells, copies-done, copies-not-done}
 use Rattle.cram.specs.declared.RunAnswer.{RunAnswer}
 use Rattle.cram.specs.Entries.{RunLeft, ranNumbers, runWhole, lentElements, cellsSpelled, rowsSpelled, runSpelled, runRefused, runEntry}
-use Rattle.cram.proofs.ChoiceLaws.{is-false, where-true, either-way}
+use Rattle.cram.proofs.ChoiceLaws.{where-true, either-way}
 
 module _ (x : Lent) (code : List ℕ) where
   abbrev pub bytesFit : Bool

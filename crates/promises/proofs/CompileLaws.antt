@@ -20,11 +20,10 @@ use Rattle.theory.specs.Machine.{Line}
 use Rattle.theory.specs.Emission.{Env, Emitted, ok, refuse}
 use Rattle.theory.specs.Compile.{CompileOutcome, when, first, kindIn, variables, codeWords, leaves, finished, lengthsFit, emitted, compileBy, compile}
 use Rattle.theory.proofs.InLimits.{Refusal, written, read}
-use Rattle.theory.proofs.CompileLaws.{passes-when, fails-when, Checked}
+use Rattle.theory.proofs.CompileLaws.{passes-when, fails-when, Checked, compile-within}
 use Rattle.theory.proofs.Product.{checked-refuses}
 use Rattle.promises.specs.Answers.{CompileAnswers, compileNumber}
 use Rattle.promises.specs.Conditions.{Emits}
-use Rattle.promises.proofs.ConditionLaws.{compile-within}
 
 module _ (create : Bool) (pattern kinds objects named slice : List ℕ) where
   abbrev fit : Bool

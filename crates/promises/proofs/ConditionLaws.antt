@@ -15,15 +15,7 @@ use Rattle.stores.specs.Valid.{kindsFit, eachVariable, undeclaredUnset, declare
 use Rattle.stores.proofs.ValidLaws.{declared-stores}
 use Rattle.theory.specs.Compile.{kindIn, variables}
 use Rattle.theory.specs.Compile as Compile
-use Rattle.promises.specs.Conditions.{cell, CompileWithin, BadVariable}
-
--- 1
-pub compile-within : (create : Bool) (pattern kinds objects named : List ℕ) → T (Compile.lengthsFit create pattern kinds objects named) ↔ CompileWithin pattern kinds objects named
-compile-within create pattern kinds objects named =
-    simp (both, equals, at-most) (
-      λ h. record { pattern-rows = h .0 .0 .0; kinds-length = h .0 .0 .1; objects-length = h .0 .1; named-length = h .1 },
-      λ w. (((w .pattern-rows, w .kinds-length), w .objects-length), w .named-length),
-    )
+use Rattle.promises.specs.Conditions.{cell, BadVariable}
 
 -- 3, in compile
 -- a list that fails has an element that fails

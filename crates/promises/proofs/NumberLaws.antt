@@ -19,7 +19,7 @@ use Rattle.patterns.proofs.RightRow.{wrong-kind-at, wrong-kind-none}
 use Rattle.theory.specs.Outcome.{stuck}
 use Rattle.theory.specs.Compile.{CompileOutcome, kindIn, compile}
 use Rattle.theory.specs.Run.{Lent, stateOf, linesOf, run}
-use Rattle.theory.proofs.CompileLaws.{Checked}
+use Rattle.theory.proofs.CompileLaws.{Checked, compile-within}
 use Rattle.theory.proofs.Models.{calm-rows}
 use Rattle.theory.proofs.RunLaws.{stepsOf, Passed, run-within, stores-valid, passed-valid, valid-passes}
 use Rattle.promises.specs.Answers.{CompileAnswers, RunAnswers}
@@ -29,7 +29,7 @@ use Rattle.promises.specs.Demand1.{CompileTable, RunTable}
 use Rattle.promises.proofs.StepLaws.{reason-back, exec-reasoned}
 use Rattle.promises.proofs.RunLaws.{RunGives, ranOf, answered, answered-stuck, gives-run, run-unchanged}
 use Rattle.promises.proofs.WalkLaws.{after-all, at-stuck, at-room}
-use Rattle.promises.proofs.ConditionLaws.{compile-within, bad-variable}
+use Rattle.promises.proofs.ConditionLaws.{bad-variable}
 use Rattle.promises.proofs.CompileLaws.{CompileGives, compiledOf, compile-answered, gives-compile, compile-unchanged}
 use Rattle.promises.proofs.TableLaws.{done-after, stuck-there, room-there}
 

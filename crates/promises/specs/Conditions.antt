@@ -18,20 +18,13 @@ use Rattle.theory.specs.Machine.{Line}
 use Rattle.theory.specs.Emission.{Env, Emitted, ok}
 use Rattle.theory.specs.Compile.{kindIn, variables, mostPatternRows, tables, entry}
 use Rattle.theory.specs.Run.{Lent, mostCodeWords}
-pub use Rattle.theory.specs.Valid.{LentWithin, ValidStores, Valid}
+pub use Rattle.theory.specs.Valid.{CompileWithin, LentWithin, ValidStores, Valid}
 
 -- a cell by its number
 abbrev pub cell : List ℕ → ℕ → ℕ
 cell cells i = getD cells i unset
 
 -- COMPILE
-
--- not 1: 1 to 96 pattern rows, 64 kinds, 64 object cells, 64 named cells
-pub record CompileWithin (pattern kinds objects named : List ℕ) : Type 0 where
-  pub pattern-rows : (1 ≤ length pattern) × (length pattern ≤ mostPatternRows)
-  pub kinds-length : length kinds ≡ variables
-  pub objects-length : length objects ≡ variables
-  pub named-length : length named ≡ variables
 
 -- 3: a kind above 10, or an undeclared variable that is set
 pub record BadVariable (kinds objects : List ℕ) : Type 0 where

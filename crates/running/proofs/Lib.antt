@@ -1,6 +1,5 @@
 -- Laws of a run.
 pub mod ClearLaws
-pub mod CopyLaws
 pub mod CellLaws
 pub mod WordLaws
 pub mod GoingLaws

@@ -8,19 +8,18 @@ use mathlib.Core.List.{List, [], _∷_}
 use native.Mathlib.Omega.{arith}
 use lib.Dec.{T, eqb, leb, ltb}
 use lib.ListN.{length}
-use Rattle.word.proofs.TestLaws.{both, twice, equals, at-most}
+use Rattle.word.proofs.TestLaws.{both, twice, equals, is-false}
 use Rattle.answers.specs.declared.Ran.{Ran}
 use Rattle.answers.specs.declared.Ran.the-variants.{Limit, BadTerm, BadStore, BadWord}
 use Rattle.code.specs.Words.{badWord}
 use Rattle.terms.specs.Rules.{usedRows, badTerm, checkedBy}
 use Rattle.terms.specs.declared.Checked.{Checked}
 use Rattle.terms.specs.declared.Checked.the-variants.{Bad, Used}
-use Rattle.terms.proofs.TableLaws.{valid-table, used-rows}
-use Rattle.stores.specs.Valid.{valid}
-use Rattle.stores.proofs.ValidLaws.{valid-stores}
+use Rattle.terms.proofs.TableLaws.{used-rows}
 use Rattle.theory.specs.Compile.{first, kindIn}
 use Rattle.theory.specs.Run.{Lent, RunOutcome, unchanged, lengthsFit, refusals, runBy, run}
 use Rattle.theory.proofs.CompileLaws.{first-none, when-none, map-none}
+use Rattle.theory.proofs.RunLaws.{storesFit, Passed, passed-valid, run-within}
 use Rattle.running.specs.Steps.{Ready, findingOf}
 use Rattle.running.specs.declared.Finding.{Finding}
 use Rattle.running.specs.declared.Finding.the-variants.{Refused, Accepted}
@@ -47,24 +46,9 @@ module _ (rows : List ℕ) where
   found-none none e = (refl, cc)
   found-none (some other) e = absurd (let z : _≡_ {A = ℕ} 0 1 = cc in omega arith)
 
--- 1
-pub record Lengths (x : Lent) (code : List ℕ) : Type 0 where
-  pub objects-length : length (x .objects) ≡ 64
-  pub messages-length : length (x .messages) ≡ 256
-  pub few-rows : length (x .terms) ≤ 4096
-  pub few-words : length code ≤ 768
-
-pub lengths : {x : Lent} {code : List ℕ} → T (lengthsFit x code) → Lengths x code
-lengths {x} {code} h =
-    let t = simp (both, equals, at-most) at h in
-    record { objects-length = t .0 .0 .0 .0 .0 .1; messages-length = t .0 .0 .0 .0 .1; few-rows = t .0 .0 .1; few-words = t .1 }
-
 module _ (x : Lent) (code : List ℕ) where
   abbrev finding : Finding
   finding = findingOf (first (refusals x code)) (x .terms)
-
-  abbrev pub storesFit : Bool
-  storesFit = valid (x .terms) (usedRows (x .terms)) (x .kinds) (x .objects) (x .messages) (x .certificates) (x .accumulator)
 
   abbrev pub cellsWhole : Bool
   cellsWhole = eqb (length (x .objects)) 64 && eqb (length (x .messages)) 256
@@ -82,11 +66,11 @@ module _ (x : Lent) (code : List ℕ) where
     found-term e = rw (fits, e)
 
     module _ (rows : badTerm (x .terms) (x .counter) ≡ none) where
-      pub found-store : storesFit ≡ false → Refused BadStore ≡ finding
+      pub found-store : storesFit x ≡ false → Refused BadStore ≡ finding
       unfolding first
       found-store e = rw (fits, rows, e)
 
-      module _ (stores : storesFit ≡ true) where
+      module _ (stores : storesFit x ≡ true) where
         pub found-word : {word : ℕ} → badWord (kindIn (x .kinds)) code ≡ some word → Refused (BadWord word) ≡ finding
         unfolding first
         found-word e = rw (fits, rows, stores, e)
@@ -102,36 +86,26 @@ module _ (x : Lent) (code : List ℕ) where
 
   -- 1, by the lengths of the cells
   pub run-limit : cellsWhole ≡ false → unchanged Limit x ≡ run x code
-  run-limit short = go (lengthsFit x code) refl
+  run-limit short = run-refused (found-some (x .terms) _ (found-limit (is-false (lengthsFit x code) λ t. rw short at (whole t))))
     where
-      go : (b : Bool) → lengthsFit x code ≡ b → unchanged Limit x ≡ run x code
-      go true e =
-          let long = lengths {x = x} {code = code} (true-holds e) in
-          let whole : T cellsWhole = simp (both, equals) (long .objects-length, long .messages-length) in
-          absurd (rw short at whole)
-      go false e = run-refused (found-some (x .terms) _ (found-limit e))
+      whole : T (lengthsFit x code) → T cellsWhole
+      whole t = let within = run-within x code .0 t .0 in simp (both, equals) (within .objects, within .messages)
 
   pub run-stepped : first (refusals x code) ≡ none → runBy x code none ≡ run x code
   unfolding run
   run-stepped e = rw e
 
   -- every check passed
-  pub record Passed : Type 0 where
-    pub long : Lengths x code
-    pub rows : badTerm (x .terms) (x .counter) ≡ none
-    pub stores : T storesFit
-    pub words : badWord (kindIn (x .kinds)) code ≡ none
-
-  pub passed : first (refusals x code) ≡ none → Passed
+  pub passed : first (refusals x code) ≡ none → Passed x code
   passed e =
       let (limits, e) = first-none _ _ e in
       let (rows, e) = first-none _ _ e in
       let (stores, e) = first-none _ _ e in
       let (words, e) = first-none _ _ e in
       record {
-        long = lengths (twice (lengthsFit x code) .0 (when-none (not (lengthsFit x code)) Limit limits));
+        lengths = twice (lengthsFit x code) .0 (when-none (not (lengthsFit x code)) Limit limits);
         rows = map-none BadTerm (badTerm (x .terms) (x .counter)) rows;
-        stores = twice storesFit .0 (when-none (not storesFit) BadStore stores);
+        stores = twice (storesFit x) .0 (when-none (not (storesFit x)) BadStore stores);
         words = map-none BadWord (badWord (kindIn (x .kinds)) code) words;
       }
 
@@ -139,14 +113,16 @@ module _ {x : Lent} {code : List ℕ} (p : Passed x code) where
   -- unset, or a used row
   pub accumulator-small : x .accumulator < 65536
   accumulator-small =
-      ⊎-elim (λ e. omega (arith, e)) (λ l. omega (arith, l, used-rows (x .terms) .inside, p .long .few-rows))
-      (valid-stores (x .terms) (usedRows (x .terms)) (x .kinds) (x .objects) (x .messages) (x .certificates) (x .accumulator) .0 (p .stores) .held)
+      let v = passed-valid p in
+      ⊎-elim (λ e. omega (arith, e)) (λ l. omega (arith, l, used-rows (x .terms) .inside, v .within .terms)) (v .stores .held)
 
   pub ready : {used : ℕ} → used ≡ usedRows (x .terms) → Ready x used code
-  ready {used} counted = record {
-    counted = counted;
-    within = record { used-rows = rw counted (used-rows (x .terms) .inside); few-rows = p .long .few-rows };
-    zeros = rw counted (valid-table (x .terms) (x .counter) .0 (p .rows) .zeros);
-    good-words = p .words;
-    few-words = p .long .few-words;
-  }
+  ready {used} counted =
+      let v = passed-valid p in
+      record {
+        counted = counted;
+        within = record { used-rows = rw counted (used-rows (x .terms) .inside); few-rows = v .within .terms };
+        zeros = rw counted (v .table .zeros);
+        good-words = p .words;
+        few-words = run-within x code .0 (p .lengths) .1;
+      }

@@ -1,5 +1,6 @@
 -- What an answer of compile says: each check in its order, then emission, then the room in the slice.
 use mathlib.Core.Path.{_≡_, refl, sym, _∙_, subst}
+use mathlib.Core.Logic.{_↔_}
 use mathlib.Core.Bool.{Bool, true, false, cond, not}
 use mathlib.Core.Option.{Option, none, some, Option·map}
 use mathlib.Core.List.{List, [], _∷_, _++_}
@@ -9,7 +10,7 @@ use borrow.Author.Tests.{le-leb}
 use lib.Dec.{T, leb}
 use lib.ListN.{length, take, drop, length-map, length-take, length-append}
 use lib.Seq.{take-append-seam}
-use Rattle.word.proofs.TestLaws.{twice}
+use Rattle.word.proofs.TestLaws.{both, twice, equals, at-most}
 use Rattle.answers.specs.declared.Compiled.{Compiled}
 use Rattle.answers.specs.declared.Compiled.the-variants.{Done, Limit, BadStore, BadPattern, WrongKind, CodeTooShort}
 use Rattle.code.specs.Instruction.{wordOf}
@@ -19,6 +20,7 @@ use Rattle.patterns.specs.Kinds.{wrongKind}
 use Rattle.theory.specs.Machine.{Line}
 use Rattle.theory.specs.Emission.{Env, Emitted, ok, refuse}
 use Rattle.theory.specs.Compile.{when, first, kindIn, codeWords, usedPart, leaves, finished, lengthsFit, refusals, emitted, compileBy, compile}
+use Rattle.theory.specs.Valid.{CompileWithin}
 use Rattle.theory.proofs.InLimits.{Refusal}
 
 -- an answer that is not done
@@ -28,6 +30,14 @@ NotDone answer = (words : ℕ) → answer ≡ Done words → ⊥
 pub refusal-not-done : {answer : Compiled} → Refusal answer → NotDone answer
 refusal-not-done Refusal.written words e = let z : _≡_ {A = ℕ} 0 1 = cc in omega arith
 refusal-not-done Refusal.read words e = let z : _≡_ {A = ℕ} 0 1 = cc in omega arith
+
+-- 1
+pub compile-within : (create : Bool) (pattern kinds objects named : List ℕ) → T (lengthsFit create pattern kinds objects named) ↔ CompileWithin pattern kinds objects named
+compile-within create pattern kinds objects named =
+    simp (both, equals, at-most) (
+      λ h. record { pattern-rows = h .0 .0 .0; kinds-length = h .0 .0 .1; objects-length = h .0 .1; named-length = h .1 },
+      λ w. (((w .pattern-rows, w .kinds-length), w .objects-length), w .named-length),
+    )
 
 -- the used part, where the slice has so many words; and of a slice with words in front
 pub part-fits : (n : ℕ) (code : List ℕ) → n ≤ length code → usedPart n code ≡ take n code

@@ -7,3 +7,4 @@ pub mod LowestLaws
 pub mod ScanLaws
 pub mod OneOfLaws
 pub mod ArmLaws
+pub mod CopyLaws

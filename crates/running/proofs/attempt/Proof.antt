@@ -7,7 +7,9 @@ use native.Mathlib.Omega.{arith}
 use Rattle.terms.specs.Rules.{usedRows}
 use Rattle.theory.specs.Compile.{first}
 use Rattle.theory.specs.Run.{Lent, refusals}
-use Rattle.running.proofs.LookLaws.{found-some, found-none, run-stepped, Passed, passed, accumulator-small, ready}
+use Rattle.theory.specs.Valid.{LentWithin}
+use Rattle.theory.proofs.RunLaws.{Passed, passed-valid}
+use Rattle.running.proofs.LookLaws.{found-some, found-none, run-stepped, passed, accumulator-small, ready}
 use Rattle.running.proofs.AttemptLaws.{attempt-refused}
 use borrow.Author.Needs.{needs}
 use Rattle.running.proofs.attempt.Statement.{statement}
@@ -38,6 +40,9 @@ module _ (c : tie.After-known-told2) where
   passes : Passed (x start) (words start)
   passes = passed (x start) (words start) (found .0)
 
+  within : LentWithin (x start)
+  within = passed-valid passes .within
+
 look-requires : tie.Need-look-requires
 look-requires c κs = search needs
 
@@ -51,7 +56,7 @@ cast-t24 : tie.Need-cast-t24
 cast-t24 c = omega (arith, accumulator-small (passes (c)))
 
 steps-requires : tie.Need-steps-requires
-steps-requires c κs = let p = c .before .before .before in ((passes p .long .objects-length, passes p .long .messages-length), ready (passes p) (found p .1))
+steps-requires c κs = let p = c .before .before .before in ((within p .objects, within p .messages), ready (passes p) (found p .1))
 
 cast-t32 : tie.Need-cast-t32
 cast-t32 c = search needs

@@ -4,7 +4,7 @@ use mathlib.Core.Path.{_∙_}
 use native.Mathlib.Omega.{arith}
 use borrow.Author.Needs.{needs, scaled-fits}
 use lib.ListN.{length}
-use Rattle.compiler.proofs.CopyLaws.{Copied, copied-none, copied-more, copied-all}
+use Rattle.word.proofs.CopyLaws.{Copied, copied-none, copied-more, copied-all}
 use Rattle.compiler.proofs.delivery.copy.Statement.{statement}
 use Rattle.compiler.proofs.delivery.copy.Tie as tie
 

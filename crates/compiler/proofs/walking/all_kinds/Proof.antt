@@ -1,7 +1,7 @@
 -- Up to the variable the kinds are copied.
 use Prim.Native.Nat.{_-_}
 use native.Mathlib.Omega.{arith}
-use Rattle.compiler.proofs.CopyLaws.{Copied, copied-none, copied-more, copied-whole}
+use Rattle.word.proofs.CopyLaws.{Copied, copied-none, copied-more, copied-whole}
 use Rattle.compiler.proofs.walking.all_kinds.Statement.{statement}
 use Rattle.compiler.proofs.walking.all_kinds.Tie as tie
 

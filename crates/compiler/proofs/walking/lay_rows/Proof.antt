@@ -2,7 +2,7 @@
 use Prim.Native.Nat.{_-_}
 use native.Mathlib.Omega.{arith}
 use borrow.Author.Needs.{needs, scaled-fits}
-use Rattle.compiler.proofs.CopyLaws.{Copied, copied-none, copied-more, copied-all}
+use Rattle.word.proofs.CopyLaws.{Copied, copied-none, copied-more, copied-all}
 use Rattle.compiler.proofs.walking.lay_rows.Statement.{statement}
 use Rattle.compiler.proofs.walking.lay_rows.Tie as tie
 

@@ -4,18 +4,18 @@ use mathlib.Core.Path.{_≡_, refl, sym, _∙_}
 use native.Mathlib.Omega.{arith}
 use borrow.Author.Needs.{needs, scaled-fits}
 use lib.ListN.{length, getD, length-set}
-use Rattle.running.proofs.CopyLaws.{Copied, copied-none, copied-more, copied-all}
+use Rattle.word.proofs.CopyLaws.{Copied, copied-none, copied-more, copied-whole}
 use Rattle.running.proofs.cells.copy.Statement.{statement}
 use Rattle.running.proofs.cells.copy.Tie as tie
 
 abbrev Inv-loop : tie.InvT-loop
-Inv-loop from to₀ cell₀ to cell = Copied from to cell
+Inv-loop from to₀ cell₀ to cell = Copied from to₀ to cell
 
 abbrev μ-loop : tie.MeasureT-loop
 μ-loop from to₀ cell₀ to cell = length from - cell
 
 loop-holds : tie.Need-loop-holds Inv-loop μ-loop
-loop-holds c = copied-none (c .pre)
+loop-holds c = copied-none (omega (arith, c .pre))
 
 mul-to : tie.Need-mul-to Inv-loop μ-loop
 mul-to c = scaled-fits (c .before .loop .cell) _ 2 (c .loop-test .taken) (c .before .before .good .0 .1)
@@ -36,13 +36,13 @@ loop-less : tie.Need-loop-less Inv-loop μ-loop
 loop-less c = omega arith
 
 loop-again : tie.Need-loop-again Inv-loop μ-loop
-loop-again c = copied-more (c .before .loop-test .taken) (c .before .before .loop .inv)
+loop-again c = copied-more (c .before .before .loop .inv) (c .before .loop-test .taken)
 
 same-length : tie.Need-same-length Inv-loop μ-loop
-same-length c = sym (c .before .loop .inv .long) ∙ c .before .before .pre
+same-length c = c .before .loop .inv .long
 
 returns : tie.Need-returns Inv-loop μ-loop
-returns c = copied-all (c .loop-test .left) (c .before .loop .inv)
+returns c = copied-whole (c .before .loop .inv) (omega (arith, c .before .before .pre)) (c .loop-test .left)
 
 pub copy-spec : {M : Type 1} → statement M
 copy-spec =

@@ -5,13 +5,16 @@ use mathlib.Core.Bool.{true}
 use mathlib.Core.Option.{none}
 use mathlib.Core.List.{List}
 use native.Mathlib.Omega.{arith}
+use lib.ListN.{length}
 use borrow.Author.Needs.{needs}
 use borrow.Author.Tests.{not-true, not-false}
 use Rattle.terms.specs.Rules.{usedRows, badTerm}
 use Rattle.word.proofs.ScanLaws.{placed-at, placed-nowhere}
 use Rattle.terms.proofs.TableLaws.{used-rows}
-use Rattle.theory.specs.Run.{Lent, lengthsFit}
-use Rattle.running.proofs.LookLaws.{checked-bad, checked-used, Lengths, lengths, true-holds, storesFit, found-limit, found-term, found-store, found-word, found-accepted}
+use Rattle.theory.specs.Run.{Lent, lengthsFit, mostCodeWords}
+use Rattle.theory.specs.Valid.{LentWithin}
+use Rattle.theory.proofs.RunLaws.{storesFit, run-within}
+use Rattle.running.proofs.LookLaws.{checked-bad, checked-used, true-holds, found-limit, found-term, found-store, found-word, found-accepted}
 use Rattle.running.proofs.looking.look.Statement.{statement}
 use Rattle.running.proofs.looking.look.Tie as tie
 
@@ -37,8 +40,8 @@ module _ (c : tie.Else1) where
   fits : lengthsFit (x start) (words start) ≡ true
   fits = sym (c .before .lengths-fit .ensures) ∙ not-false _ (c .if1 .left)
 
-  long : Lengths (x start) (words start)
-  long = lengths (true-holds fits)
+  long : LentWithin (x start) × (length (words start) ≤ mostCodeWords)
+  long = run-within (x start) (words start) .0 (true-holds fits)
 
 module _ (c : tie.After-known-told2) where
   abbrev table : List ℕ
@@ -48,7 +51,7 @@ module _ (c : tie.After-known-told2) where
   counted = checked-used table _ (c .before .before .before .first-bad-row .ensures) (c .before .checked2 .given .1)
 
 module _ (c : tie.Else2) where
-  stores : storesFit (x (start (c .before .before .before .before .before .before))) (words (start (c .before .before .before .before .before .before))) ≡ true
+  stores : storesFit (x (start (c .before .before .before .before .before .before))) ≡ true
   stores = rw (← counted (c .before .before) .1) (sym (c .before .valid .ensures) ∙ not-false _ (c .if2 .left))
 
 lengths-fit-requires : tie.Need-lengths-fit-requires
@@ -58,7 +61,7 @@ returns : tie.Need-returns
 returns c = found-limit (x (c .before .before .before .before .before .before .before .before)) (words (c .before .before .before .before .before .before .before .before)) (sym (c .before .lengths-fit .ensures) ∙ not-true _ (c .if1 .taken))
 
 first-bad-row-requires : tie.Need-first-bad-row-requires
-first-bad-row-requires c κs = long c .few-rows
+first-bad-row-requires c κs = long c .0 .terms
 
 enum-known-checked : tie.Need-enum-known-checked
 enum-known-checked c = search needs
@@ -67,7 +70,7 @@ enum-known-checked-2 : tie.Need-enum-known-checked-2
 enum-known-checked-2 c = search needs
 
 cast-used : tie.Need-cast-used
-cast-used c = omega (arith, counted c .1, used-rows (table c) .inside, long (c .before .before .before .before) .few-rows)
+cast-used c = omega (arith, counted c .1, used-rows (table c) .inside, long (c .before .before .before .before) .0 .terms)
 
 valid-requires : tie.Need-valid-requires
 valid-requires c κs = search needs
@@ -76,7 +79,7 @@ returns-2 : tie.Need-returns-2
 returns-2 c = let s = start (c .before .before .before .before .before .before) in let p = counted (c .before .before) in found-store (x s) (words s) (fits (c .before .before .before .before .before .before)) (p .0) (rw (← p .1) (sym (c .before .valid .ensures) ∙ not-true _ (c .if2 .taken)))
 
 first-bad-word-requires : tie.Need-first-bad-word-requires
-first-bad-word-requires c κs = omega (arith, long (c .before .before .before .before .before .before) .few-words)
+first-bad-word-requires c κs = omega (arith, long (c .before .before .before .before .before .before) .1)
 
 enum-known-place : tie.Need-enum-known-place
 enum-known-place c = search needs
