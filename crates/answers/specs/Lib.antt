@@ -1,2 +1,3 @@
--- "Numbers that come back".
+-- "Numbers that come back", and the order of checks.
 pub mod Numbers
+pub mod First

@@ -9,7 +9,7 @@ use lib.Seq.{take-all, drop-drop, length-take-le}
 use Rattle.word.specs.Bytes.{elements}
 use Rattle.word.specs.Fields.{split}
 use Rattle.word.proofs.ByteLaws.{length-words}
-use Rattle.theory.specs.Bundle.{bundleOf, kindsOf, cellsOf}
+use Rattle.bundles.specs.Bundle.{bundleOf, kindsOf, cellsOf}
 use Rattle.bundles.specs.Opening.{headerIn, bundleIn, kindsAt, opened}
 use Rattle.bundles.specs.declared.Header.{Header}
 use Rattle.bundles.specs.declared.Opened.the-variants.{Is}

@@ -9,7 +9,7 @@ use Rattle.word.specs.Bytes.{number, words, elements}
 use Rattle.word.specs.Fields.{split, join}
 use Rattle.word.proofs.ByteLaws.{Below, number-word}
 use Rattle.word.proofs.FieldLaws.{Fit, split-join}
-use Rattle.theory.specs.Bundle.{cellsOf}
+use Rattle.bundles.specs.Bundle.{cellsOf}
 use Rattle.bundles.proofs.WordLaws.{front-words, below-drop, the-words, part, the-part, part-long}
 
 pair-below : (bytes : List ℕ) → Below 256 bytes → number (take 2 bytes) < 65536

@@ -8,7 +8,7 @@ use borrow.Author.Tests.{eq-eqb, ne-eqb}
 use lib.ListN.{length, getD, drop}
 use Rattle.word.proofs.ScanLaws.{each-stop, each-next, each-end}
 use Rattle.stores.specs.Certificates.{spareOf}
-use Rattle.theory.specs.Bundle.{clearOf}
+use Rattle.bundles.specs.Bundle.{clearOf}
 
 spare-bits : (word : ℕ) → spareOf word ≡ word % 1099511627776
 unfolding spareOf

@@ -12,7 +12,7 @@ use Rattle.word.specs.Bytes.{number, words, elements}
 use Rattle.word.specs.Fields.{total, split, join}
 use Rattle.word.proofs.ByteLaws.{Below, below-take}
 use Rattle.word.proofs.FieldLaws.{Fit, split-join}
-use Rattle.theory.specs.Bundle.{kindsOf}
+use Rattle.bundles.specs.Bundle.{kindsOf}
 use Rattle.bundles.proofs.WordLaws.{below-drop, the-words}
 
 abbrev pub nibbles : List ℕ → List ℕ

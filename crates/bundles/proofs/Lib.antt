@@ -6,3 +6,4 @@ pub mod KindLaws
 pub mod BundleLaws
 pub mod FillLaws
 pub mod ClearLaws
+pub mod ReadLaws

@@ -9,8 +9,8 @@ use borrow.Author.Tests.{not-true, not-false}
 use lib.ListN.{length, getD, take, drop}
 use Rattle.word.specs.Bytes.{number, words, elements}
 use Rattle.word.proofs.TestLaws.{is-true, is-false}
-use Rattle.theory.specs.Bundle.{headerOf, headerFits, wordsIn, readBundle, HeaderWithin, BundleWithin}
-use Rattle.theory.proofs.BundleLaws.{header-within, read-within, unread-outside, within-read}
+use Rattle.bundles.specs.Bundle.{headerOf, headerFits, wordsIn, readBundle, HeaderWithin, BundleWithin}
+use Rattle.bundles.proofs.ReadLaws.{header-within, read-within, unread-outside, within-read}
 use Rattle.bundles.specs.Opening.{headerIn, bundleIn, held, kindsAt, openedBy, opened}
 use Rattle.bundles.specs.declared.Header.{Header}
 use Rattle.bundles.specs.declared.Opened.the-variants.{Refused, Is}

@@ -1,2 +1,3 @@
 -- Bundles taken apart.
+pub mod Bundle
 pub mod Opening

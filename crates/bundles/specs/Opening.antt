@@ -3,9 +3,9 @@ use Prim.Native.Nat.{ℕ, _+_}
 use mathlib.Core.Option.{Option, none, some}
 use mathlib.Core.List.{List}
 use lib.Dec.{eqb}
-use Rattle.theory.specs.Bundle.{Bundle, readBundle}
-pub use Rattle.theory.specs.Bundle.{headerIn, bundleIn}
-use Rattle.theory.specs.Bundle as theory
+use Rattle.bundles.specs.Bundle.{Bundle, readBundle}
+pub use Rattle.bundles.specs.Bundle.{headerIn, bundleIn}
+use Rattle.bundles.specs.Bundle as theory
 use Rattle.bundles.specs.declared.Header.{Header}
 use Rattle.bundles.specs.declared.Opened.{Opened}
 use Rattle.bundles.specs.declared.Opened.the-variants.{Refused, Is}

@@ -5,9 +5,8 @@ ghost use Prim.Native.Nat.{_+_, _-_, _*_, _≤_};
 ghost use lib.ListN.{length, take, drop, replicate};
 ghost use Rattle.word.specs.Bytes.{elements};
 ghost use Rattle.stores.specs.Cells.{unset};
-ghost use Rattle.theory.specs.Bundle.{headerOf, headerFits, cellsOf, kindsOf};
+ghost use Rattle.bundles.specs.Bundle.{headerOf, headerFits, cellsOf, kindsOf, clearOf};
 ghost use Rattle.bundles.specs.Opening.{bundleIn, held, kindsAt, opened};
-ghost use Rattle.theory.specs.Bundle.{clearOf};
 
 pub struct Header {
     pub create: bool,

@@ -1,8 +1,8 @@
 // What run refuses before it steps.
 use crate::report::run;
 use code::Instruction;
-use code::Object;
 use code::word_of;
+use numbers::Object;
 use reports::empty;
 use reports::with_object;
 

@@ -1,9 +1,9 @@
 // Each reason. What the words before the stuck one did is undone.
 use crate::report::run;
 use code::Instruction;
-use code::Object;
-use code::Raw;
 use code::word_of;
+use numbers::Object;
+use numbers::Raw;
 use reports::empty;
 use reports::with_message;
 use reports::with_object;

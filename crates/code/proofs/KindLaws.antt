@@ -14,8 +14,8 @@ use Rattle.word.proofs.TestLaws.{both, is-below, at-most}
 use Rattle.word.proofs.OneOfLaws.{from, one-here, one-later, one-last, one-outside, one-up-to}
 use Rattle.code.specs.Words.{hasKind, cellsFit, operandsFit}
 use Rattle.code.specs.declared.Instruction.{Instruction}
-use Rattle.code.specs.declared.Object.{Object}
-use Rattle.code.specs.declared.Raw.{Raw}
+use Rattle.numbers.specs.declared.Object.{Object}
+use Rattle.numbers.specs.declared.Raw.{Raw}
 
 -- a number past the variables, or past the slice, has no kind
 pub kind-none : (kinds : List ℕ) (v : ℕ) → min 64 (length kinds) ≤ v → 0 ≡ getD (take 64 kinds) v 0

@@ -4,18 +4,11 @@ use mathlib.Core.Option.{Option, none, some}
 use mathlib.Core.List.{List, [], _∷_}
 use lib.ListN.{getD}
 use Rattle.word.specs.Fields.{split, join, at}
-use Rattle.code.specs.declared.Object.{Object}
-use Rattle.code.specs.declared.Raw.{Raw}
+use Rattle.numbers.specs.Sorts.{asObject, asRaw}
 use Rattle.code.specs.declared.Read.{Read}
 use Rattle.code.specs.declared.Read.the-variants.{Is, Not}
 use Rattle.code.specs.declared.Instruction.{Instruction}
 use Rattle.code.specs.declared.Instruction.the-variants.{Load, Store, StoreConst, Decode, Encode, Create, AnalyzeTuple, CreateTuple, Opposite, KeyOf, Match, Encrypt, Decrypt, Sign, Verify, Hash}
-
-abbrev pub asObject : ℕ → Object
-asObject n = record { 0 = n }
-
-abbrev pub asRaw : ℕ → Raw
-asRaw n = record { 0 = n }
 
 abbrev pub wordWidths : List ℕ
 wordWidths = 5 ∷ 8 ∷ 8 ∷ 3 ∷ 8 ∷ []

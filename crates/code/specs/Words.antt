@@ -3,12 +3,11 @@ use Prim.Native.Nat.{ℕ, _+_}
 use mathlib.Core.Bool.{Bool, true, false, not, _&&_}
 use mathlib.Core.Option.{Option, none, some}
 use mathlib.Core.List.{List, [], _∷_}
-use lib.ListN.{getD}
 use lib.Dec.{eqb, leb, ltb}
 use Rattle.word.specs.Lowest.{lowest, oneOf}
 use Rattle.code.specs.Instruction.{wordOf, instructionOf}
-use Rattle.code.specs.declared.Object.{Object}
-use Rattle.code.specs.declared.Raw.{Raw}
+use Rattle.numbers.specs.declared.Object.{Object}
+use Rattle.numbers.specs.declared.Raw.{Raw}
 use Rattle.code.specs.declared.Instruction.{Instruction}
 use Rattle.code.specs.declared.Instruction.the-variants.{Load, Store, StoreConst, Decode, Encode, Create, AnalyzeTuple, CreateTuple, Opposite, KeyOf, Match, Encrypt, Decrypt, Sign, Verify, Hash}
 

@@ -1,6 +1,8 @@
-// The instruction, over numbers of three sorts that are never taken for each other, and its word.
+// The instruction and its word.
 pub mod words;
 
+use numbers::Object;
+use numbers::Raw;
 use word::Place;
 ghost use mathlib.Core.Path.{_≡_};
 ghost use mathlib.Core.List.{[], _∷_};
@@ -9,15 +11,6 @@ ghost use lib.ListN.{length, getD, take};
 ghost use Rattle.word.specs.Lowest.{placeOf};
 ghost use Rattle.code.specs.Instruction.{wordOf, instructionOf, readOf};
 ghost use Rattle.code.specs.Words.{hasKind, cellsFit, operandsFit, goodWord, badWord};
-
-// An object variable.
-pub struct Object(pub u8);
-
-// A raw variable, which is a message cell: 0..63 named, 64..255 scratch.
-pub struct Raw(pub u8);
-
-// A row of the term table.
-pub struct TermRow(pub u16);
 
 // Figure 4, in the order of the operations' numbers.
 pub enum Instruction {

@@ -1,6 +1,6 @@
 // The word of each instruction, operands into A and then B, in the order of the operations' numbers.
-use crate::Object;
-use crate::Raw;
+use numbers::Object;
+use numbers::Raw;
 ghost use mathlib.Core.Path.{_≡_};
 ghost use mathlib.Core.List.{[], _∷_};
 ghost use Prim.Native.Nat.{_<_};

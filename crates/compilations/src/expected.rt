@@ -1,8 +1,8 @@
 // The code that a compilation left, beside the code that it should have left.
 use code::Instruction;
-use code::Object;
-use code::Raw;
 use code::word_of;
+use numbers::Object;
+use numbers::Raw;
 use reports::same_words;
 use reports::verdict;
 

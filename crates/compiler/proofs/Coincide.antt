@@ -3,7 +3,7 @@ use Prim.Native.Nat.{ℕ}
 use mathlib.Core.Path.{_≡_, sym, _∙_}
 use mathlib.Core.Bool.{Bool}
 use mathlib.Core.List.{List}
-use Rattle.theory.specs.Compile.{CompileOutcome, compile, usedPart}
+use Rattle.calls.specs.Compile.{CompileOutcome, compile, usedPart}
 
 pub outcomes-coincide : (create : Bool) (pattern kinds objects named code : List ℕ) (one other : CompileOutcome)
     → one ≡ compile create pattern kinds objects named code → other ≡ compile create pattern kinds objects named code → one ≡ other

@@ -1,15 +1,14 @@
 -- Words that come to a lent slice.
 use Prim.Native.Nat.{ℕ, _<_, _≤_}
-use mathlib.Core.Path.{_≡_, refl, sym, _∙_}
-use mathlib.Core.Bool.{Bool, true, false}
+use mathlib.Core.Path.{_≡_}
+use mathlib.Core.Bool.{Bool}
 use mathlib.Core.List.{List, [], _++_}
-use lib.Dec.{eqb, leb}
 use lib.ListN.{length, take, drop}
 use borrow.Author.Tests.{le-leb, lt-leb, eq-eqb, ne-eqb}
 use Rattle.answers.specs.Numbers.{compiledNumber, compiledPlace}
 use Rattle.answers.specs.declared.Compiled.{Compiled}
 use Rattle.answers.specs.declared.Compiled.the-variants.{Done, CodeTooShort}
-use Rattle.theory.specs.Compile.{CompileOutcome, leaves, written, compile, usedPart}
+use Rattle.calls.specs.Compile.{leaves, written, compile, usedPart}
 use Rattle.compiler.specs.Buffer.{Compiles}
 
 -- the used part

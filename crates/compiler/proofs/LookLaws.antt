@@ -11,8 +11,10 @@ use Rattle.answers.specs.declared.Compiled.the-variants.{Limit, BadStore, BadPa
 use Rattle.stores.specs.Valid.{declared}
 use Rattle.patterns.specs.Rules.{badPattern}
 use Rattle.patterns.specs.Kinds.{wrongKind}
-use Rattle.theory.specs.Compile.{first, kindIn, lengthsFit, refusals}
-use Rattle.theory.proofs.CompileLaws.{compile-within}
+use Rattle.answers.specs.First.{first}
+use Rattle.numbers.specs.Kinds.{kindIn}
+use Rattle.calls.specs.Compile.{lengthsFit, refusals}
+use Rattle.calls.proofs.CompileLaws.{compile-within}
 use Rattle.compiler.specs.Buffer.{findingOf}
 use Rattle.compiler.specs.declared.Finding.{Finding}
 use Rattle.compiler.specs.declared.Finding.the-variants.{Refused, Accepted}

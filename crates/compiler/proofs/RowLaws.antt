@@ -1,17 +1,16 @@
 -- A pattern's rows with zero rows behind them: the same pattern, and room for its code.
-use Prim.Native.Nat.{ℕ, zero, suc, _+_, _-_, _*_, _<_, _≤_}
+use Prim.Native.Nat.{ℕ, zero, suc, _+_, _-_, _<_, _≤_}
 use mathlib.Core.Path.{_≡_, refl, sym, _∙_, ap, fun-ext}
-use mathlib.Core.Bool.{Bool}
 use mathlib.Core.Option.{none}
 use mathlib.Core.List.{List, [], _∷_, _++_}
 use native.Mathlib.Decide.{decLt}
 use native.Mathlib.Omega.{arith}
 use lib.Dec.{T}
-use lib.ListN.{length, getD, replicate, length-append, length-replicate, List·getD-append}
-use Rattle.patterns.specs.Pattern.{Pattern, size}
+use lib.ListN.{length, getD, replicate, length-append, List·getD-append}
+use Rattle.patterns.specs.Pattern.{size}
 use Rattle.patterns.specs.Row.{fieldsOf}
 use Rattle.patterns.specs.Rules.{rowFits, badPattern}
-use Rattle.patterns.specs.Tree.{formBy, patternAt, patternsOf, patternOf}
+use Rattle.patterns.specs.Tree.{patternOf}
 use Rattle.patterns.proofs.GoodRow.{good-row}
 use Rattle.patterns.proofs.RuleLaws.{all-good}
 use Rattle.patterns.proofs.TreeLaws.{formed, pattern-size}

@@ -1,31 +1,32 @@
 -- What the walk leaves is compile's outcome.
-use Prim.Native.Nat.{ℕ, zero, suc, _+_, _-_, _*_, _/_, _%_, _≤_}
-use mathlib.Core.Path.{_≡_, refl, sym, _∙_, ap, subst}
+use Prim.Native.Nat.{ℕ, zero, suc, _+_, _-_, _/_, _%_, _≤_}
+use mathlib.Core.Path.{_≡_, refl, _∙_, ap, subst}
 use mathlib.Core.Bool.{Bool, true, false}
-use mathlib.Core.Option.{Option, none, some}
+use mathlib.Core.Option.{none, some}
 use mathlib.Core.List.{List, [], _∷_, _++_}
 use native.Mathlib.Nat.{zero-add}
 use native.Mathlib.Omega.{arith}
 use lib.Dec.{eqb}
 use lib.ListN.{length, getD, take, drop, length-map}
-use lib.Seq.{sets, sets-eq, length-sets, take-append-seam}
-use Rattle.answers.specs.Numbers.{compiledNumber, compiledPlace}
+use lib.Seq.{sets-eq, length-sets, take-append-seam}
+use Rattle.answers.specs.Numbers.{compiledNumber}
 use Rattle.answers.specs.declared.Compiled.{Compiled}
 use Rattle.answers.specs.declared.Compiled.the-variants.{Done, Limit, BadStore, BadPattern, WrongKind, WrittenWhileSet, ReadWhileUnset, CodeTooShort}
 use Rattle.code.specs.Instruction.{wordOf}
 use Rattle.stores.specs.Cells.{isSet, unset}
 use Rattle.patterns.specs.Pattern.{Pattern}
 use Rattle.patterns.specs.Tree.{patternOf}
-use Rattle.theory.specs.Machine.{Line}
 use Rattle.theory.specs.Emission.{Env, Emitted, ok, refuse, andThen}
 use Rattle.theory.specs.Compilers.{compile↓}
-use Rattle.theory.specs.Compile.{entry, kindIn, tables, codeWords, leaves, finished, first, refusals, emitted, compileBy, compile}
-use Rattle.theory.proofs.CompileLaws.{NotDone, checks-not-done}
+use Rattle.calls.specs.Compile.{tables, codeWords, leaves, refusals, emitted, compile}
+use Rattle.numbers.specs.Kinds.{kindIn}
+use Rattle.answers.specs.First.{first}
+use Rattle.calls.proofs.CompileLaws.{NotDone, checks-not-done}
 use Rattle.emission.specs.Known.{known}
 use Rattle.emission.specs.Meets.{writtenIn, refusalIn, envOf, refusalBy, refusal, MeetsBy, Meets, Does}
 use Rattle.emission.proofs.MeetsLaws.{after-nil, does-as}
 use Rattle.creating.specs.Creates.{patternCode}
-use Rattle.compiler.specs.Buffer.{answerBy, answerIn, delivered, Compiles}
+use Rattle.compiler.specs.Buffer.{answerBy, answerIn, Compiles}
 
 -- an answer that is not done has another number
 pub not-done : (answer : Compiled) → NotDone answer → eqb (compiledNumber answer) 0 ≡ false

@@ -9,7 +9,8 @@ use lib.Dec.{eqb}
 use Rattle.answers.specs.Numbers.{compiledNumber, compiledPlace}
 use Rattle.answers.specs.declared.Compiled.{Compiled}
 use Rattle.answers.specs.declared.Compiled.the-variants.{Done}
-use Rattle.theory.specs.Compile.{CompileOutcome, leaves, written, kindIn, tables, compile}
+use Rattle.calls.specs.Compile.{CompileOutcome, leaves, written, tables, compile}
+use Rattle.numbers.specs.Kinds.{kindIn}
 use Rattle.emission.specs.Meets.{writtenIn, refusalIn, refusal, Does}
 use Rattle.emission.specs.Budget.{patternIn, words, scratches}
 use Rattle.compiler.specs.declared.Finding.{Finding}

@@ -3,7 +3,7 @@ ghost use mathlib.Core.Path.{_≡_};
 ghost use mathlib.Core.List.{_++_};
 ghost use Prim.Native.Nat.{_≤_};
 ghost use lib.ListN.{length, drop};
-ghost use Rattle.theory.specs.Compile.{written};
+ghost use Rattle.calls.specs.Compile.{written};
 use answers::Compiled;
 
 fn copy(words: &[u32], code: &mut [u32])

@@ -1,7 +1,7 @@
 // Compile: its checks in their order, then the walk, then the words into the lent slice.
 ghost use mathlib.Core.Path.{_≡_};
 ghost use lib.ListN.{length};
-ghost use Rattle.theory.specs.Compile.{usedPart, compile};
+ghost use Rattle.calls.specs.Compile.{usedPart, compile};
 ghost use Rattle.compiler.specs.Buffer.{Compiles};
 use answers::Compiled;
 use delivery::deliver;

@@ -2,7 +2,8 @@
 ghost use mathlib.Core.Path.{_≡_};
 ghost use mathlib.Core.Bool.{_&&_};
 ghost use lib.Dec.{eqb, leb};
-ghost use Rattle.theory.specs.Compile.{first, refusals};
+ghost use Rattle.answers.specs.First.{first};
+ghost use Rattle.calls.specs.Compile.{refusals};
 ghost use Rattle.compiler.specs.Buffer.{findingOf};
 use super::Finding;
 use answers::Compiled;

@@ -13,7 +13,8 @@ use Rattle.word.proofs.TestLaws.{both, equals, at-most, is-false}
 use Rattle.answers.specs.Numbers.{compiledNumber, compiledPlace}
 use Rattle.answers.specs.declared.Compiled.{Compiled}
 use Rattle.answers.specs.declared.Compiled.the-variants.{Done, Limit, CodeTooShort}
-use Rattle.theory.specs.Compile.{CompileOutcome, leaves, written, first, lengthsFit, compile}
+use Rattle.calls.specs.Compile.{CompileOutcome, leaves, written, lengthsFit, compile}
+use Rattle.answers.specs.First.{first}
 use Rattle.compiler.specs.Buffer.{Compiles}
 use Rattle.compiler.proofs.DeliveryLaws.{too-short, all-fit, compile-refused, compile-done}
 use Rattle.running.proofs.LookLaws.{true-holds}

@@ -15,7 +15,7 @@ use Rattle.answers.specs.declared.Ran.{Ran}
 use Rattle.answers.specs.declared.Ran.the-variants.{Limit}
 use Rattle.terms.specs.Rules.{usedRows}
 use Rattle.terms.proofs.TableLaws.{used-rows}
-use Rattle.theory.specs.Run.{Lent, RunOutcome, unchanged, lengthsFit, run}
+use Rattle.calls.specs.Run.{Lent, RunOutcome, unchanged, lengthsFit, run}
 use Rattle.running.proofs.LookLaws.{true-holds, found-some, found-limit, run-refused}
 use Rattle.running.proofs.AttemptLaws.{attempted, withCells, copies-done, copies-not-done}
 use Rattle.cram.specs.declared.RunAnswer.{RunAnswer}

@@ -10,8 +10,8 @@ use Rattle.answers.specs.declared.Compiled.the-variants as Compiled
 use Rattle.answers.specs.declared.Ran.{Ran}
 use Rattle.answers.specs.declared.Ran.the-variants as Ran
 use Rattle.terms.specs.Rules.{usedRows}
-use Rattle.theory.specs.Compile.{CompileOutcome, compile}
-use Rattle.theory.specs.Run.{Lent, RunOutcome, run}
+use Rattle.calls.specs.Compile.{CompileOutcome, compile}
+use Rattle.calls.specs.Run.{Lent, RunOutcome, run}
 use Rattle.cram.specs.declared.CompileAnswer.{CompileAnswer}
 use Rattle.cram.specs.declared.RunAnswer.{RunAnswer}
 

@@ -5,7 +5,7 @@ ghost use Prim.Native.Nat.{_%_, _≤_};
 ghost use lib.Dec.{eqb, leb};
 ghost use lib.ListN.{length};
 ghost use Rattle.word.specs.Bytes.{elements};
-ghost use Rattle.theory.specs.Compile.{written};
+ghost use Rattle.calls.specs.Compile.{written};
 ghost use Rattle.cram.specs.Entries.{compiledNumbers, compileSpelled};
 use super::CompileAnswer;
 use answers::Compiled;

@@ -5,7 +5,7 @@ ghost use Prim.Native.Nat.{_*_, _/_, _%_, _≤_};
 ghost use lib.Dec.{eqb, leb};
 ghost use lib.ListN.{length};
 ghost use Rattle.word.specs.Bytes.{elements};
-ghost use Rattle.theory.specs.Run.{run};
+ghost use Rattle.calls.specs.Run.{run};
 ghost use Rattle.cram.specs.Entries.{ranNumbers, cellsSpelled, runSpelled};
 use super::RunAnswer;
 use super::arrays;

@@ -5,7 +5,7 @@ use mathlib.Core.List.{List}
 use native.Mathlib.Omega.{arith}
 use lib.Dec.{lit≤}
 use lib.ListN.{getD}
-use Rattle.code.specs.Instruction.{asObject}
+use Rattle.numbers.specs.Sorts.{asObject}
 use Rattle.code.specs.declared.Instruction.the-variants.{Store, Decode, Encrypt}
 use Rattle.patterns.specs.Pattern.{encryption, letIn, size}
 use Rattle.patterns.specs.Row.{fieldsOf}

@@ -2,7 +2,7 @@
 use Prim.Native.Nat.{ℕ}
 use mathlib.Core.List.{List}
 use lib.Dec.{lit≤}
-use Rattle.code.specs.Instruction.{asObject}
+use Rattle.numbers.specs.Sorts.{asObject}
 use Rattle.code.specs.declared.Instruction.the-variants.{Load, StoreConst, Decode, Encode, Hash}
 use Rattle.patterns.specs.Pattern.{opKey, certifiedKey, object, raw, constant, opposite, keyOf, hash}
 use Rattle.theory.specs.Machine.{named}

@@ -9,7 +9,7 @@ use lib.Dec.{eqb, lit≤}
 use Rattle.word.specs.Lowest.{oneOf}
 use Rattle.word.proofs.TestLaws.{eqb-swap}
 use Rattle.answers.specs.declared.Compiled.the-variants.{ReadWhileUnset}
-use Rattle.code.specs.Instruction.{asObject}
+use Rattle.numbers.specs.Sorts.{asObject}
 use Rattle.code.specs.declared.Instruction.the-variants.{Decode, Encode, Create, Opposite, KeyOf}
 use Rattle.patterns.specs.Pattern.{Key, plainKey, opKey, certifiedKey}
 use Rattle.patterns.specs.Row.{Fields, fieldsOf}
@@ -22,7 +22,7 @@ use Rattle.emission.specs.Steps.{readObject}
 use Rattle.emission.specs.Meets.{Does, refusing}
 use Rattle.emission.proofs.MeetsLaws.{does-le, does-none, does-seq, does-yes, does-no}
 use Rattle.emission.proofs.StepLaws.{read-unset}
-use Rattle.theory.specs.Compile.{kindIn}
+use Rattle.numbers.specs.Kinds.{kindIn}
 use Rattle.creating.specs.Creates.{variableCode, keyCode}
 
 pub creatable-is : (kind : ℕ) → ((eqb kind 2 || eqb kind 5) || eqb kind 6) ≡ creatable kind

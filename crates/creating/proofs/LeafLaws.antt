@@ -4,7 +4,7 @@ use mathlib.Core.Path.{_≡_, sym, _∙_}
 use mathlib.Core.List.{List}
 use native.Mathlib.Omega.{arith}
 use lib.Dec.{lit≤}
-use Rattle.code.specs.Instruction.{asObject}
+use Rattle.numbers.specs.Sorts.{asObject}
 use Rattle.code.specs.declared.Instruction.the-variants.{Load, Decode, Sign}
 use Rattle.patterns.specs.Pattern.{certifiedKey, object, raw, constant, opposite, keyOf, signature, hash}
 use Rattle.patterns.specs.Row.{fieldsOf}

@@ -5,15 +5,15 @@ use mathlib.Core.List.{List, []}
 use native.Mathlib.Omega.{arith}
 use lib.Dec.{lit≤}
 use lib.ListN.{length}
-use Rattle.code.specs.Instruction.{asObject}
-use Rattle.code.specs.declared.Raw.{Raw}
+use Rattle.numbers.specs.Sorts.{asObject}
+use Rattle.numbers.specs.declared.Raw.{Raw}
 use Rattle.code.specs.declared.Instruction.the-variants.{Store, CreateTuple, Encode}
 use Rattle.patterns.specs.Pattern.{Pattern, tuple, Parts, count, size}
 use Rattle.patterns.specs.Row.{fieldsOf}
 use Rattle.patterns.proofs.PatternLaws.{size-positive, count-sizes}
 use Rattle.theory.specs.Machine.{scratch}
 use Rattle.theory.specs.Emission.{Env, Emitted, emit, _then_}
-use Rattle.theory.specs.Compile.{kindIn}
+use Rattle.numbers.specs.Kinds.{kindIn}
 use Rattle.theory.specs.Compilers.{STORE, CREATE-TUPLE, ENCODE, compile↑parts}
 use Rattle.emission.specs.declared.Part.{Part}
 use Rattle.emission.specs.Steps.{raise}

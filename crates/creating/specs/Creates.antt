@@ -3,7 +3,7 @@ use Prim.Native.Nat.{ℕ}
 use mathlib.Core.List.{List}
 use Rattle.patterns.specs.Pattern.{Key, Pattern, Parts}
 use Rattle.theory.specs.Emission.{Env, Emitted}
-use Rattle.theory.specs.Compile.{kindIn}
+use Rattle.numbers.specs.Kinds.{kindIn}
 use Rattle.theory.specs.Compilers.{creating, compile↑K, compile↑, compile↑parts}
 use Rattle.emission.specs.declared.Part.{Part}
 use Rattle.emission.specs.Meets.{Does}

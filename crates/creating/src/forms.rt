@@ -1,11 +1,11 @@
 // The forms with no part: at most seven words each.
 use crate::keys;
-use code::Object;
-use code::Raw;
 use emission::Code;
 use emission::Emission;
 use emission::Kinds;
 use emission::instructions;
+use numbers::Object;
+use numbers::Raw;
 ghost use mathlib.Core.List.{List};
 ghost use Prim.Native.Nat.{ℕ, _<_};
 ghost use Rattle.patterns.specs.Pattern.{object, constant, opposite, hash};

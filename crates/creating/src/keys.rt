@@ -1,5 +1,4 @@
 // Variables and keys, each with at most three words.
-use code::Object;
 use emission::Code;
 use emission::Emission;
 use emission::Kinds;
@@ -7,6 +6,7 @@ use emission::OBJECTS;
 use emission::instructions;
 use emission::is_known;
 use emission::refuse;
+use numbers::Object;
 ghost use mathlib.Core.Path.{_≡_};
 ghost use mathlib.Core.List.{List};
 ghost use Prim.Native.Nat.{ℕ, _<_};

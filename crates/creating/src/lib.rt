@@ -2,8 +2,6 @@
 pub mod forms;
 pub mod keys;
 
-use code::Object;
-use code::Raw;
 use emission::Code;
 use emission::Emission;
 use emission::Kinds;
@@ -13,6 +11,8 @@ use emission::instructions;
 use emission::parts_of;
 use emission::scratch;
 use emission::take;
+use numbers::Object;
+use numbers::Raw;
 ghost use mathlib.Core.Path.{_≡_};
 ghost use Rattle.patterns.specs.Row.{fieldsOf};
 ghost use Rattle.emission.specs.Budget.{Row, RowAt, Leaf};

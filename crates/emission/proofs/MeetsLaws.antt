@@ -11,7 +11,7 @@ use Rattle.word.proofs.ByteLaws.{sets-append}
 use Rattle.answers.specs.declared.Compiled.{Compiled}
 use Rattle.theory.specs.Machine.{Line}
 use Rattle.theory.specs.Emission.{Env, Emitted, ok, refuse, after, andThen, _then_, take, writes}
-use Rattle.theory.specs.Compile.{codeWords}
+use Rattle.calls.specs.Compile.{codeWords}
 use Rattle.emission.specs.Known.{known}
 use Rattle.emission.specs.Steps.{freeRaw, raise}
 use Rattle.emission.specs.Meets.{nextIn, writtenIn, refusalIn, envOf, refusal, MeetsBy, Meets, Does, Quiet}

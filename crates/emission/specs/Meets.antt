@@ -11,7 +11,7 @@ use Rattle.answers.specs.declared.Compiled.{Compiled}
 use Rattle.answers.specs.declared.Compiled.the-variants.{WrongKind, WrittenWhileSet, ReadWhileUnset}
 use Rattle.theory.specs.Machine.{Line}
 use Rattle.theory.specs.Emission.{Env, Emitted, ok, refuse, andThen}
-use Rattle.theory.specs.Compile.{codeWords}
+use Rattle.calls.specs.Compile.{codeWords}
 use Rattle.emission.specs.Known.{known}
 
 -- the five numbers: known objects, known raws, the next scratch number, the words written, the refusal

@@ -1,8 +1,8 @@
 // What the compiler knows while it emits, and one instruction after another.
 pub mod instructions;
 
-use code::Object;
-use code::Raw;
+use numbers::Object;
+use numbers::Raw;
 ghost use mathlib.Core.Path.{_≡_};
 ghost use mathlib.Core.Bool.{true, false};
 ghost use mathlib.Core.List.{[], _∷_};

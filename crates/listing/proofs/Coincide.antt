@@ -3,7 +3,7 @@ use Prim.Native.Nat.{ℕ}
 use mathlib.Core.Path.{_≡_, sym, _∙_}
 use mathlib.Core.List.{List}
 use Rattle.text.specs.Written.{Wrote}
-use Rattle.theory.specs.Listing.{listing}
+use Rattle.printing.specs.Listing.{listing}
 
 pub listings-coincide : (bytes : List ℕ) {before one other : List ℕ} {end last : ℕ} → Wrote (listing bytes) before 0 one end → Wrote (listing bytes) before 0 other last
     → (one ≡ other) × (end ≡ last)

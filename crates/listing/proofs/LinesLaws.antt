@@ -16,12 +16,13 @@ use Rattle.bundles.specs.declared.Header.{Header}
 use Rattle.bundles.specs.declared.Opened.the-variants.{Refused, Is}
 use Rattle.bundles.proofs.OpeningLaws.{opened-is}
 use Rattle.bundles.proofs.BundleLaws.{lengths}
-use Rattle.theory.specs.Bundle.{Bundle, readBundle, clearOf}
-use Rattle.theory.specs.Compile.{CompileOutcome}
-use Rattle.theory.specs.Run.{Lent, RunOutcome, run, mostCodeWords}
-use Rattle.theory.specs.Listing.{refusedLine, lentTo, compileOf, compiledFrom, ranLines, compiledLines, bundleLines, listing}
-use Rattle.theory.proofs.CompileLaws.{part-fits}
-use Rattle.theory.proofs.Product.{compile-writes}
+use Rattle.bundles.specs.Bundle.{Bundle, readBundle, clearOf}
+use Rattle.calls.specs.Compile.{CompileOutcome}
+use Rattle.calls.specs.Run.{Lent, RunOutcome, run}
+use Rattle.numbers.specs.Limits.{mostCodeWords}
+use Rattle.printing.specs.Listing.{refusedLine, lentTo, compileOf, compiledFrom, ranLines, compiledLines, bundleLines, listing}
+use Rattle.calls.proofs.CompileLaws.{part-fits}
+use Rattle.calls.proofs.Product.{compile-writes}
 
 pub refused-none : (bytes : List ℕ) → opened bytes ≡ Refused → readBundle bytes ≡ none
 unfolding opened

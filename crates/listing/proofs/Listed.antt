@@ -23,15 +23,18 @@ use Rattle.bundles.specs.declared.Opened.the-variants.{Refused, Is}
 use Rattle.bundles.proofs.OpeningLaws.{refuses, opened-is}
 use Rattle.bundles.proofs.BundleLaws.{lengths}
 use Rattle.printing.proofs.RanLaws.{ran-length}
-use Rattle.theory.specs.Bundle.{Bundle, readBundle, certificatesClear}
+use Rattle.bundles.specs.Bundle.{Bundle, readBundle, certificatesClear}
 use Rattle.theory.specs.Outcome.{Outcome, done, stuck, room}
 use Rattle.theory.specs.RowModel.{rowWorld}
 use Rattle.theory.specs.Machine.{State, exec}
-use Rattle.theory.specs.Compile.{CompileOutcome, first, kindIn, compiledCode}
-use Rattle.theory.specs.Run.{Lent, stateOf, linesOf, leftBy, ended, refusals, runBy, run, mostCodeWords}
-use Rattle.theory.specs.Listing.{refusedWord, refusedLine, lentTo, compiledFrom, ranLines, compiledLines, bundleLines, listing}
-use Rattle.theory.proofs.CompileLaws.{part-length}
-use Rattle.theory.proofs.ValidAgain.{length-cells}
+use Rattle.calls.specs.Compile.{CompileOutcome, compiledCode}
+use Rattle.answers.specs.First.{first}
+use Rattle.numbers.specs.Kinds.{kindIn}
+use Rattle.calls.specs.Run.{Lent, stateOf, linesOf, leftBy, ended, refusals, runBy, run}
+use Rattle.numbers.specs.Limits.{mostCodeWords}
+use Rattle.printing.specs.Listing.{refusedWord, refusedLine, lentTo, compiledFrom, ranLines, compiledLines, bundleLines, listing}
+use Rattle.calls.proofs.CompileLaws.{part-length}
+use Rattle.calls.proofs.ValidAgain.{length-cells}
 use Rattle.listing.proofs.LinesLaws.{few-words, refused-none}
 
 run-objects : (x : Lent) (code : List ℕ) → length (x .objects) ≡ 64 → length (run x code .objects) ≡ 64

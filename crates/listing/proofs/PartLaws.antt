@@ -10,9 +10,9 @@ use Rattle.bundles.specs.declared.Header.{Header}
 use Rattle.bundles.specs.declared.Opened.the-variants.{Is}
 use Rattle.bundles.proofs.BundleLaws.{fields, lengths}
 use Rattle.stores.specs.Cells.{unset}
-use Rattle.theory.specs.Compile.{CompileOutcome, compile}
-use Rattle.theory.specs.Run.{RunOutcome, run}
-use Rattle.theory.specs.Listing.{lentTo, compileOf}
+use Rattle.calls.specs.Compile.{CompileOutcome, compile}
+use Rattle.calls.specs.Run.{RunOutcome, run}
+use Rattle.printing.specs.Listing.{lentTo, compileOf}
 
 module _ (bytes : List ℕ) {header : Header} (opens : opened bytes ≡ Is header) where
   pub pattern-front : {rows : List ℕ} (rest : List ℕ) → rows ≡ bundleIn bytes .pattern ++ rest → take (header .«pattern_rows») rows ≡ bundleIn bytes .pattern

@@ -8,7 +8,7 @@ use lib.ListN.{length, set, length-set}
 use Rattle.answers.specs.Numbers.{reasonNumber}
 use Rattle.answers.specs.declared.Reason.{Reason}
 use Rattle.answers.specs.declared.Reason.the-variants.{Unset}
-use Rattle.code.specs.declared.TermRow.{TermRow}
+use Rattle.numbers.specs.declared.TermRow.{TermRow}
 use Rattle.terms.specs.declared.Found.{Found}
 use Rattle.terms.specs.declared.Found.the-variants.{At, Full}
 use Rattle.theory.specs.Outcome.{Outcome, done, bind, at, need, Answer, got, not, full, sure}

@@ -1,11 +1,11 @@
 -- The finder's answer for a term, and the rows after it.
-use Prim.Native.Nat.{ℕ, _+_, _<_, _≤_}
+use Prim.Native.Nat.{ℕ, _<_, _≤_}
 use mathlib.Core.Path.{_≡_, refl, sym}
 use mathlib.Core.List.{List}
 use native.Mathlib.Omega.{arith}
-use lib.ListN.{length, set, length-set}
-use Rattle.code.specs.declared.TermRow.{TermRow}
-use Rattle.terms.specs.Finder.{Located, asTermRow, located, locate}
+use lib.ListN.{length, length-set}
+use Rattle.numbers.specs.declared.TermRow.{TermRow}
+use Rattle.terms.specs.Finder.{Located, located, locate}
 use Rattle.terms.specs.declared.Found.{Found}
 use Rattle.terms.specs.declared.Found.the-variants.{At, Full}
 use Rattle.terms.proofs.FinderLaws.{located-as}

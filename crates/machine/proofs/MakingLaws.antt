@@ -1,24 +1,21 @@
 -- STORE CONST, CREATE, OPPOSITE, ENCRYPT, SIGN and HASH, a way out at a time.
 use Prim.Native.Nat.{ℕ, _+_, _<_, _≤_}
-use mathlib.Core.Path.{_≡_, refl, sym, _∙_, ap}
+use mathlib.Core.Path.{_≡_, refl, ap}
 use mathlib.Core.List.{List}
 use native.Mathlib.Numerals.{add-one}
-use native.Mathlib.Omega.{arith}
-use borrow.Author.Tests.{eq-eqb, ne-eqb, lt-ltb, le-ltb}
 use lib.ListN.{length, getD, set, length-set}
 use Rattle.answers.specs.declared.Reason.the-variants.{Unset, OtherKind}
-use Rattle.code.specs.declared.Object.{Object}
-use Rattle.code.specs.declared.TermRow.{TermRow}
+use Rattle.numbers.specs.declared.Object.{Object}
+use Rattle.numbers.specs.declared.TermRow.{TermRow}
 use Rattle.code.specs.declared.Instruction.the-variants.{StoreConst, Create, Opposite, Encrypt, Sign, Hash}
 use Rattle.terms.specs.Shape.{atom, encrypted, signed, hashed}
 use Rattle.word.specs.Fields.{split, at}
 use Rattle.terms.specs.Row.{atomWidths, wordOf, tagOf}
-use Rattle.terms.specs.Finder.{located, locate}
 use Rattle.terms.specs.declared.Found.{Found}
 use Rattle.terms.specs.declared.Found.the-variants.{At, Full}
 use Rattle.stores.specs.Cells.{unset}
-use Rattle.theory.specs.Compile.{kindIn}
-use Rattle.machine.specs.Machine.{Slices, withObjects, withRows, holding, usingRows, naming, Within, SameLengths, next, stuck, Does}
+use Rattle.numbers.specs.Kinds.{kindIn}
+use Rattle.machine.specs.Machine.{Slices, withObjects, withRows, holding, usingRows, naming, next, Does}
 use Rattle.machine.specs.declared.Registers.{Registers}
 use Rattle.machine.specs.declared.Step.the-variants.{Next, Stuck, NoRoom}
 use Rattle.machine.proofs.StateLaws.{object-made, accumulator-unset, accumulator-row, object-unset, object-row}

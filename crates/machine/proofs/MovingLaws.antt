@@ -5,15 +5,14 @@ use mathlib.Core.List.{List}
 use borrow.Author.Tests.{eq-eqb, ne-eqb}
 use lib.ListN.{length, getD, set}
 use Rattle.answers.specs.declared.Reason.the-variants.{Unset, OtherKind, Differs}
-use Rattle.code.specs.declared.Object.{Object}
-use Rattle.code.specs.declared.Raw.{Raw}
+use Rattle.numbers.specs.declared.Object.{Object}
+use Rattle.numbers.specs.declared.Raw.{Raw}
 use Rattle.code.specs.declared.Instruction.the-variants.{Load, Store, Decode, Encode, Match}
 use Rattle.terms.specs.Row.{tagOf}
-use Rattle.terms.specs.Finder.{asTermRow}
+use Rattle.numbers.specs.Sorts.{asTermRow}
 use Rattle.stores.specs.Cells.{unset}
-use Rattle.theory.specs.Compile.{kindIn}
-use Rattle.theory.specs.Run.{stateOver}
-use Rattle.machine.specs.Machine.{Slices, withObjects, withMessages, withRows, holding, SameLengths, next, stuck, Does}
+use Rattle.numbers.specs.Kinds.{kindIn}
+use Rattle.machine.specs.Machine.{withObjects, withMessages, withRows, holding, next, Does}
 use Rattle.machine.specs.declared.Registers.{Registers}
 use Rattle.machine.specs.declared.Step.the-variants.{Next, Stuck}
 use Rattle.machine.proofs.StateLaws.{accumulator-unset, accumulator-row, object-unset, object-row, message-unset, message-row, accumulator-set, object-set, message-set}

@@ -1,25 +1,25 @@
 -- KEY OF, DECRYPT and VERIFY, a way out at a time.
 use Prim.Native.Nat.{ℕ}
-use mathlib.Core.Path.{_≡_, refl, sym, _∙_, ap}
+use mathlib.Core.Path.{_≡_, refl, sym, _∙_}
 use mathlib.Core.Bool.{Bool, true, false, not}
 use mathlib.Core.List.{List}
 use native.Mathlib.Omega.{arith}
 use borrow.Author.Tests.{eq-eqb, ne-eqb, not-true, not-false}
 use lib.ListN.{getD}
 use Rattle.answers.specs.declared.Reason.the-variants.{Unset, NoCertificate, NotOpened, NotVerified}
-use Rattle.code.specs.declared.Object.{Object}
-use Rattle.code.specs.declared.Raw.{Raw}
-use Rattle.code.specs.declared.TermRow.{TermRow}
+use Rattle.numbers.specs.declared.Object.{Object}
+use Rattle.numbers.specs.declared.Raw.{Raw}
+use Rattle.numbers.specs.declared.TermRow.{TermRow}
 use Rattle.code.specs.declared.Instruction.the-variants.{KeyOf, Decrypt, Verify}
 use Rattle.word.specs.Fields.{split, at}
 use Rattle.terms.specs.Row.{rowWidths, tagOf}
-use Rattle.terms.specs.Finder.{asTermRow}
+use Rattle.numbers.specs.Sorts.{asTermRow}
 use Rattle.stores.specs.Cells.{unset}
 use Rattle.stores.specs.Certificates.{certified}
 use Rattle.stores.specs.Answer.{certificateOf}
 use Rattle.stores.specs.declared.Certificate.{Certificate}
 use Rattle.stores.specs.declared.Certificate.the-variants.{Key, None}
-use Rattle.machine.specs.Machine.{Slices, withObjects, withMessages, withRows, withCertificates, holding, keysPair, next, Does}
+use Rattle.machine.specs.Machine.{withObjects, withMessages, withRows, withCertificates, holding, keysPair, next, Does}
 use Rattle.machine.specs.declared.Registers.{Registers}
 use Rattle.machine.specs.declared.Step.{Step}
 use Rattle.machine.specs.declared.Step.the-variants.{Next, Stuck}

@@ -1,7 +1,7 @@
 -- Registers and slices as a state of the machine at rows: read and written.
 use Prim.Native.Nat.{ℕ, zero, suc, _+_, _-_, _<_, _≤_}
 use mathlib.Core.Path.{_≡_, refl, sym, _∙_, ap, subst, fun-ext}
-use mathlib.Core.Option.{Option, none, some}
+use mathlib.Core.Option.{none, some}
 use mathlib.Core.List.{List, [], _∷_}
 use native.Mathlib.Decide.{ℕ-discrete, decLt}
 use native.Mathlib.Omega.{arith}
@@ -11,8 +11,9 @@ use lib.Seq.{getD-take, getD-drop, getD-set-same, getD-set-other, take-set-lt, t
 use Rattle.stores.specs.Cells.{unset, held, storeOf}
 use Rattle.theory.specs.Store.{put}
 use Rattle.theory.specs.RowModel.{Table, rowWorld}
-use Rattle.theory.specs.Machine.{State, namedCells, withAccumulator, withStores, setObject, setMemory, message, setMessage, setMessages}
-use Rattle.theory.specs.Run.{stateOver}
+use Rattle.theory.specs.Machine.{State, withAccumulator, withStores, setObject, setMemory, message, setMessage, setMessages}
+use Rattle.numbers.specs.Limits.{namedCells}
+use Rattle.calls.specs.Run.{stateOver}
 use Rattle.machine.specs.Machine.{spread}
 use Rattle.theory.proofs.StoreLaws.{put-same, put-other}
 use Rattle.theory.proofs.CellLaws.{message-named, message-scratch, setMessage-named, setMessage-scratch}

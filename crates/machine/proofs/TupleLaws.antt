@@ -1,19 +1,18 @@
 -- ANALYZE TUPLE and CREATE TUPLE, a way out at a time.
 use Prim.Native.Nat.{ℕ, zero, suc, _+_, _<_, _≤_}
-use mathlib.Core.Path.{_≡_, refl, sym, _∙_, ap, subst}
+use mathlib.Core.Path.{_≡_, refl, sym, _∙_, ap}
 use mathlib.Core.List.{List, [], _∷_}
-use native.Mathlib.Nat.{add-zero, add-suc}
+use native.Mathlib.Nat.{add-zero}
 use native.Mathlib.Numerals.{add-one}
 use native.Mathlib.Omega.{arith}
-use borrow.Author.Tests.{eq-eqb, ne-eqb}
 use borrow.Author.Count.{below-more}
 use lib.ListN.{length, getD, take, drop, set, length-set}
 use lib.Seq.{getD-drop, getD-set-same, getD-set-other}
 use Rattle.answers.specs.Numbers.{reasonNumber}
 use Rattle.answers.specs.declared.Reason.the-variants.{Unset, PartCount}
-use Rattle.code.specs.declared.Object.{Object}
-use Rattle.code.specs.declared.Raw.{Raw}
-use Rattle.code.specs.declared.TermRow.{TermRow}
+use Rattle.numbers.specs.declared.Object.{Object}
+use Rattle.numbers.specs.declared.Raw.{Raw}
+use Rattle.numbers.specs.declared.TermRow.{TermRow}
 use Rattle.code.specs.declared.Instruction.the-variants.{AnalyzeTuple, CreateTuple}
 use Rattle.word.specs.Fields.{split, at}
 use Rattle.terms.specs.Shape.{tupled, partsOf}
@@ -27,7 +26,7 @@ use Rattle.theory.specs.Outcome.{Outcome, done}
 use Rattle.theory.specs.Outcome as Outcome
 use Rattle.theory.specs.RowModel.{Table, rowWorld}
 use Rattle.theory.specs.Machine.{messages as reading}
-use Rattle.theory.specs.Run.{stateOver}
+use Rattle.calls.specs.Run.{stateOver}
 use Rattle.machine.specs.Machine.{Slices, withObjects, withMessages, withRows, stateAt, usingRows, spread, next, stuck, Does}
 use Rattle.machine.specs.declared.Registers.{Registers}
 use Rattle.machine.specs.declared.Step.{Step}

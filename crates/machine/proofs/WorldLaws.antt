@@ -10,7 +10,7 @@ use lib.ListN.{length, getD}
 use lib.Dec.{eqb}
 use Rattle.answers.specs.Numbers.{reasonNumber}
 use Rattle.answers.specs.declared.Reason.the-variants.{OtherKind, PartCount, NoCertificate, NotOpened, NotVerified}
-use Rattle.code.specs.declared.TermRow.{TermRow}
+use Rattle.numbers.specs.declared.TermRow.{TermRow}
 use Rattle.word.specs.Fields.{split, at}
 use Rattle.terms.specs.Shape.{Shape, atom, encrypted, signed, hashed, tupled, kindOf, partsOf}
 use Rattle.terms.specs.Row.{rowWidths, atomWidths, wordOf, tagOf, shapeOf}
@@ -25,11 +25,12 @@ use Rattle.stores.specs.Answer.{certificateOf}
 use Rattle.stores.specs.declared.Certificate.{Certificate}
 use Rattle.stores.specs.declared.Certificate.the-variants.{Key, None}
 use Rattle.theory.specs.Outcome.{Answer, got, not, full, andThen, sure}
-use Rattle.theory.specs.World.{World, create, op, keyOf, decrypt, verify}
-use Rattle.theory.specs.Model.{Model, opposite, opened, verified, taken}
-use Rattle.theory.specs.RowModel.{Table, withRows, withCounter, mostNames, placed, rowModel, rowWorld}
+use Rattle.theory.specs.World.{create, op, keyOf, decrypt, verify}
+use Rattle.theory.specs.Model.{opposite, opened, verified, taken}
+use Rattle.theory.specs.RowModel.{Table, withRows, withCounter, placed, rowModel, rowWorld}
+use Rattle.numbers.specs.Limits.{mostNames}
 use Rattle.theory.specs.Machine.{State}
-use Rattle.theory.specs.Run.{stateOver}
+use Rattle.calls.specs.Run.{stateOver}
 use Rattle.machine.specs.Machine.{keysPair}
 use Rattle.machine.proofs.FoundLaws.{Finds}
 

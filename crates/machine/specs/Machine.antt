@@ -6,14 +6,14 @@ use mathlib.Core.List.{List, []}
 use lib.ListN.{length, set}
 use Rattle.answers.specs.Numbers.{reasonNumber}
 use Rattle.answers.specs.declared.Reason.{Reason}
-use Rattle.code.specs.declared.TermRow.{TermRow}
+use Rattle.numbers.specs.declared.TermRow.{TermRow}
 use Rattle.code.specs.declared.Instruction.{Instruction}
 use Rattle.theory.specs.Outcome.{Outcome, done}
 use Rattle.theory.specs.Outcome as Outcome
 use Rattle.theory.specs.Model.{goesWith}
 use Rattle.theory.specs.RowModel.{rowModel, rowWorld}
 use Rattle.theory.specs.Machine.{State, step}
-use Rattle.theory.specs.Run.{stateOver}
+use Rattle.calls.specs.Run.{stateOver}
 use Rattle.machine.specs.declared.Registers.{Registers}
 use Rattle.machine.specs.declared.Step.{Step}
 use Rattle.machine.specs.declared.Step.the-variants.{Next, Stuck, NoRoom}

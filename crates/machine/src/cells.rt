@@ -3,9 +3,9 @@ ghost use mathlib.Core.Path.{_≡_};
 ghost use Prim.Native.Nat.{_<_};
 ghost use lib.ListN.{length, getD, set};
 ghost use Rattle.stores.specs.Cells.{unset};
-use code::Object;
-use code::Raw;
-use code::TermRow;
+use numbers::Object;
+use numbers::Raw;
+use numbers::TermRow;
 
 pub const UNSET: u16 = 65535;
 

@@ -2,7 +2,7 @@
 ghost use mathlib.Core.Path.{_≡_};
 ghost use Rattle.machine.specs.Machine.{holding, usingRows, naming};
 use answers::Reason;
-use code::TermRow;
+use numbers::TermRow;
 
 pub mod cells;
 pub mod making;

@@ -1,9 +1,9 @@
 // Instructions that make a term. Each takes the finder's answer apart.
 ghost use Prim.Native.Nat.{ℕ, _<_};
 ghost use lib.ListN.{length};
-ghost use Rattle.code.specs.declared.Object.{Object};
+ghost use Rattle.numbers.specs.declared.Object.{Object};
 ghost use Rattle.code.specs.declared.Instruction.the-variants.{StoreConst, Create, Opposite, Encrypt, Sign, Hash};
-ghost use Rattle.theory.specs.Compile.{kindIn};
+ghost use Rattle.numbers.specs.Kinds.{kindIn};
 ghost use Rattle.machine.specs.Machine.{withObjects, withRows, Within, Does};
 use super::Registers;
 use super::Step;
@@ -12,7 +12,7 @@ use super::cells::object_at;
 use super::cells::set_object;
 use super::rows::kind_at;
 use answers::Reason;
-use code::Object;
+use numbers::Object;
 use terms::Found;
 
 impl Registers {

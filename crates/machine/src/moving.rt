@@ -2,7 +2,7 @@
 ghost use Prim.Native.Nat.{ℕ, _<_};
 ghost use lib.ListN.{length};
 ghost use Rattle.code.specs.declared.Instruction.the-variants.{Load, Store, Decode, Encode, Match};
-ghost use Rattle.theory.specs.Compile.{kindIn};
+ghost use Rattle.numbers.specs.Kinds.{kindIn};
 ghost use Rattle.machine.specs.Machine.{withObjects, withMessages, withRows, Does};
 use super::Registers;
 use super::Step;
@@ -13,9 +13,9 @@ use super::cells::set_message;
 use super::cells::set_object;
 use super::rows::kind_at;
 use answers::Reason;
-use code::Object;
-use code::Raw;
-use code::TermRow;
+use numbers::Object;
+use numbers::Raw;
+use numbers::TermRow;
 
 impl Registers {
     pub fn load(self, messages: &[u16], r: Raw) -> Step

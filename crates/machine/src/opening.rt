@@ -9,9 +9,9 @@ use super::cells::message_at;
 use super::cells::object_at;
 use super::rows::goes_with;
 use answers::Reason;
-use code::Object;
-use code::Raw;
-use code::TermRow;
+use numbers::Object;
+use numbers::Raw;
+use numbers::TermRow;
 use stores::Certificate;
 
 impl Registers {

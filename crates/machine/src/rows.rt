@@ -1,8 +1,8 @@
 // Kinds of variables, and keys that go together.
 ghost use mathlib.Core.Path.{_≡_};
-ghost use Rattle.theory.specs.Compile.{kindIn};
+ghost use Rattle.numbers.specs.Kinds.{kindIn};
 ghost use Rattle.machine.specs.Machine.{keysPair};
-use code::Object;
+use numbers::Object;
 
 // A variable past the kinds is undeclared.
 pub fn kind_at(kinds: &[u8], v: Object) -> u64

@@ -13,8 +13,8 @@ use super::cells::cell_at;
 use super::cells::object_at;
 use super::cells::set_object;
 use answers::Reason;
-use code::Object;
-use code::Raw;
+use numbers::Object;
+use numbers::Raw;
 use terms::Found;
 
 // The first n parts of a row, to the message cells from b on.

@@ -5,8 +5,8 @@ use mathlib.Core.Bool.{Bool, true, false}
 use mathlib.Core.List.{List}
 use lib.ListN.{getD}
 use lib.Dec.{lit≤}
-use Rattle.code.specs.Instruction.{asObject}
-use Rattle.code.specs.declared.Raw.{Raw}
+use Rattle.numbers.specs.Sorts.{asObject}
+use Rattle.numbers.specs.declared.Raw.{Raw}
 use Rattle.code.specs.declared.Instruction.the-variants.{Load, Store, StoreConst, Decode, Encode, Opposite, KeyOf, Match, Verify, Hash}
 use Rattle.patterns.specs.Pattern.{opKey, certifiedKey, object, raw, constant, opposite, keyOf, hash}
 use Rattle.theory.specs.Machine.{named, scratch}

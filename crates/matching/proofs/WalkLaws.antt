@@ -4,8 +4,8 @@ use mathlib.Core.Path.{_≡_, refl, sym, ap, subst, _∙_}
 use mathlib.Core.List.{List, []}
 use native.Mathlib.Omega.{arith}
 use lib.ListN.{length, getD}
-use Rattle.code.specs.Instruction.{asObject}
-use Rattle.code.specs.declared.Raw.{Raw}
+use Rattle.numbers.specs.Sorts.{asObject}
+use Rattle.numbers.specs.declared.Raw.{Raw}
 use Rattle.code.specs.declared.Instruction.the-variants.{Load, Decode, AnalyzeTuple, Decrypt}
 use Rattle.patterns.specs.Pattern.{Pattern, plainKey, opKey, certifiedKey, encryption, tuple, letIn, size}
 use Rattle.patterns.specs.Row.{fieldsOf}

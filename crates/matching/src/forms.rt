@@ -1,6 +1,4 @@
 // The forms with no part: at most seven words and one scratch number each.
-use code::Object;
-use code::Raw;
 use emission::Code;
 use emission::Emission;
 use emission::OBJECTS;
@@ -9,6 +7,8 @@ use emission::instructions;
 use emission::is_known;
 use emission::scratch;
 use emission::take;
+use numbers::Object;
+use numbers::Raw;
 ghost use Prim.Native.Nat.{_<_};
 ghost use Rattle.patterns.specs.Pattern.{opKey, certifiedKey, object, raw, constant, opposite, keyOf, hash};
 ghost use Rattle.theory.specs.Compilers.{compile↓, verifying};

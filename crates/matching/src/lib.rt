@@ -1,8 +1,6 @@
 // Figure 5: the code that matches a pattern.
 pub mod forms;
 
-use code::Object;
-use code::Raw;
 use emission::Code;
 use emission::Emission;
 use emission::Part;
@@ -13,6 +11,8 @@ use emission::parts_of;
 use emission::scratch;
 use emission::take;
 use emission::wrong_kind;
+use numbers::Object;
+use numbers::Raw;
 ghost use mathlib.Core.Path.{_≡_};
 ghost use Rattle.patterns.specs.Row.{fieldsOf};
 ghost use Rattle.emission.specs.Budget.{Row, RowAt, Leaf};

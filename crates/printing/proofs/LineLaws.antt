@@ -14,7 +14,7 @@ use Rattle.text.proofs.WrittenLaws.{wrote-nothing}
 use Rattle.text.proofs.LineLaws.{line-below, word-line-most}
 use Rattle.code.specs.Instruction.{wordWidths}
 use Rattle.stores.specs.Cells.{unset, isSet}
-use Rattle.theory.specs.Listing.{codeLines, cellLines}
+use Rattle.printing.specs.Listing.{codeLines, cellLines}
 use Rattle.printing.proofs.NumberedLaws.{Numbered, lines-length}
 
 pub code-numbered : Numbered codeLines

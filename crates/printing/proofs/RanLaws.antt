@@ -13,8 +13,8 @@ use Rattle.text.proofs.WrittenLaws.{wrote-then}
 use Rattle.text.proofs.LineLaws.{word-line-most}
 use Rattle.answers.specs.Numbers.{ranNumber, ranPlace, ranReason}
 use Rattle.terms.specs.Rules.{usedRows}
-use Rattle.theory.specs.Run.{RunOutcome}
-use Rattle.theory.specs.Listing.{endWord, objectWord, messageWord, codeLines, endLine, cellLines, storeLines, ranLines}
+use Rattle.calls.specs.Run.{RunOutcome}
+use Rattle.printing.specs.Listing.{endWord, objectWord, messageWord, codeLines, endLine, cellLines, storeLines, ranLines}
 use Rattle.printing.proofs.LineLaws.{code-length, cells-length}
 
 -- the numbers of the end line

@@ -3,7 +3,7 @@ ghost use mathlib.Core.List.{[], _∷_, _++_};
 ghost use Prim.Native.Nat.{_+_, _<_, _≤_};
 ghost use lib.ListN.{length, take};
 ghost use Rattle.text.specs.Written.{Wrote};
-ghost use Rattle.theory.specs.Listing.{objectWord, messageWord, refusedLine, codeLines, endLine, cellLines, ranLines};
+ghost use Rattle.printing.specs.Listing.{objectWord, messageWord, refusedLine, codeLines, endLine, cellLines, ranLines};
 use answers::Ran;
 
 // `refused NUMBER PLACE`.

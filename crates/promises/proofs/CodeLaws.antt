@@ -9,11 +9,12 @@ use Rattle.answers.specs.declared.Compiled.the-variants as Compiled
 use Rattle.code.specs.Instruction.{wordOf}
 use Rattle.patterns.specs.Kinds.{RightKinds}
 use Rattle.patterns.specs.Tree.{patternOf}
-use Rattle.theory.specs.Machine.{namedCells}
-use Rattle.theory.specs.Compile.{CompileOutcome, kindIn, variables, codeWords, usedPart, compiledCode, compile}
-use Rattle.theory.specs.Run.{Lent}
-use Rattle.theory.proofs.SetCells.{same-cells}
-use Rattle.theory.proofs.Product.{Written, compile-writes}
+use Rattle.numbers.specs.Limits.{namedCells, variables}
+use Rattle.calls.specs.Compile.{CompileOutcome, codeWords, usedPart, compiledCode, compile}
+use Rattle.numbers.specs.Kinds.{kindIn}
+use Rattle.calls.specs.Run.{Lent}
+use Rattle.calls.proofs.SetCells.{same-cells}
+use Rattle.calls.proofs.Product.{Written, compile-writes}
 use Rattle.promises.specs.Answers.{compileNumber}
 use Rattle.promises.specs.Demand3.{CodeFor}
 use Rattle.promises.proofs.CompileLaws.{number-done}

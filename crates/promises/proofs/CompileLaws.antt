@@ -18,10 +18,13 @@ use Rattle.patterns.specs.Rules.{badPattern}
 use Rattle.patterns.specs.Kinds.{wrongKind}
 use Rattle.theory.specs.Machine.{Line}
 use Rattle.theory.specs.Emission.{Env, Emitted, ok, refuse}
-use Rattle.theory.specs.Compile.{CompileOutcome, when, first, kindIn, variables, codeWords, leaves, finished, lengthsFit, emitted, compileBy, compile}
+use Rattle.calls.specs.Compile.{CompileOutcome, codeWords, leaves, finished, lengthsFit, emitted, compileBy, compile}
+use Rattle.answers.specs.First.{when, first}
+use Rattle.numbers.specs.Kinds.{kindIn}
+use Rattle.numbers.specs.Limits.{variables}
 use Rattle.theory.proofs.InLimits.{Refusal, written, read}
-use Rattle.theory.proofs.CompileLaws.{passes-when, fails-when, Checked, compile-within}
-use Rattle.theory.proofs.Product.{checked-refuses}
+use Rattle.calls.proofs.CompileLaws.{passes-when, fails-when, Checked, compile-within}
+use Rattle.calls.proofs.Product.{checked-refuses}
 use Rattle.promises.specs.Answers.{CompileAnswers, compileNumber}
 use Rattle.promises.specs.Conditions.{Emits}
 

@@ -9,12 +9,13 @@ use lib.Dec.{T, eqb, leb}
 use lib.ListN.{length, getD}
 use Rattle.word.specs.Lowest.{each}
 use Rattle.word.proofs.All.{all-at}
-use Rattle.word.proofs.TestLaws.{both, equals, at-most}
+use Rattle.word.proofs.TestLaws.{equals, at-most}
 use Rattle.stores.specs.Cells.{unset}
 use Rattle.stores.specs.Valid.{kindsFit, eachVariable, undeclaredUnset, declared}
 use Rattle.stores.proofs.ValidLaws.{declared-stores}
-use Rattle.theory.specs.Compile.{kindIn, variables}
-use Rattle.theory.specs.Compile as Compile
+use Rattle.numbers.specs.Kinds.{kindIn}
+use Rattle.numbers.specs.Limits.{variables}
+use Rattle.calls.specs.Compile as Compile
 use Rattle.promises.specs.Conditions.{cell, BadVariable}
 
 -- 3, in compile

@@ -13,15 +13,15 @@ use Rattle.patterns.specs.Tree.{patternOf}
 use Rattle.theory.specs.TermModel.{Term}
 use Rattle.theory.specs.Outcome.{Outcome, done, stuck, room}
 use Rattle.theory.specs.Figure2.{TermStores}
-use Rattle.theory.specs.Compile.{kindIn}
-use Rattle.theory.specs.Run.{Lent, RunOutcome, stateOver, stateOf, leftBy, run}
+use Rattle.numbers.specs.Kinds.{kindIn}
+use Rattle.calls.specs.Run.{Lent, RunOutcome, stateOver, stateOf, leftBy, run}
 use Rattle.theory.specs.Meaning.{meaning}
 use Rattle.theory.proofs.MatchingRules.{matches-is-done}
 use Rattle.theory.proofs.CreatingRules.{creates-is-done}
 use Rattle.theory.proofs.Room.{Free}
 use Rattle.theory.proofs.RowsRunAsTerms.{termsOf}
-use Rattle.theory.proofs.Demand3.{MatchEnds, CreateEnds}
-use Rattle.theory.proofs.Theorems.{demand-3-matching, demand-3-creating}
+use Rattle.calls.proofs.Demand3.{MatchEnds, CreateEnds}
+use Rattle.calls.proofs.Theorems.{demand-3-matching, demand-3-creating}
 use Rattle.promises.specs.Reading.{termIn, after, messageBefore, messageAfter}
 use Rattle.promises.specs.Conditions.{Room}
 use Rattle.promises.specs.Demand3.{Prepared, MatchesTo, CreatesTo, DecidesMatch, DecidesCreation}

@@ -19,11 +19,12 @@ use Rattle.stores.specs.Valid.{kindsFit, eachVariable, valid}
 use Rattle.theory.specs.Store.{put}
 use Rattle.theory.specs.Machine.{message, setMessage, setMessages, messages}
 use Rattle.theory.specs.Meaning.{termAt}
-use Rattle.theory.specs.Compile.{first, leaves, compiledCode, compile}
-use Rattle.theory.specs.Run.{Lent, stateOver, leftBy, linesFrom, run}
-use Rattle.theory.specs.Cases.{cells, slice, after, P1-code, P2-code}
-use Rattle.theory.proofs.Cases.{worked}
-use Rattle.theory.proofs.CompileLaws.{part-written}
+use Rattle.answers.specs.First.{first}
+use Rattle.calls.specs.Compile.{leaves, compiledCode, compile}
+use Rattle.calls.specs.Run.{Lent, stateOver, leftBy, linesFrom, run}
+use Rattle.calls.specs.Cases.{cells, slice, after, P1-code, P2-code}
+use Rattle.calls.proofs.Cases.{worked}
+use Rattle.calls.proofs.CompileLaws.{part-written}
 use Rattle.promises.specs.Answers.{RunAnswers, compileNumber}
 use Rattle.promises.specs.Reading.{messageBefore, messageAfter}
 use Rattle.promises.specs.Demand3.{CodeFor, Prepared}

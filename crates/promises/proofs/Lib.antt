@@ -16,5 +16,6 @@ pub mod Demand2
 pub mod NumberLaws
 pub mod Demand1
 pub mod ListingLaws
+pub mod Printed
 pub mod Example
 pub mod Promises

@@ -9,9 +9,9 @@ use lib.Dec.{T, eqb}
 use Rattle.word.proofs.TestLaws.{is-true, is-false, equals}
 use Rattle.word.proofs.LowestLaws.{each-all}
 use Rattle.stores.specs.Certificates.{spareOf}
-use Rattle.theory.specs.Bundle.{bundleIn, certificatesClear, BundleWithin}
-use Rattle.theory.specs.Listing.{refusedLine, compiledFrom, compiledLines, bundleLines, listing}
-use Rattle.theory.proofs.BundleLaws.{read-within, unread-outside, within-read}
+use Rattle.bundles.specs.Bundle.{bundleIn, certificatesClear, BundleWithin}
+use Rattle.printing.specs.Listing.{refusedLine, compiledFrom, compiledLines, bundleLines, listing}
+use Rattle.bundles.proofs.ReadLaws.{read-within, unread-outside, within-read}
 use Rattle.promises.specs.Answers.{compileNumber}
 use Rattle.promises.specs.Listing.{CertificatesClear, ListingTable}
 

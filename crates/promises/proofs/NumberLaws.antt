@@ -17,11 +17,12 @@ use Rattle.stores.specs.Valid.{declared}
 use Rattle.patterns.proofs.RuleLaws.{bad-pattern-at, bad-pattern-none}
 use Rattle.patterns.proofs.RightRow.{wrong-kind-at, wrong-kind-none}
 use Rattle.theory.specs.Outcome.{stuck}
-use Rattle.theory.specs.Compile.{CompileOutcome, kindIn, compile}
-use Rattle.theory.specs.Run.{Lent, stateOf, linesOf, run}
-use Rattle.theory.proofs.CompileLaws.{Checked, compile-within}
+use Rattle.calls.specs.Compile.{CompileOutcome, compile}
+use Rattle.numbers.specs.Kinds.{kindIn}
+use Rattle.calls.specs.Run.{Lent, stateOf, linesOf, run}
+use Rattle.calls.proofs.CompileLaws.{Checked, compile-within}
 use Rattle.theory.proofs.Models.{calm-rows}
-use Rattle.theory.proofs.RunLaws.{stepsOf, Passed, run-within, stores-valid, passed-valid, valid-passes}
+use Rattle.calls.proofs.RunLaws.{stepsOf, Passed, run-within, stores-valid, passed-valid, valid-passes}
 use Rattle.promises.specs.Answers.{CompileAnswers, RunAnswers}
 use Rattle.promises.specs.Conditions.{CompileWithin, BadVariable, CompileChecked, RunChecked}
 use Rattle.promises.specs.Steps.{After}

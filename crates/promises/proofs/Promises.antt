@@ -1,11 +1,12 @@
 -- All promises, each by the page that proves it.
-use Rattle.theory.proofs.Cases.{worked}
+use Rattle.calls.proofs.Cases.{worked}
 use Rattle.promises.specs.Promises.{Promises}
 use Rattle.promises.proofs.Demand1.{demand-1}
 use Rattle.promises.proofs.Demand2.{demand-2}
 use Rattle.promises.proofs.Demand3.{demand-3}
 use Rattle.promises.proofs.Example.{example}
 use Rattle.promises.proofs.ListingLaws.{listing-table}
+use Rattle.promises.proofs.Printed.{printed}
 
 pub promises : Promises
 promises = record {
@@ -14,6 +15,7 @@ promises = record {
   demand-3 = demand-3;
   example = example;
   listings = listing-table;
+  printed = printed;
   cases = worked .0;
   orders = worked .1;
   corners = worked .2;

@@ -16,17 +16,19 @@ use Rattle.patterns.proofs.TreeLaws.{raws-below}
 use Rattle.theory.specs.Outcome.{Outcome, done, stuck, room}
 use Rattle.theory.specs.RowModel.{rowWorld}
 use Rattle.theory.specs.TermModel.{Term}
-use Rattle.theory.specs.Machine.{Line, namedCells, exec}
+use Rattle.theory.specs.Machine.{Line, exec}
+use Rattle.numbers.specs.Limits.{namedCells, variables}
 use Rattle.theory.specs.Compilers.{compile↓, compile↑}
-use Rattle.theory.specs.Compile.{kindIn, variables, entry}
-use Rattle.theory.specs.Run.{Lent, stateOver, stateOf, linesOf, run}
+use Rattle.numbers.specs.Kinds.{kindIn}
+use Rattle.calls.specs.Compile.{entry}
+use Rattle.calls.specs.Run.{Lent, stateOver, stateOf, linesOf, run}
 use Rattle.theory.proofs.Compiled.{known}
-use Rattle.theory.proofs.SetCells as SetCells
-use Rattle.theory.proofs.SetCells.{set-held}
+use Rattle.calls.proofs.SetCells as SetCells
+use Rattle.calls.proofs.SetCells.{set-held}
 use Rattle.theory.proofs.Places.{movedTo, same-instructions}
-use Rattle.theory.proofs.CompiledWords.{compiled-words-read}
+use Rattle.calls.proofs.CompiledWords.{compiled-words-read}
 use Rattle.theory.proofs.Theorems.{reads-set-matching, reads-set-creating}
-use Rattle.theory.proofs.RunLaws.{stepsOf, Passed, passed-valid}
+use Rattle.calls.proofs.RunLaws.{stepsOf, Passed, passed-valid}
 use Rattle.promises.specs.Reading.{messageBefore}
 use Rattle.promises.specs.Demand3.{CodeFor}
 use Rattle.promises.proofs.RunLaws.{RunGives, run-gives}

@@ -11,14 +11,15 @@ use lib.Seq.{take-at}
 use Rattle.answers.specs.declared.Ran.{Ran}
 use Rattle.stores.specs.Cells.{unset, held, storeOf, cellsFrom}
 use Rattle.theory.specs.RowModel.{rowWorld}
-use Rattle.theory.specs.Machine.{State, namedCells, scratchCells}
-use Rattle.theory.specs.Compile.{kindIn, variables}
-use Rattle.theory.specs.Run.{Lent, stateOver, stateOf, leftBy}
+use Rattle.theory.specs.Machine.{State}
+use Rattle.numbers.specs.Limits.{namedCells, scratchCells, variables}
+use Rattle.numbers.specs.Kinds.{kindIn}
+use Rattle.calls.specs.Run.{Lent, stateOver, stateOf, leftBy}
 use Rattle.theory.specs.Meaning.{meaning, certifiedTerm}
 use Rattle.theory.proofs.ValidMemory.{row-small}
 use Rattle.theory.proofs.RowsRunAsTerms.{Held, IsUsed, HasTag, ValidState, termsOf}
-use Rattle.theory.proofs.ValidLent.{tagged}
-use Rattle.theory.proofs.ValidAgain.{length-cells, getD-cells, held-back}
+use Rattle.calls.proofs.ValidLent.{tagged}
+use Rattle.calls.proofs.ValidAgain.{length-cells, getD-cells, held-back}
 use Rattle.promises.specs.Reading.{termIn, before, after, messageAfter}
 
 none-held : held unset ≡ none

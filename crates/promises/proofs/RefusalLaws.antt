@@ -19,11 +19,12 @@ use Rattle.theory.specs.Emission.{refuse}
 use Rattle.theory.specs.Compilers.{compile↓, compile↑}
 use Rattle.theory.specs.Figure2.{TermStores, Matches}
 use Rattle.theory.specs.Figure3.{Creates}
-use Rattle.theory.specs.Compile.{kindIn, entry, emitted, compile}
+use Rattle.numbers.specs.Kinds.{kindIn}
+use Rattle.calls.specs.Compile.{entry, emitted, compile}
 use Rattle.theory.proofs.Compiled.{known}
-use Rattle.theory.proofs.SetCells as SetCells
-use Rattle.theory.proofs.CompileLaws.{Checked}
-use Rattle.theory.proofs.Product.{checked-right}
+use Rattle.calls.proofs.SetCells as SetCells
+use Rattle.calls.proofs.CompileLaws.{Checked}
+use Rattle.calls.proofs.Product.{checked-right}
 use Rattle.theory.proofs.Theorems.{figure2-then-match, figure3-then-create, refused-matching, refused-creating}
 use Rattle.promises.specs.Demand3.{SetAs, Refused}
 use Rattle.promises.proofs.CompileLaws.{compile-answered, kinds-long}

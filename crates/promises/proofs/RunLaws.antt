@@ -17,11 +17,12 @@ use Rattle.terms.specs.Rules.{badTerm}
 use Rattle.theory.specs.Outcome.{Outcome, done, stuck, room}
 use Rattle.theory.specs.RowModel.{rowWorld}
 use Rattle.theory.specs.Machine.{State}
-use Rattle.theory.specs.Compile.{when, first, kindIn}
-use Rattle.theory.specs.Run.{Lent, RunOutcome, stateOf, linesOf, unchanged, leftBy, ended, lengthsFit, runBy, run}
+use Rattle.answers.specs.First.{when, first}
+use Rattle.numbers.specs.Kinds.{kindIn}
+use Rattle.calls.specs.Run.{Lent, RunOutcome, stateOf, linesOf, unchanged, leftBy, ended, lengthsFit, runBy, run}
 use Rattle.theory.proofs.Models.{calm-rows}
-use Rattle.theory.proofs.CompileLaws.{passes-when, fails-when}
-use Rattle.theory.proofs.RunLaws.{storesFit, stepsOf, Passed, run-steps}
+use Rattle.calls.proofs.CompileLaws.{passes-when, fails-when}
+use Rattle.calls.proofs.RunLaws.{storesFit, stepsOf, Passed, run-steps}
 use Rattle.promises.specs.Answers.{RunAnswers, runNumber}
 use Rattle.promises.proofs.StepLaws.{exec-reasoned, reason-back}
 

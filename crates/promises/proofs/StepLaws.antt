@@ -13,7 +13,8 @@ use Rattle.code.specs.declared.Instruction.the-variants.{Load, Store, StoreCons
 use Rattle.theory.specs.Outcome.{Outcome, done, stuck, room, bind, Answer, at, need}
 use Rattle.theory.specs.World.{World, Op, Test}
 use Rattle.theory.specs.World as Voc
-use Rattle.theory.specs.Machine.{Line, State, namedCells, message, messages, setMessage, setMessages, step, exec}
+use Rattle.theory.specs.Machine.{Line, State, message, messages, setMessage, setMessages, step, exec}
+use Rattle.numbers.specs.Limits.{namedCells}
 use Rattle.theory.proofs.StoreLaws.{put-other}
 use Rattle.theory.proofs.CellLaws.{setMessage-named, setMessage-scratch}
 use Rattle.theory.proofs.RowSteps.{Any}

@@ -10,15 +10,16 @@ use Rattle.code.proofs.WordLaws.{no-bad-word-iff}
 use Rattle.theory.specs.Outcome.{Outcome, done, stuck, room}
 use Rattle.theory.specs.RowModel.{rowWorld}
 use Rattle.theory.specs.Machine.{State}
-use Rattle.theory.specs.Compile.{SameSet, CompileOutcome, kindIn, codeWords, compiledCode, compile}
-use Rattle.theory.specs.Run.{Lent, run}
-use Rattle.theory.specs.Limits.{AllInRange}
-use Rattle.theory.proofs.SetCells as SetCells
-use Rattle.theory.proofs.SetCells.{left, wrote, same-cells, same-slices}
-use Rattle.theory.proofs.CompileLaws.{part-written}
-use Rattle.theory.proofs.CompiledWords.{compiled-words-good}
-use Rattle.theory.proofs.Product.{compile-writes}
-use Rattle.theory.proofs.RunLaws.{stepsOf, Passed}
+use Rattle.calls.specs.Compile.{SameSet, CompileOutcome, codeWords, compiledCode, compile}
+use Rattle.numbers.specs.Kinds.{kindIn}
+use Rattle.calls.specs.Run.{Lent, run}
+use Rattle.theory.specs.Bounds.{AllInRange}
+use Rattle.calls.proofs.SetCells as SetCells
+use Rattle.calls.proofs.SetCells.{left, wrote, same-cells, same-slices}
+use Rattle.calls.proofs.CompileLaws.{part-written}
+use Rattle.calls.proofs.CompiledWords.{compiled-words-good}
+use Rattle.calls.proofs.Product.{compile-writes}
+use Rattle.calls.proofs.RunLaws.{stepsOf, Passed}
 use Rattle.promises.specs.Answers.{compileNumber}
 use Rattle.promises.specs.Steps.{After, At}
 use Rattle.promises.specs.Demand2.{WritesTable, SameCode, StepByStep}

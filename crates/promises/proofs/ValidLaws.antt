@@ -20,20 +20,21 @@ use Rattle.stores.specs.Cells.{unset, held, storeOf}
 use Rattle.theory.specs.Outcome.{Outcome, done}
 use Rattle.theory.specs.RowModel.{rowWorld}
 use Rattle.theory.specs.TermModel.{termWorld}
-use Rattle.theory.specs.Machine.{Line, State, namedCells}
-use Rattle.theory.specs.Compile.{kindIn}
-use Rattle.theory.specs.Run.{Lent, lentAfter, addLine, linesFrom, linesOf, stateOver, stateOf, leftBy, run}
+use Rattle.theory.specs.Machine.{Line, State}
+use Rattle.numbers.specs.Limits.{namedCells}
+use Rattle.numbers.specs.Kinds.{kindIn}
+use Rattle.calls.specs.Run.{Lent, lentAfter, addLine, linesFrom, linesOf, stateOver, stateOf, leftBy, run}
 use Rattle.theory.proofs.Fitting.{ByteFits, good-word-fits}
 use Rattle.theory.proofs.Models.{calm-rows}
 use Rattle.theory.proofs.Related.{OutcomeR, dones}
 use Rattle.theory.proofs.RowsRunAsTerms.{ValidState, Reads, termsOf, rows-run-as-terms}
 use Rattle.theory.proofs.RowsKept.{Appended, exec-appends}
-use Rattle.theory.proofs.ValidLent.{valid-state}
-use Rattle.theory.proofs.ValidAgain.{stays-valid}
-use Rattle.theory.proofs.RunLaws.{stepsOf, Passed, passed-valid}
+use Rattle.calls.proofs.ValidLent.{valid-state}
+use Rattle.calls.proofs.ValidAgain.{stays-valid}
+use Rattle.calls.proofs.RunLaws.{stepsOf, Passed, passed-valid}
 use Rattle.promises.specs.Answers.{runNumber}
 use Rattle.promises.specs.Reading.{after, messageAfter}
-use Rattle.theory.specs.Valid.{Valid}
+use Rattle.calls.specs.Valid.{Valid}
 use Rattle.promises.proofs.StepLaws.{named-past}
 use Rattle.promises.proofs.ReadingLaws.{after-read, message-read}
 use Rattle.promises.proofs.RunLaws.{finished}

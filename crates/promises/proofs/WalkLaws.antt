@@ -12,12 +12,12 @@ use Rattle.code.specs.GoodWords.{AllGoodWords}
 use Rattle.theory.specs.Outcome.{Outcome, done, stuck, room, bind}
 use Rattle.theory.specs.RowModel.{rowWorld}
 use Rattle.theory.specs.Machine.{Line, line, State, step, exec}
-use Rattle.theory.specs.Compile.{kindIn}
-use Rattle.theory.specs.Run.{Lent, stateOf, linesFrom}
+use Rattle.numbers.specs.Kinds.{kindIn}
+use Rattle.calls.specs.Run.{Lent, stateOf, linesFrom}
 use Rattle.theory.proofs.Models.{calm-rows}
 use Rattle.promises.specs.Steps.{Word, After, start, next, At}
 use Rattle.promises.proofs.StepLaws.{Ends, goes, sticks, fills, KeptPast, step-ends}
-use Rattle.theory.proofs.RunLaws.{stepsOf}
+use Rattle.calls.proofs.RunLaws.{stepsOf}
 
 module _ (x : Lent) (code : List ℕ) where
   abbrev kind : ℕ → ℕ

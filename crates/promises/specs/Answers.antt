@@ -2,8 +2,8 @@
 use Prim.Native.Nat.{ℕ}
 use mathlib.Core.Path.{_≡_}
 use Rattle.answers.specs.Numbers.{compiledNumber, compiledPlace, ranNumber, ranPlace, ranReason}
-use Rattle.theory.specs.Compile.{CompileOutcome}
-use Rattle.theory.specs.Run.{RunOutcome}
+use Rattle.calls.specs.Compile.{CompileOutcome}
+use Rattle.calls.specs.Run.{RunOutcome}
 
 abbrev pub CompileAnswers : CompileOutcome → ℕ → ℕ → Type 0
 CompileAnswers o number place = (compiledNumber (o .answer) ≡ number) × (compiledPlace (o .answer) ≡ place)

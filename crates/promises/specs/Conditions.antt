@@ -13,12 +13,13 @@ use Rattle.stores.specs.Cells.{unset}
 use Rattle.patterns.specs.Tree.{patternOf}
 use Rattle.patterns.specs.GoodRow.{fieldsAt, BadRow, Unnamed}
 use Rattle.patterns.specs.RightRow.{RightRow}
-use Rattle.theory.specs.RowModel.{mostNames}
+use Rattle.numbers.specs.Limits.{mostNames, variables, mostCodeWords}
 use Rattle.theory.specs.Machine.{Line}
 use Rattle.theory.specs.Emission.{Env, Emitted, ok}
-use Rattle.theory.specs.Compile.{kindIn, variables, mostPatternRows, tables, entry}
-use Rattle.theory.specs.Run.{Lent, mostCodeWords}
-pub use Rattle.theory.specs.Valid.{CompileWithin, LentWithin, ValidStores, Valid}
+use Rattle.numbers.specs.Kinds.{kindIn}
+use Rattle.calls.specs.Compile.{tables, entry}
+use Rattle.calls.specs.Run.{Lent}
+pub use Rattle.calls.specs.Valid.{CompileWithin, LentWithin, ValidStores, Valid}
 
 -- a cell by its number
 abbrev pub cell : List ℕ → ℕ → ℕ

@@ -12,8 +12,8 @@ use Rattle.theory.specs.Outcome.{stuck, room}
 use Rattle.theory.specs.RowModel.{rowWorld}
 use Rattle.theory.specs.Machine.{State}
 use Rattle.theory.specs.Emission.{refuse}
-use Rattle.theory.specs.Compile.{CompileOutcome, compile}
-use Rattle.theory.specs.Run.{Lent, RunOutcome, unchanged, run}
+use Rattle.calls.specs.Compile.{CompileOutcome, compile}
+use Rattle.calls.specs.Run.{Lent, RunOutcome, unchanged, run}
 use Rattle.promises.specs.Answers.{CompileAnswers, RunAnswers, compileNumber, runNumber}
 use Rattle.promises.specs.Conditions.{CompileWithin, BadVariable, BadPatternAt, GoodPattern, WrongKindAt, CompileChecked, emission, Emits, RunWithin, BadTermAt, ValidStores, Valid, BadWordAt, RunChecked}
 use Rattle.promises.specs.Steps.{After, At}

@@ -12,9 +12,10 @@ use Rattle.theory.specs.Outcome.{stuck, room}
 use Rattle.theory.specs.RowModel.{rowWorld}
 use Rattle.theory.specs.Machine.{Line, State}
 use Rattle.theory.specs.Emission.{Env, ok}
-use Rattle.theory.specs.Limits.{CellsFit}
-use Rattle.theory.specs.Compile.{SameSet, CompileOutcome, kindIn, codeWords, compiledCode, tables, entry, compile}
-use Rattle.theory.specs.Run.{Lent, RunOutcome, leftBy, run}
+use Rattle.theory.specs.Bounds.{CellsFit}
+use Rattle.calls.specs.Compile.{SameSet, CompileOutcome, codeWords, compiledCode, tables, entry, compile}
+use Rattle.numbers.specs.Kinds.{kindIn}
+use Rattle.calls.specs.Run.{Lent, RunOutcome, leftBy, run}
 use Rattle.promises.specs.Answers.{CompileAnswers, RunAnswers, compileNumber}
 use Rattle.promises.specs.Steps.{After, At}
 

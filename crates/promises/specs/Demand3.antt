@@ -10,11 +10,12 @@ use Rattle.answers.specs.Numbers.{ranReason}
 use Rattle.stores.specs.Cells.{unset}
 use Rattle.patterns.specs.Tree.{patternOf}
 use Rattle.theory.specs.TermModel.{Term}
-use Rattle.theory.specs.Machine.{namedCells}
+use Rattle.numbers.specs.Limits.{namedCells}
 use Rattle.theory.specs.Figure2.{TermStores, Matches}
 use Rattle.theory.specs.Figure3.{Creates}
-use Rattle.theory.specs.Compile.{SameSet, CompileOutcome, kindIn, compiledCode, compile}
-use Rattle.theory.specs.Run.{Lent, lentAfter, run}
+use Rattle.calls.specs.Compile.{SameSet, CompileOutcome, compiledCode, compile}
+use Rattle.numbers.specs.Kinds.{kindIn}
+use Rattle.calls.specs.Run.{Lent, lentAfter, run}
 use Rattle.promises.specs.Answers.{RunAnswers, compileNumber, runNumber}
 use Rattle.promises.specs.Reading.{before, after, messageBefore, messageAfter}
 use Rattle.promises.specs.Conditions.{Valid, Room}

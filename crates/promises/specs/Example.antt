@@ -9,8 +9,8 @@ use Rattle.terms.specs.Shape as Shape
 use Rattle.terms.specs.Row.{wordOf}
 use Rattle.stores.specs.Cells.{unset}
 use Rattle.theory.specs.TermModel.{Term, atom, encrypted, tupled, cons, nil}
-use Rattle.theory.specs.Run.{Lent, run}
-use Rattle.theory.specs.Cases.{row, objectRow, rawRow, tupleRow, lent, P1-code, P2-code}
+use Rattle.calls.specs.Run.{Lent, run}
+use Rattle.calls.specs.Cases.{row, objectRow, rawRow, tupleRow, lent, P1-code, P2-code}
 use Rattle.promises.specs.Reading.{after, messageBefore}
 use Rattle.promises.specs.Demand3.{Prepared, MatchesTo, CreatesTo}
 

@@ -3,19 +3,44 @@ use Prim.Native.Nat.{ℕ, zero}
 use mathlib.Core.Path.{_≡_}
 use mathlib.Core.Logic.{_↔_, _≢_}
 use mathlib.Core.Option.{none, some}
-use mathlib.Core.List.{List, _++_}
+use mathlib.Core.List.{List, [], _∷_, _++_}
+use lib.ListN.{replicate}
 use Rattle.word.specs.All.{All}
+use Rattle.word.specs.Bytes.{spelled}
+use Rattle.text.specs.Lines.{line, wordLine}
 use Rattle.answers.specs.Numbers.{compiledNumber, compiledPlace}
 use Rattle.stores.specs.Certificates.{spareOf}
-use Rattle.theory.specs.Compile.{compiledCode}
-use Rattle.theory.specs.Run.{run}
-use Rattle.theory.specs.Bundle.{Bundle, bundleIn, readBundle, BundleWithin}
-use Rattle.theory.specs.Listing.{refusedLine, codeLines, endLine, storeLines, lentTo, compiledFrom, listing}
+use Rattle.calls.specs.Compile.{compiledCode}
+use Rattle.calls.specs.Run.{run}
+use Rattle.bundles.specs.Bundle.{Bundle, bundleIn, readBundle, BundleWithin}
+use Rattle.printing.specs.Listing.{endWord, objectWord, messageWord, refusedLine, codeLines, endLine, storeLines, lentTo, compiledFrom, listing}
 use Rattle.promises.specs.Answers.{compileNumber}
 
 -- not 3: no spare certificate bit
 abbrev pub CertificatesClear : Bundle → Type 0
 CertificatesClear b = All (λ word. spareOf word ≡ 0) (b .certificates)
+
+-- the bundle of the listing's example, word for word
+abbrev pub P1-bundle : List ℕ
+P1-bundle =
+    0x0300_0008_0060_0040
+    ∷ 0x0000_0000_0000_0000 ∷ 0x1000_0000_0000_0000 ∷ 0x8040_0000_4000_8000
+    ∷ 0x2000_0000_0000_0003 ∷ 0x3000_0000_0000_0001 ∷ 0xa200_0000_0100_0000
+    ∷ 0x2a00_0000_0000_0000 ∷ replicate 3 0 ++ replicate 32 0xffff_ffff_ffff_ffff
+
+-- the listing that document 01 prints
+pub record Printed : Type 0 where
+  pub example : listing (spelled 8 P1-bundle)
+      ≡ line (0 ∷ 5 ∷ 1 ∷ 0 ∷ 0 ∷ [])
+      ++ line (1 ∷ 8 ∷ 1 ∷ 64 ∷ 2 ∷ [])
+      ++ line (2 ∷ 2 ∷ 64 ∷ 0 ∷ 0 ∷ [])
+      ++ line (3 ∷ 5 ∷ 0 ∷ 0 ∷ 0 ∷ [])
+      ++ line (4 ∷ 2 ∷ 65 ∷ 0 ∷ 0 ∷ [])
+      ++ line (5 ∷ 3 ∷ 0 ∷ 0 ∷ 0 ∷ [])
+      ++ wordLine endWord (0 ∷ 6 ∷ 0 ∷ 3 ∷ 4 ∷ 1 ∷ [])
+      ++ wordLine objectWord (0 ∷ 0 ∷ [])
+      ++ wordLine objectWord (1 ∷ 2 ∷ [])
+      ++ wordLine messageWord (0 ∷ 1 ∷ [])
 
 pub record ListingTable (bytes : List ℕ) : Type 0 where
   pub unread : (readBundle bytes ≡ none) ↔ (BundleWithin bytes → ⊥)

@@ -1,13 +1,13 @@
 -- Start here: all that is promised of compile, run, the bundle and the listing.
 use Prim.Native.Nat.{ℕ}
 use mathlib.Core.List.{List}
-use Rattle.theory.specs.Cases.{Cases}
-use Rattle.theory.specs.Orders.{Orders, Corners}
+use Rattle.calls.specs.Cases.{Cases}
+use Rattle.calls.specs.Orders.{Orders, Corners}
 use Rattle.promises.specs.Demand1.{Demand1}
 use Rattle.promises.specs.Demand2.{Demand2}
 use Rattle.promises.specs.Demand3.{Demand3}
 use Rattle.promises.specs.Example.{Example}
-use Rattle.promises.specs.Listing.{ListingTable}
+use Rattle.promises.specs.Listing.{ListingTable, Printed}
 
 pub record Promises : Type 0 where
   -- every number exactly where its condition holds, and nothing changed by a refusal
@@ -20,6 +20,8 @@ pub record Promises : Type 0 where
   pub example : Example
   -- what a bundle's listing prints
   pub listings : (bytes : List ℕ) → ListingTable bytes
+  -- and what it prints of P1
+  pub printed : Printed
   -- P1 to P10
   pub cases : Cases
   -- the order of 6 and 7 form by form, and further corners

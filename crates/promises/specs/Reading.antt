@@ -5,9 +5,9 @@ use mathlib.Core.List.{List}
 use lib.ListN.{getD, take}
 use Rattle.stores.specs.Cells.{unset, held}
 use Rattle.theory.specs.TermModel.{Term}
-use Rattle.theory.specs.Machine.{namedCells}
+use Rattle.numbers.specs.Limits.{namedCells}
 use Rattle.theory.specs.Figure2.{TermStores}
-use Rattle.theory.specs.Run.{Lent, RunOutcome}
+use Rattle.calls.specs.Run.{Lent, RunOutcome}
 use Rattle.theory.specs.Meaning.{meaning, certifiedTerm}
 
 -- the term in a cell, where it is set

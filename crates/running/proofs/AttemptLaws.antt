@@ -1,6 +1,6 @@
 -- A run over cells that may be lost: a refusal loses none, and what is done or not done says which cells run leaves.
 use Prim.Native.Nat.{ℕ}
-use mathlib.Core.Path.{_≡_, refl, sym, _∙_}
+use mathlib.Core.Path.{_≡_, refl}
 use mathlib.Core.Bool.{Bool, true, false, cond}
 use mathlib.Core.Option.{some}
 use mathlib.Core.List.{List}
@@ -8,8 +8,8 @@ use borrow.Author.Tests.{eq-eqb, ne-eqb}
 use lib.Dec.{eqb}
 use Rattle.answers.specs.Numbers.{ranNumber}
 use Rattle.answers.specs.declared.Ran.{Ran}
-use Rattle.theory.specs.Compile.{first}
-use Rattle.theory.specs.Run.{Lent, RunOutcome, refusals, run}
+use Rattle.answers.specs.First.{first}
+use Rattle.calls.specs.Run.{Lent, RunOutcome, refusals, run}
 use Rattle.running.specs.Steps.{cellsOf}
 use Rattle.running.proofs.LookLaws.{run-refused}
 

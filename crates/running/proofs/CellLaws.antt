@@ -1,9 +1,7 @@
 -- The cells of a state are those that it was made of.
-use Prim.Native.Nat.{ℕ, zero, suc, _+_, _<_, _≤_}
-use mathlib.Core.Path.{_≡_, refl, sym, _∙_, ap}
-use mathlib.Core.Bool.{Bool, true, false, cond}
-use mathlib.Core.Option.{Option, none, some}
-use mathlib.Core.List.{List, [], _∷_, _++_}
+use Prim.Native.Nat.{ℕ, zero, suc, _+_}
+use mathlib.Core.Path.{_≡_, sym, _∙_}
+use mathlib.Core.List.{List}
 use native.Mathlib.Decide.{ℕ-discrete}
 use native.Mathlib.Omega.{arith}
 use lib.ListN.{length, getD, take, drop, length-drop, take-append-drop, drop-of-length-le}
@@ -11,8 +9,7 @@ use lib.Seq.{drop-cons, length-take-le}
 use Rattle.answers.specs.declared.Ran.{Ran}
 use Rattle.stores.specs.Cells.{unset, held, cellOf, storeOf, cellsFrom}
 use Rattle.theory.specs.RowModel.{Table}
-use Rattle.theory.specs.Machine.{namedCells, scratchCells}
-use Rattle.theory.specs.Run.{RunOutcome, stateOver, leftBy}
+use Rattle.calls.specs.Run.{stateOver, leftBy}
 use Rattle.machine.proofs.StateLaws.{held-unset, held-set}
 
 pub cell-back : (cell : ℕ) → cellOf (held cell) ≡ cell

@@ -1,7 +1,7 @@
 -- A run that has come to a word: the rows only grew, and what is left of the code gives the outcome of the whole.
 use Prim.Native.Nat.{ℕ, suc, _+_, _<_, _≤_}
 use mathlib.Core.Path.{_≡_, refl, sym, _∙_, ap}
-use mathlib.Core.Option.{none, some}
+use mathlib.Core.Option.{none}
 use mathlib.Core.List.{List, [], _∷_}
 use native.Mathlib.Numerals.{add-one}
 use native.Mathlib.Omega.{arith}
@@ -19,11 +19,10 @@ use Rattle.code.proofs.WordLaws.{GoodWord, good-iff, no-bad-word-iff}
 use Rattle.terms.specs.Rules.{usedRows}
 use Rattle.theory.specs.Outcome.{Outcome, done, bind}
 use Rattle.theory.specs.Outcome as Outcome
-use Rattle.theory.specs.World.{World}
 use Rattle.theory.specs.RowModel.{Table, rowWorld}
-use Rattle.theory.specs.Machine.{Line, line, State, step, exec}
-use Rattle.theory.specs.Compile.{kindIn}
-use Rattle.theory.specs.Run.{Lent, RunOutcome, unchanged, stateOver, stateOf, linesFrom, linesOf, runBy}
+use Rattle.theory.specs.Machine.{line, State, step, exec}
+use Rattle.numbers.specs.Kinds.{kindIn}
+use Rattle.calls.specs.Run.{Lent, RunOutcome, stateOver, stateOf, linesFrom, linesOf, runBy}
 use Rattle.theory.proofs.Places.{movedTo, moved-step}
 use Rattle.theory.proofs.RowsKept.{Appended, appended-none, exec-appends}
 use Rattle.machine.specs.Machine.{Slices, slices, stateAt, Within, SameLengths, Agrees, next, stuck, no-room}

@@ -1,12 +1,12 @@
 -- What is found before the steps: each check in its order, and what their passing leaves true.
-use Prim.Native.Nat.{ℕ, _<_, _≤_}
-use mathlib.Core.Path.{_≡_, refl, sym, _∙_, ap, subst}
+use Prim.Native.Nat.{ℕ, _<_}
+use mathlib.Core.Path.{_≡_, refl}
 use mathlib.Core.Logic.{⊎-elim}
-use mathlib.Core.Bool.{Bool, true, false, not, _&&_, _||_}
+use mathlib.Core.Bool.{Bool, true, false, not, _&&_}
 use mathlib.Core.Option.{Option, none, some}
-use mathlib.Core.List.{List, [], _∷_}
+use mathlib.Core.List.{List}
 use native.Mathlib.Omega.{arith}
-use lib.Dec.{T, eqb, leb, ltb}
+use lib.Dec.{T, eqb}
 use lib.ListN.{length}
 use Rattle.word.proofs.TestLaws.{both, twice, equals, is-false}
 use Rattle.answers.specs.declared.Ran.{Ran}
@@ -16,10 +16,11 @@ use Rattle.terms.specs.Rules.{usedRows, badTerm, checkedBy}
 use Rattle.terms.specs.declared.Checked.{Checked}
 use Rattle.terms.specs.declared.Checked.the-variants.{Bad, Used}
 use Rattle.terms.proofs.TableLaws.{used-rows}
-use Rattle.theory.specs.Compile.{first, kindIn}
-use Rattle.theory.specs.Run.{Lent, RunOutcome, unchanged, lengthsFit, refusals, runBy, run}
-use Rattle.theory.proofs.CompileLaws.{first-none, when-none, map-none}
-use Rattle.theory.proofs.RunLaws.{storesFit, Passed, passed-valid, run-within}
+use Rattle.answers.specs.First.{first}
+use Rattle.numbers.specs.Kinds.{kindIn}
+use Rattle.calls.specs.Run.{Lent, unchanged, lengthsFit, refusals, runBy, run}
+use Rattle.calls.proofs.CompileLaws.{first-none, when-none, map-none}
+use Rattle.calls.proofs.RunLaws.{storesFit, Passed, passed-valid, run-within}
 use Rattle.running.specs.Steps.{Ready, findingOf}
 use Rattle.running.specs.declared.Finding.{Finding}
 use Rattle.running.specs.declared.Finding.the-variants.{Refused, Accepted}

@@ -1,8 +1,8 @@
 -- A word that is read: its instruction's operands fit, and its step is the word's.
 use Prim.Native.Nat.{ℕ}
-use mathlib.Core.Path.{_≡_, refl, sym, _∙_, ap, subst}
+use mathlib.Core.Path.{_≡_, sym, _∙_, ap, subst}
 use mathlib.Core.List.{List}
-use mathlib.Core.Option.{Option, none, some}
+use mathlib.Core.Option.{some}
 use native.Mathlib.Omega.{arith}
 use lib.Dec.{T}
 use Rattle.code.specs.Instruction.{instructionOf, readOf}
@@ -11,7 +11,7 @@ use Rattle.code.specs.declared.Instruction.{Instruction}
 use Rattle.code.specs.declared.Read.{Read}
 use Rattle.code.specs.declared.Read.the-variants.{Is, Not}
 use Rattle.code.proofs.ReadLaws.{read-some}
-use Rattle.code.proofs.WordLaws.{GoodWord, good-iff}
+use Rattle.code.proofs.WordLaws.{good-iff}
 use Rattle.theory.specs.RowModel.{rowWorld}
 use Rattle.theory.specs.Machine.{step}
 use Rattle.machine.specs.Machine.{Slices, Within, stateAt, Agrees}

@@ -14,8 +14,9 @@ use Rattle.code.specs.declared.Instruction.{Instruction}
 use Rattle.terms.specs.Rules.{usedRows}
 use Rattle.theory.specs.RowModel.{rowWorld}
 use Rattle.theory.specs.Machine.{step}
-use Rattle.theory.specs.Compile.{kindIn}
-use Rattle.theory.specs.Run.{Lent, RunOutcome, mostCodeWords}
+use Rattle.numbers.specs.Kinds.{kindIn}
+use Rattle.calls.specs.Run.{Lent, RunOutcome}
+use Rattle.numbers.specs.Limits.{mostCodeWords}
 use Rattle.machine.specs.Machine.{Slices, stateAt, Within, Agrees}
 use Rattle.machine.specs.declared.Registers.{Registers}
 use Rattle.machine.specs.declared.Step.{Step}

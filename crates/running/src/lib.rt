@@ -1,14 +1,14 @@
 // Run: its checks in their order, then a step for each word on copies of the cells.
 ghost use mathlib.Core.Path.{_≡_};
-ghost use Rattle.theory.specs.Run.{run};
+ghost use Rattle.calls.specs.Run.{run};
 ghost use Rattle.running.specs.Steps.{cellsOf};
 use answers::Ran;
 use cells::copy;
 use cells::message_cells;
 use cells::object_cells;
-use code::TermRow;
 use looking::look;
 use machine::Registers;
+use numbers::TermRow;
 use words::steps;
 
 mod cells;

@@ -2,8 +2,8 @@
 ghost use mathlib.Core.Path.{_≡_};
 ghost use mathlib.Core.Bool.{_&&_};
 ghost use lib.Dec.{eqb, leb};
-ghost use Rattle.theory.specs.Compile.{first};
-ghost use Rattle.theory.specs.Run.{refusals};
+ghost use Rattle.answers.specs.First.{first};
+ghost use Rattle.calls.specs.Run.{refusals};
 ghost use Rattle.running.specs.Steps.{findingOf};
 use super::Finding;
 use answers::Ran;

@@ -10,8 +10,8 @@ use Rattle.word.proofs.TestLaws.{both}
 use Rattle.word.proofs.LowestLaws.{one-all}
 use Rattle.code.specs.Words.{hasKind, cellsFit, operandsFit}
 use Rattle.code.proofs.KindLaws.{object-below, cells-below}
-use Rattle.code.specs.declared.Object.{Object}
-use Rattle.code.specs.declared.Raw.{Raw}
+use Rattle.numbers.specs.declared.Object.{Object}
+use Rattle.numbers.specs.declared.Raw.{Raw}
 use Rattle.code.specs.declared.Instruction.{Instruction}
 use Rattle.code.specs.declared.Instruction.the-variants.{StoreConst, Decode, Create, AnalyzeTuple, CreateTuple, Opposite}
 use Rattle.theory.specs.RowModel.{rowWorld}

@@ -3,7 +3,7 @@ ghost use mathlib.Core.Path.{_≡_};
 ghost use lib.ListN.{length};
 ghost use lib.Dec.{T};
 ghost use Rattle.code.specs.Words.{operandsFit};
-ghost use Rattle.theory.specs.Compile.{kindIn};
+ghost use Rattle.numbers.specs.Kinds.{kindIn};
 ghost use Rattle.theory.specs.RowModel.{rowWorld};
 ghost use Rattle.theory.specs.Machine.{step};
 ghost use Rattle.machine.specs.Machine.{slices, stateAt, Within, Agrees};

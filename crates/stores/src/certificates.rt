@@ -7,7 +7,7 @@ ghost use Rattle.word.specs.Lowest.{each};
 ghost use Rattle.stores.specs.Certificates.{agentOf, keyOf, spareOf, certified, agentsOnce};
 ghost use Rattle.stores.specs.Answer.{certificateOf};
 use super::Certificate;
-use code::TermRow;
+use numbers::TermRow;
 
 pub fn agent(word: u64) -> u16
     ensures { λ r. ⌜ r ≡ agentOf word ⌝ }

@@ -1,5 +1,5 @@
 // What a terminal holds: kinds, cells, certificates, accumulator.
-use code::TermRow;
+use numbers::TermRow;
 
 pub mod cells;
 pub mod certificates;

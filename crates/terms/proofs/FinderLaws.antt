@@ -19,7 +19,8 @@ use Rattle.word.specs.declared.Place.{Place}
 use Rattle.word.specs.declared.Place.the-variants as places
 use Rattle.terms.specs.declared.Found.{Found}
 use Rattle.terms.specs.declared.Found.the-variants.{At, Full}
-use Rattle.terms.specs.Finder.{Located, asTermRow, located, equalRow, locate}
+use Rattle.terms.specs.Finder.{Located, located, equalRow, locate}
+use Rattle.numbers.specs.Sorts.{asTermRow}
 
 -- no used row equals the term
 abbrev pub Absent : List ℕ → ℕ → ℕ → Type 0

@@ -1,17 +1,14 @@
 -- A new term takes the row that equals it, or else the first unused row.
-use Prim.Native.Nat.{ℕ, suc, _+_}
-use mathlib.Core.Bool.{Bool, cond}
+use Prim.Native.Nat.{ℕ, _+_}
+use mathlib.Core.Bool.{cond}
 use mathlib.Core.Option.{Option, none, some}
 use mathlib.Core.List.{List}
 use lib.ListN.{length, take, set}
 use lib.Dec.{eqb, ltb}
 use Rattle.word.specs.Lowest.{lowest}
-use Rattle.code.specs.declared.TermRow.{TermRow}
+use Rattle.numbers.specs.Sorts.{asTermRow}
 use Rattle.terms.specs.declared.Found.{Found}
 use Rattle.terms.specs.declared.Found.the-variants.{At, Full}
-
-abbrev pub asTermRow : ℕ → TermRow
-asTermRow n = record { 0 = n }
 
 -- the finder's answer, and the rows after it
 pub record Located : Type 0 where

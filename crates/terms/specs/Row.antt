@@ -1,6 +1,6 @@
 -- A term row, 64 bits: tag 4, n 4, zero 8, C1 to C4 of 12 each. Tags 1 to 6 have their number in the low 16 bits.
 use Prim.Native.Nat.{ℕ}
-use mathlib.Core.Bool.{Bool, cond}
+use mathlib.Core.Bool.{cond}
 use mathlib.Core.List.{List, [], _∷_}
 use lib.ListN.{length, take, drop}
 use lib.Dec.{eqb}

@@ -1,9 +1,9 @@
 -- The rules of a term table: refusal 2.
 use Prim.Native.Nat.{ℕ, zero, suc}
-use mathlib.Core.Bool.{Bool, true, false, cond, not, _&&_, _||_}
+use mathlib.Core.Bool.{Bool, true, false, cond, not, _&&_}
 use mathlib.Core.Option.{Option, none, some}
 use mathlib.Core.List.{List, [], _∷_}
-use lib.ListN.{length, getD, take, drop}
+use lib.ListN.{getD, take, drop}
 use lib.Dec.{eqb, leb, ltb}
 use Rattle.word.specs.Lowest.{lowestFrom, lowest, each, oneOf}
 use Rattle.terms.specs.Shape.{Shape, atom, encrypted, signed, hashed, tupled, partsOf}

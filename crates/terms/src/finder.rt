@@ -6,7 +6,7 @@ ghost use lib.ListN.{length};
 ghost use Rattle.word.specs.Lowest.{oneOf, placeOf};
 ghost use Rattle.terms.specs.Finder.{equalRow, located, locate};
 use super::Found;
-use code::TermRow;
+use numbers::TermRow;
 use word::Place;
 
 // Whether one of eight rows equals a word. All are compared, so that the processor takes several at a time.

@@ -1,5 +1,5 @@
 // The term table.
-use code::TermRow;
+use numbers::TermRow;
 
 mod finder;
 mod row;

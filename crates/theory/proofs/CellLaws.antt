@@ -11,7 +11,8 @@ use lib.Dec.{ltb}
 use Rattle.theory.specs.Outcome.{done}
 use Rattle.theory.specs.Store.{put, puts}
 use Rattle.theory.specs.World.{World}
-use Rattle.theory.specs.Machine.{namedCells, State, setRaw, withStores, withScratch, message, setMessage, setMessages, messages}
+use Rattle.numbers.specs.Limits.{namedCells}
+use Rattle.theory.specs.Machine.{State, setRaw, withStores, withScratch, message, setMessage, setMessages, messages}
 use Rattle.theory.specs.Emission.{Env, readable, occupied, addRaw}
 
 named-cell : (r : ℕ) → r < namedCells → ltb r namedCells ≡ true

@@ -10,7 +10,8 @@ use Rattle.answers.specs.declared.Compiled.{Compiled}
 use Rattle.patterns.specs.Pattern.{Pattern, RawsBelow}
 use Rattle.theory.specs.Outcome.{Outcome, done, stuck, bind, isSome}
 use Rattle.theory.specs.World.{World}
-use Rattle.theory.specs.Machine.{namedCells, Line, Stores, State, exec}
+use Rattle.numbers.specs.Limits.{namedCells}
+use Rattle.theory.specs.Machine.{Line, Stores, State, exec}
 use Rattle.theory.specs.Emission.{Env, Emitted, ok, refuse}
 use Rattle.theory.specs.Compilers.{compile↓, compile↑}
 use Rattle.theory.specs.Rules.{match, create, Made}

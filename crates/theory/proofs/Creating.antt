@@ -8,7 +8,8 @@ use native.Mathlib.Omega.{arith}
 use Rattle.patterns.specs.Pattern.{Key, plainKey, opKey, certifiedKey, Pattern, object, raw, constant, opposite, keyOf, encryption, signature, hash, tuple, letIn, Parts, end, part, count, RawsBelow, PartsBelow}
 use Rattle.theory.specs.Outcome.{Outcome, done, bind}
 use Rattle.theory.specs.World.{World, creatable}
-use Rattle.theory.specs.Machine.{namedCells, Stores, State, messages}
+use Rattle.numbers.specs.Limits.{namedCells}
+use Rattle.theory.specs.Machine.{Stores, State, messages}
 use Rattle.theory.specs.Emission.{Env, Emitted, andThen}
 use Rattle.theory.specs.Compilers.{keyVar, creating, compile↑K, compile↑, compile↑parts}
 use Rattle.theory.specs.Rules.{getVariable, createKey, create, createParts}

@@ -12,9 +12,10 @@ use Rattle.word.proofs.FieldLaws.{split-fits}
 use Rattle.word.proofs.All.{All, all-getD}
 use Rattle.word.proofs.TestLaws.{both, at-most}
 use Rattle.word.proofs.LowestLaws.{one-all}
-use Rattle.code.specs.Instruction.{wordWidths, asObject, asRaw, wordOf, instructionBy, instructionOf}
+use Rattle.code.specs.Instruction.{wordWidths, wordOf, instructionBy, instructionOf}
+use Rattle.numbers.specs.Sorts.{asObject, asRaw}
 use Rattle.code.specs.Words.{wordFits, goodWord, hasKind, cellsFit, operandsFit}
-use Rattle.code.specs.declared.Object.{Object}
+use Rattle.numbers.specs.declared.Object.{Object}
 use Rattle.code.specs.declared.Instruction.{Instruction}
 use Rattle.code.specs.declared.Instruction.the-variants.{Load, Store, StoreConst, Decode, Encode, Create, AnalyzeTuple, CreateTuple, Opposite, KeyOf, Match, Encrypt, Decrypt, Sign, Verify, Hash}
 use Rattle.terms.specs.Table.{Encrypts, Signs}

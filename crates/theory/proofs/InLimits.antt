@@ -14,7 +14,7 @@ use Rattle.word.proofs.LowestLaws.{one-of-two}
 use Rattle.word.proofs.OneOfLaws.{from, one-up-to}
 use Rattle.answers.specs.declared.Compiled.{Compiled}
 use Rattle.answers.specs.declared.Compiled.the-variants.{WrittenWhileSet, ReadWhileUnset}
-use Rattle.code.specs.Instruction.{asObject}
+use Rattle.numbers.specs.Sorts.{asObject}
 use Rattle.code.specs.Words.{hasKind}
 use Rattle.code.specs.declared.Instruction.{Instruction}
 use Rattle.code.specs.declared.Instruction.the-variants.{Load, Store, StoreConst, Decode, Encode, Create, AnalyzeTuple, CreateTuple, Opposite, KeyOf, Match, Encrypt, Decrypt, Sign, Verify, Hash}
@@ -25,7 +25,7 @@ use Rattle.theory.specs.Store.{put}
 use Rattle.theory.specs.World.{creatable}
 use Rattle.theory.specs.Machine.{Line, line, named, scratch}
 use Rattle.theory.specs.Emission.{Env, Emitted, ok, refuse, after, andThen, addObject, readable, occupied, addRaw, reads, writes, one, emit, _then_}
-use Rattle.theory.specs.Limits.{InRange, AllInRange, InLimits}
+use Rattle.theory.specs.Bounds.{InRange, AllInRange, InLimits}
 use Rattle.theory.specs.Compilers.{compile↓, compile↓parts, compile↑, compile↑parts, compile↑K, keyVar, creating, verifying, LOAD, STORE, DECODE, ENCODE, ANALYZE-TUPLE, OPPOSITE, KEY-OF, MATCH, VERIFY}
 
 -- what emission refuses with, where kinds are right: 6 or 7

@@ -1,5 +1,4 @@
 -- The theorems of the paper.
-pub mod Cases
 pub mod StoreLaws
 pub mod CellLaws
 pub mod Reasons
@@ -15,7 +14,6 @@ pub mod FigureLaws
 pub mod MatchingRules
 pub mod CreatingRules
 pub mod InLimits
-pub mod SetCells
 pub mod Places
 pub mod Fitting
 pub mod Related
@@ -28,12 +26,4 @@ pub mod RowsRunAsTerms
 pub mod RowSteps
 pub mod Room
 pub mod Theorems
-pub mod ValidLent
 pub mod RowsKept
-pub mod ValidAgain
-pub mod CompileLaws
-pub mod CompiledWords
-pub mod Product
-pub mod RunLaws
-pub mod BundleLaws
-pub mod Demand3

@@ -7,7 +7,8 @@ use native.Mathlib.Omega.{arith}
 use Rattle.patterns.specs.Pattern.{Key, plainKey, opKey, certifiedKey, Pattern, object, raw, constant, opposite, keyOf, encryption, signature, hash, tuple, letIn, Parts, end, part, count, RawsBelow, PartsBelow}
 use Rattle.theory.specs.Outcome.{Outcome, bind}
 use Rattle.theory.specs.World.{World}
-use Rattle.theory.specs.Machine.{namedCells, Stores, State}
+use Rattle.numbers.specs.Limits.{namedCells}
+use Rattle.theory.specs.Machine.{Stores, State}
 use Rattle.theory.specs.Emission.{Env, Emitted, andThen}
 use Rattle.theory.specs.Compilers.{compile↓, compile↓parts}
 use Rattle.theory.specs.Rules.{match, matchParts, matchObject, matchRaw}

@@ -17,7 +17,8 @@ use Rattle.theory.specs.World.{Op, Test}
 use Rattle.theory.specs.World as Voc
 use Rattle.theory.specs.Model.{Model, world, goesWith, opened, certified, verified, taken, applyIn, testIn}
 use Rattle.theory.specs.RowModel as Rows
-use Rattle.theory.specs.RowModel.{Table, mostNames, name, placedBy, rowModel, rowWorld}
+use Rattle.theory.specs.RowModel.{Table, name, placedBy, rowModel, rowWorld}
+use Rattle.numbers.specs.Limits.{mostNames}
 use Rattle.theory.specs.TermModel as Terms
 use Rattle.theory.specs.TermModel.{termModel, termWorld}
 use Rattle.theory.proofs.Reasons.{AnswerWithin, got-within, not-within, full-within, OwnReason, Calm}

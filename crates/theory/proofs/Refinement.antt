@@ -14,7 +14,8 @@ use Rattle.terms.specs.Table.{Encrypts, Signs}
 use Rattle.theory.specs.Store.{put}
 use Rattle.theory.specs.World.{World, Op, Test, creatable}
 use Rattle.theory.specs.World as Voc
-use Rattle.theory.specs.Machine.{namedCells, Line, State, message, messages, setMessage, setMessages, setObject, setRaw, setMemory, withAccumulator, withStores, withScratch, makeAccumulator, makeObject, step, exec}
+use Rattle.numbers.specs.Limits.{namedCells}
+use Rattle.theory.specs.Machine.{Line, State, message, messages, setMessage, setMessages, setObject, setRaw, setMemory, withAccumulator, withStores, withScratch, makeAccumulator, makeObject, step, exec}
 use Rattle.theory.proofs.Fitting.{Fits}
 use Rattle.theory.proofs.Related.{EachR, nil, cons, CellR, set, AnswerR, OutcomeR, dones, bind-related, need-related, at-related, cell-map}
 

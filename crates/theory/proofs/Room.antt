@@ -1,5 +1,4 @@
 -- A step takes at most one row and one name, so code never runs out where there are as many of each as it has words.
-use mathlib.Core.Path.{_≡_}
 use mathlib.Core.Logic.{_≢_}
 use mathlib.Core.List.{List, [], _∷_}
 use Prim.Native.Nat.{ℕ, suc, _+_, _≤_}
@@ -14,7 +13,8 @@ use Rattle.terms.specs.Row.{wordOf}
 use Rattle.terms.specs.Finder.{locate}
 use Rattle.terms.proofs.FinderLaws.{located-as}
 use Rattle.theory.specs.Outcome.{room}
-use Rattle.theory.specs.RowModel.{Table, withCounter, mostNames, name, placed, rowWorld}
+use Rattle.theory.specs.RowModel.{Table, withCounter, name, placed, rowWorld}
+use Rattle.numbers.specs.Limits.{mostNames}
 use Rattle.theory.specs.Machine.{Line, State, exec}
 use Rattle.theory.specs.TermModel.{termWorld}
 use Rattle.theory.proofs.Fitting.{ByteFits}

@@ -23,7 +23,8 @@ use Rattle.stores.specs.Certificates.{agentOf, keyOf, certified}
 use Rattle.stores.specs.ValidStores.{GoodPair}
 use Rattle.theory.specs.Outcome.{got, full}
 use Rattle.theory.specs.Model.{numberOf}
-use Rattle.theory.specs.RowModel.{Table, withRows, withCounter, mostNames, name, placed, rowModel, rowWorld}
+use Rattle.theory.specs.RowModel.{Table, withRows, withCounter, name, placed, rowModel, rowWorld}
+use Rattle.numbers.specs.Limits.{mostNames}
 use Rattle.theory.specs.TermModel.{Term, Names, sameTerm, isYes, termOf, termModel, termWorld}
 use Rattle.theory.specs.TermModel as Term
 use Rattle.theory.specs.Meaning.{reshaped, meaning, certifiedTerm}

@@ -1,9 +1,9 @@
 -- A run on rows only appends: rows that were used stay, rows past those it takes stay, certificates and the slice's length stay.
 use mathlib.Core.Path.{_≡_, refl, _∙_}
 use mathlib.Core.List.{List}
-use Prim.Native.Nat.{ℕ, suc, _+_, _<_, _≤_}
+use Prim.Native.Nat.{ℕ, suc, _<_, _≤_}
 use native.Mathlib.Omega.{arith}
-use lib.ListN.{length, getD, set, length-set}
+use lib.ListN.{length, getD, length-set}
 use lib.Seq.{getD-set-other}
 use lib.Dec.{ltb}
 use mathlib.Core.Bool.{Bool, true, false, cond}
@@ -12,7 +12,8 @@ use Rattle.terms.specs.Row.{wordOf}
 use Rattle.terms.specs.Finder.{locate}
 use Rattle.terms.proofs.FinderLaws.{located-as}
 use Rattle.theory.specs.Outcome.{done, got, full}
-use Rattle.theory.specs.RowModel.{Table, withCounter, mostNames, name, placed, rowWorld}
+use Rattle.theory.specs.RowModel.{Table, withCounter, name, placed, rowWorld}
+use Rattle.numbers.specs.Limits.{mostNames}
 use Rattle.theory.specs.Machine.{Line, State, exec}
 use Rattle.theory.proofs.RowSteps.{Answers, gets, fills, Ends, ends, answers-then, Moves, exec-moves}
 

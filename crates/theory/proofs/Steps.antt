@@ -9,7 +9,8 @@ use Rattle.code.specs.declared.Instruction.{Instruction}
 use Rattle.theory.specs.Outcome.{Outcome, done, stuck, bind, at, need, free, isSome}
 use Rattle.theory.specs.World.{World, Op, Test}
 use Rattle.theory.specs.World as Voc
-use Rattle.theory.specs.Machine.{namedCells, line, named, scratch, State, step, setObject, setRaw, setMemory, withAccumulator, withStores, withScratch, messages, makeObject, makeAccumulator}
+use Rattle.numbers.specs.Limits.{namedCells}
+use Rattle.theory.specs.Machine.{line, named, scratch, State, step, setObject, setRaw, setMemory, withAccumulator, withStores, withScratch, messages, makeObject, makeAccumulator}
 use Rattle.theory.specs.Emission.{Env, Emitted, ok, refuse, after, andThen, addObject, emit}
 use Rattle.theory.specs.Compilers.{LOAD, STORE, STORE-CONST, DECODE, ENCODE, CREATE, ANALYZE-TUPLE, CREATE-TUPLE, OPPOSITE, KEY-OF, MATCH, ENCRYPT, DECRYPT, SIGN, VERIFY, HASH}
 use Rattle.theory.proofs.CellLaws.{message-named, message-scratch, setMessage-named, setMessage-scratch, withScratches, setMessages-scratch, readable-named, readable-scratch, occupied-named, occupied-scratch, withRaw, addRaw-named, addRaw-scratch}

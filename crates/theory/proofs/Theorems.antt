@@ -1,49 +1,37 @@
 -- What the paper claims, and what the product leans on: each theorem once, each proved by citing where it is shown.
 use mathlib.Core.Path.{_≡_}
-use mathlib.Core.Bool.{Bool, true, false}
+use mathlib.Core.Bool.{true, false}
 use mathlib.Core.Option.{Option, some}
 use mathlib.Core.List.{List}
 use Prim.Native.Nat.{ℕ, _≤_}
 use lib.Dec.{T}
-use lib.ListN.{length, take}
+use lib.ListN.{length}
 use Rattle.word.proofs.All.{All}
 use Rattle.answers.specs.Numbers.{reasonNumber}
 use Rattle.answers.specs.declared.Reason.the-variants.{Unset}
-use Rattle.answers.specs.declared.Compiled.the-variants.{Done}
-use Rattle.answers.specs.declared.Ran.{Ran}
 use Rattle.code.specs.Words.{operandsFit}
-use Rattle.stores.specs.Cells.{held}
 use Rattle.patterns.specs.Pattern.{Pattern, size, RawsBelow, Packed}
 use Rattle.patterns.specs.Kinds.{RightKinds}
-use Rattle.patterns.specs.Tree.{patternOf}
 use Rattle.theory.specs.Outcome.{done, stuck, room, bind}
 use Rattle.theory.specs.World.{World}
 use Rattle.theory.specs.RowModel.{rowWorld}
 use Rattle.theory.specs.TermModel.{Term, termWorld}
-use Rattle.theory.specs.Machine.{Line, Stores, State, exec, namedCells}
+use Rattle.theory.specs.Machine.{Line, Stores, State, exec}
 use Rattle.theory.specs.Emission.{Env, ok, refuse}
 use Rattle.theory.specs.Compilers.{compile↓, compile↑}
 use Rattle.theory.specs.Rules.{Made, match, create}
 use Rattle.theory.specs.Figure2.{TermStores, Matches}
 use Rattle.theory.specs.Figure3.{Creates}
-use Rattle.theory.specs.Compile.{SameSet, kindIn, usedPart, compile}
-use Rattle.theory.specs.Run.{Lent, lentAfter, stateOf, leftBy, run}
 use Rattle.theory.proofs.Compiled.{known, knownFrom, storesOf, messageOf, madeOf, Keeps, matching-runs, matching-refused, matching-keeps, matching-reads-set, creating-runs, creating-refused, creating-keeps, creating-reads-set}
 use Rattle.theory.proofs.Models.{calm-rows}
 use Rattle.theory.proofs.MatchingRules.{matches-is-done, done-is-matches}
 use Rattle.theory.proofs.CreatingRules.{creates-is-done, done-is-creates}
-use Rattle.theory.specs.Limits.{InLimits}
+use Rattle.theory.specs.Bounds.{InLimits}
 use Rattle.theory.proofs.InLimits.{matching-in-limits, creating-in-limits}
-use Rattle.theory.proofs.SetCells.{SameCode, same-cells, same-slices}
 use Rattle.theory.proofs.Fitting.{ByteFits}
 use Rattle.theory.proofs.Related.{OutcomeR}
-use Rattle.theory.proofs.RowsRunAsTerms.{ValidState, Reads, rows-run-as-terms}
+use Rattle.theory.proofs.RowsRunAsTerms.{Reads, rows-run-as-terms}
 use Rattle.theory.proofs.Room.{Free, never-room}
-use Rattle.theory.specs.Meaning.{meaning}
-use Rattle.theory.proofs.RowsKept.{Appended}
-use Rattle.theory.specs.Valid.{Valid}
-use Rattle.theory.proofs.ValidAgain.{stays-valid}
-use Rattle.theory.proofs.Demand3.{MatchEnds, CreateEnds, matching-demand, creating-demand}
 
 -- Over any world, for a pattern whose raw variables are named cells.
 module _ (W : World) (kind : ℕ → ℕ) (p : Pattern) (below : RawsBelow 64 p) where
@@ -113,29 +101,3 @@ module _ (kind : ℕ → ℕ) where
   pub limits-creating : ((v : ℕ) → 64 ≤ v → kind v ≡ 0) → (p : Pattern) (e e′ : Env) (c : List Line)
       → RightKinds true kind p → RawsBelow 64 p → Packed p → size p ≤ 96 → e .next ≡ 0 → compile↑ kind p e ≡ ok c e′ → InLimits kind c e′
   limits-creating declared = creating-in-limits kind declared
-
--- Compile depends on nothing but direction, pattern, kinds and which cells are set, and of the code slice on its length.
-pub sees-set-cells : (create : Bool) (pattern kinds objects objects′ named named′ code : List ℕ) → SameSet objects objects′ → SameSet named named′
-    → compile create pattern kinds objects named code ≡ compile create pattern kinds objects′ named′ code
-sees-set-cells create pattern kinds = same-cells create pattern kinds
-
-pub sees-slice-length : (create : Bool) (pattern kinds objects named code code′ : List ℕ) → length code ≡ length code′
-    → SameCode code code′ (compile create pattern kinds objects named code) (compile create pattern kinds objects named code′)
-sees-slice-length create pattern kinds = same-slices create pattern kinds
-
--- Demand 3, from packed words to the figures, for what is lent and good and as many free rows and names as code words: the run of the words that compile wrote
--- finishes with stores (and message and counter) that the figures give, and gets stuck only where they give nothing. It is never out of room.
-pub demand-3-matching : (pattern slice : List ℕ) (x : Lent) → Valid x → (words row : ℕ) → held (x .accumulator) ≡ some row
-    → compile false pattern (x .kinds) (x .objects) (take namedCells (x .messages)) slice .answer ≡ Done words → Free words words (stateOf x .stores .memory)
-    → MatchEnds x (patternOf pattern) (meaning (x .terms) row) words (usedPart words (compile false pattern (x .kinds) (x .objects) (take namedCells (x .messages)) slice .code)) (run x (usedPart words (compile false pattern (x .kinds) (x .objects) (take namedCells (x .messages)) slice .code)))
-demand-3-matching = matching-demand
-
-pub demand-3-creating : (pattern slice : List ℕ) (x : Lent) → Valid x → (words : ℕ)
-    → compile true pattern (x .kinds) (x .objects) (take namedCells (x .messages)) slice .answer ≡ Done words → Free words words (stateOf x .stores .memory)
-    → CreateEnds x (patternOf pattern) words (usedPart words (compile true pattern (x .kinds) (x .objects) (take namedCells (x .messages)) slice .code)) (run x (usedPart words (compile true pattern (x .kinds) (x .objects) (take namedCells (x .messages)) slice .code)))
-demand-3-creating = creating-demand
-
--- After a finished run what was lent is good again.
-pub valid-again : (x : Lent) (a : Valid x) (t : State rowWorld) → ValidState (kindIn (x .kinds)) t → Appended (stateOf x .stores .memory) (t .stores .memory)
-    → (answer : Ran) → Valid (lentAfter x (leftBy answer t))
-valid-again = stays-valid

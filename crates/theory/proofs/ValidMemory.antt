@@ -10,7 +10,8 @@ use Rattle.terms.specs.Table.{GoodRow, ValidTable}
 use Rattle.terms.proofs.TableLaws.{used-rows, used-added, valid-added, valid-raised}
 use Rattle.stores.specs.ValidStores.{ValidCertificates}
 use Rattle.stores.proofs.CertificateLaws.{certificates-kept}
-use Rattle.theory.specs.RowModel.{Table, withRows, withCounter, mostNames}
+use Rattle.theory.specs.RowModel.{Table, withRows, withCounter}
+use Rattle.numbers.specs.Limits.{mostNames}
 
 -- a table that run accepts: rows, counter and certificates
 pub record ValidMemory (x : Table) : Type 0 where

@@ -1,10 +1,10 @@
 -- Figures 5 and 6, a clause a row, with document 01's amendments.
 use Prim.Native.Nat.{ℕ, suc}
-use mathlib.Core.Bool.{Bool, cond}
-use mathlib.Core.List.{List, []}
+use mathlib.Core.Bool.{cond}
+use mathlib.Core.List.{[]}
 use Rattle.answers.specs.declared.Compiled.the-variants.{WrongKind, ReadWhileUnset}
-use Rattle.code.specs.Instruction.{asObject}
-use Rattle.code.specs.declared.Raw.{Raw}
+use Rattle.numbers.specs.Sorts.{asObject}
+use Rattle.numbers.specs.declared.Raw.{Raw}
 use Rattle.code.specs.declared.Instruction.{Instruction}
 use Rattle.code.specs.declared.Instruction.the-variants.{Load, Store, StoreConst, Decode, Encode, Create, AnalyzeTuple, CreateTuple, Opposite, KeyOf, Match, Encrypt, Decrypt, Sign, Verify, Hash}
 use Rattle.patterns.specs.Pattern.{Key, plainKey, opKey, certifiedKey, Pattern, object, raw, constant, opposite, keyOf, encryption, signature, hash, tuple, letIn, Parts, end, part, count}

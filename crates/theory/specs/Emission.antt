@@ -8,7 +8,8 @@ use Rattle.answers.specs.declared.Compiled.the-variants.{WrittenWhileSet, ReadW
 use Rattle.code.specs.declared.Instruction.{Instruction}
 use Rattle.code.specs.declared.Instruction.the-variants.{Load, Store, StoreConst, Decode, Encode, Create, AnalyzeTuple, CreateTuple, Opposite, KeyOf, Match, Encrypt, Decrypt, Sign, Verify, Hash}
 use Rattle.theory.specs.Store.{put}
-use Rattle.theory.specs.Machine.{Line, line, namedCells}
+use Rattle.theory.specs.Machine.{Line, line}
+use Rattle.numbers.specs.Limits.{namedCells}
 
 -- which variables are set, and the next scratch number not taken
 pub record Env : Type 0 where

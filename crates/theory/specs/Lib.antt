@@ -1,4 +1,4 @@
--- The paper: figures 2 to 6 over a world, and the answers of document 01.
+-- The paper: figures 2 to 6 over a world.
 pub mod Outcome
 pub mod Store
 pub mod World
@@ -8,15 +8,8 @@ pub mod TermModel
 pub mod Meaning
 pub mod Machine
 pub mod Emission
-pub mod Limits
+pub mod Bounds
 pub mod Compilers
 pub mod Rules
 pub mod Figure2
 pub mod Figure3
-pub mod Compile
-pub mod Run
-pub mod Valid
-pub mod Bundle
-pub mod Listing
-pub mod Cases
-pub mod Orders

@@ -1,23 +1,17 @@
 -- Figure 4: the machine over a world.
 use Prim.Native.Nat.{ℕ, zero, suc, _+_, _-_}
-use mathlib.Core.Bool.{Bool, cond}
-use mathlib.Core.Option.{Option, none, some}
+use mathlib.Core.Bool.{cond}
+use mathlib.Core.Option.{Option, some}
 use mathlib.Core.List.{List, [], _∷_}
 use lib.Dec.{ltb}
-use Rattle.code.specs.Instruction.{asObject, asRaw}
-use Rattle.code.specs.declared.Raw.{Raw}
+use Rattle.numbers.specs.Sorts.{asRaw}
+use Rattle.numbers.specs.Limits.{namedCells}
+use Rattle.numbers.specs.declared.Raw.{Raw}
 use Rattle.code.specs.declared.Instruction.{Instruction}
 use Rattle.code.specs.declared.Instruction.the-variants.{Load, Store, StoreConst, Decode, Encode, Create, AnalyzeTuple, CreateTuple, Opposite, KeyOf, Match, Encrypt, Decrypt, Sign, Verify, Hash}
 use Rattle.theory.specs.Outcome.{Outcome, done, bind, at, need}
 use Rattle.theory.specs.Store.{put}
 use Rattle.theory.specs.World.{World, Op, byte, create, op, keyOf, encrypt, decrypt, sign, hash, tuple, is, same, verify}
-
--- message cells 0..63 are named, 64..255 scratch
-abbrev pub namedCells : ℕ
-namedCells = 64
-
-abbrev pub scratchCells : ℕ
-scratchCells = 192
 
 abbrev pub named : ℕ → Raw
 named r = asRaw r

@@ -1,14 +1,13 @@
 -- The vocabulary written once: over a way to look at a message and a way to make one.
 use Prim.Native.Nat.{ℕ}
-use mathlib.Core.Bool.{Bool, true, false, _&&_, _||_}
+use mathlib.Core.Bool.{Bool, _&&_, _||_}
 use mathlib.Core.Option.{Option, none, some}
-use mathlib.Core.List.{List}
 use lib.ListN.{length, getD}
 use lib.Dec.{eqb}
 use Rattle.answers.specs.Numbers.{reasonNumber}
 use Rattle.answers.specs.declared.Reason.the-variants.{OtherKind, Differs, PartCount, NoCertificate, NotOpened, NotVerified}
 use Rattle.terms.specs.Shape.{Shape, atom, encrypted, signed, hashed, tupled, kindOf}
-use Rattle.theory.specs.Outcome.{Answer, got, not, full, andThen, sure}
+use Rattle.theory.specs.Outcome.{Answer, got, not, andThen, sure}
 use Rattle.theory.specs.World.{World, Op, Test}
 use Rattle.theory.specs.World as Voc
 

@@ -4,6 +4,7 @@ use mathlib.Core.Bool.{cond}
 use mathlib.Core.List.{List}
 use lib.ListN.{getD}
 use lib.Dec.{eqb, ltb}
+use Rattle.numbers.specs.Limits.{mostNames}
 use Rattle.terms.specs.Row.{wordOf, shapeOf}
 use Rattle.terms.specs.Finder.{Located, locate}
 use Rattle.terms.specs.declared.Found.{Found}
@@ -24,10 +25,6 @@ withRows x rows used = record { rows = rows; used = used; counter = x .counter; 
 
 abbrev pub withCounter : Table → ℕ → Table
 withCounter x counter = record { rows = x .rows; used = x .used; counter = counter; certificates = x .certificates }
-
--- the name counter is 0..65,536
-abbrev pub mostNames : ℕ
-mostNames = 65536
 
 -- a created name takes the counter's number and raises it by one
 abbrev pub name : {X : Type 0} → ℕ → (ℕ → X) → Answer (ℕ × X)

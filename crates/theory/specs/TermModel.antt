@@ -7,7 +7,7 @@ use mathlib.Core.List.{List, [], _∷_}
 use native.Mathlib.Decide.{ℕ-discrete}
 use Rattle.terms.specs.Shape.{Shape}
 use Rattle.terms.specs.Shape as Shape
-use Rattle.theory.specs.Outcome.{Answer, got}
+use Rattle.theory.specs.Outcome.{got}
 use Rattle.theory.specs.World.{World}
 use Rattle.theory.specs.Model.{Model, world}
 use Rattle.theory.specs.RowModel.{name}

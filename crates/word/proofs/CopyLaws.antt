@@ -1,12 +1,12 @@
 -- A list copied to the front of another, element after element.
 use Prim.Native.Nat.{ℕ, zero, suc, _+_, _-_, _<_, _≤_}
-use mathlib.Core.Path.{_≡_, refl, sym, _∙_}
-use mathlib.Core.List.{List, [], _∷_, _++_, append-nil}
+use mathlib.Core.Path.{_≡_, refl, _∙_}
+use mathlib.Core.List.{List, _++_, append-nil}
 use native.Mathlib.Nat.{zero-add, zero-sub, sub-zero}
 use native.Mathlib.Numerals.{add-one}
 use native.Mathlib.Omega.{arith}
 use lib.ListN.{length, getD, set, take, drop, replicate, length-set, drop-of-length-le}
-use lib.Seq.{paste, paste-suc, take-all}
+use lib.Seq.{paste-suc, take-all}
 
 -- so many elements are copied
 pub record Copied (from before to : List ℕ) (count : ℕ) : Type 0 where

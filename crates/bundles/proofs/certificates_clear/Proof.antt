@@ -3,7 +3,7 @@ use mathlib.Core.Path.{_≡_, refl}
 use native.Mathlib.Omega.{arith}
 use lib.ListN.{length, drop}
 use borrow.Author.Needs.{needs}
-use Rattle.theory.specs.Bundle.{clearOf}
+use Rattle.bundles.specs.Bundle.{clearOf}
 use Rattle.bundles.proofs.ClearLaws.{clear-here, set-here, all-clear}
 use Rattle.bundles.proofs.certificates_clear.Statement.{statement}
 use Rattle.bundles.proofs.certificates_clear.Tie as tie

@@ -1,6 +1,6 @@
 use mathlib.Core.Path.{refl}
 use borrow.Author.Needs.{needs}
-use Rattle.theory.specs.Bundle.{headerOf}
+use Rattle.bundles.specs.Bundle.{headerOf}
 use Rattle.bundles.proofs.header_of.Statement.{statement}
 use Rattle.bundles.proofs.header_of.Tie as tie
 

@@ -4,7 +4,7 @@ use native.Mathlib.Omega.{arith}
 use borrow.Author.Needs.{needs}
 use borrow.Author.Tests.{not-true, not-false}
 use lib.Seq.{length-take-le}
-use Rattle.theory.specs.Run.{Lent}
+use Rattle.calls.specs.Run.{Lent}
 use Rattle.cram.proofs.RunLaws.{Fitting, fitting, run-limit, run-fits}
 use Rattle.cram.proofs.cram_run.Statement.{statement}
 use Rattle.cram.proofs.cram_run.Tie as tie

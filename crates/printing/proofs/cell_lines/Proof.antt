@@ -7,7 +7,7 @@ use lib.Seq.{take-all}
 use borrow.Author.Needs.{needs}
 use Rattle.text.specs.Written.{Wrote}
 use Rattle.text.proofs.WrittenLaws.{wrote-length}
-use Rattle.theory.specs.Listing.{cellLines}
+use Rattle.printing.specs.Listing.{cellLines}
 use Rattle.printing.proofs.NumberedLaws.{no-line, one-line}
 use Rattle.printing.proofs.LineLaws.{cells-numbered, cells-end}
 use Rattle.printing.proofs.cell_lines.Statement.{statement}

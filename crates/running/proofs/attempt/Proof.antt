@@ -5,10 +5,10 @@ use mathlib.Core.Option.{none}
 use mathlib.Core.List.{List}
 use native.Mathlib.Omega.{arith}
 use Rattle.terms.specs.Rules.{usedRows}
-use Rattle.theory.specs.Compile.{first}
-use Rattle.theory.specs.Run.{Lent, refusals}
-use Rattle.theory.specs.Valid.{LentWithin}
-use Rattle.theory.proofs.RunLaws.{Passed, passed-valid}
+use Rattle.answers.specs.First.{first}
+use Rattle.calls.specs.Run.{Lent, refusals}
+use Rattle.calls.specs.Valid.{LentWithin}
+use Rattle.calls.proofs.RunLaws.{Passed, passed-valid}
 use Rattle.running.proofs.LookLaws.{found-some, found-none, run-stepped, passed, accumulator-small, ready}
 use Rattle.running.proofs.AttemptLaws.{attempt-refused}
 use borrow.Author.Needs.{needs}

@@ -1,10 +1,10 @@
 -- An attempt on copies of the cells, which are kept where it is done.
 use Prim.Native.Nat.{ℕ}
-use mathlib.Core.Path.{_≡_, sym, _∙_, ap}
+use mathlib.Core.Path.{sym, _∙_, ap}
 use mathlib.Core.List.{List}
 use lib.ListN.{length}
 use borrow.Author.Tests.{not-true, not-false}
-use Rattle.theory.specs.Run.{Lent}
+use Rattle.calls.specs.Run.{Lent}
 use Rattle.running.proofs.LookLaws.{run-limit, whole-cells}
 use Rattle.running.proofs.AttemptLaws.{copies-done, copies-not-done}
 use borrow.Author.Needs.{needs}

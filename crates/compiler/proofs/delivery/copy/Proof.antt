@@ -1,9 +1,7 @@
 -- Up to the place the words are copied.
 use Prim.Native.Nat.{_-_}
-use mathlib.Core.Path.{_∙_}
 use native.Mathlib.Omega.{arith}
-use borrow.Author.Needs.{needs, scaled-fits}
-use lib.ListN.{length}
+use borrow.Author.Needs.{scaled-fits}
 use Rattle.word.proofs.CopyLaws.{Copied, copied-none, copied-more, copied-all}
 use Rattle.compiler.proofs.delivery.copy.Statement.{statement}
 use Rattle.compiler.proofs.delivery.copy.Tie as tie

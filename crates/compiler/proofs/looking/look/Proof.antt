@@ -9,7 +9,7 @@ use borrow.Author.Tests.{not-true, not-false}
 use Rattle.stores.specs.Valid.{declared}
 use Rattle.patterns.specs.Rules.{badPattern}
 use Rattle.word.proofs.ScanLaws.{placed-at, placed-nowhere}
-use Rattle.theory.specs.Compile.{lengthsFit}
+use Rattle.calls.specs.Compile.{lengthsFit}
 use Rattle.compiler.proofs.LookLaws.{few, found-limit, found-store, found-row, found-kind, found-nothing}
 use Rattle.compiler.proofs.looking.look.Statement.{statement}
 use Rattle.compiler.proofs.looking.look.Tie as tie

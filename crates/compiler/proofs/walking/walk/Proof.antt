@@ -1,13 +1,13 @@
 -- The checks leave a root row with room for its code; what the walk leaves is compile's outcome.
 use Prim.Native.Nat.{ℕ}
-use mathlib.Core.Path.{sym, ap, _∙_}
+use mathlib.Core.Path.{ap}
 use mathlib.Core.Bool.{Bool}
 use mathlib.Core.List.{List}
 use native.Mathlib.Omega.{arith}
 use lib.ListN.{length}
 use borrow.Author.Needs.{needs}
-use Rattle.theory.specs.Valid.{CompileWithin}
-use Rattle.theory.proofs.CompileLaws.{Checked, checked, compile-within}
+use Rattle.calls.specs.Valid.{CompileWithin}
+use Rattle.calls.proofs.CompileLaws.{Checked, checked, compile-within}
 use Rattle.word.proofs.CopyLaws.{laid}
 use Rattle.compiler.proofs.RowLaws.{root-pattern, root-row, root-words}
 use Rattle.compiler.proofs.WalkLaws.{walked-compiles}

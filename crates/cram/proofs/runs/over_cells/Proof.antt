@@ -1,5 +1,5 @@
 use mathlib.Core.Path.{sym, _∙_}
-use Rattle.theory.specs.Run.{Lent}
+use Rattle.calls.specs.Run.{Lent}
 use Rattle.cram.proofs.RunLaws.{cells-packed, cells-left}
 use borrow.Author.Needs.{needs}
 use Rattle.cram.proofs.runs.over_cells.Statement.{statement}

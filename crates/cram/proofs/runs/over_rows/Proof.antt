@@ -2,7 +2,7 @@ use mathlib.Core.Path.{_∙_}
 use native.Mathlib.Omega.{arith}
 use borrow.Author.Needs.{needs}
 use Rattle.word.proofs.ByteLaws.{filled}
-use Rattle.theory.specs.Run.{Lent}
+use Rattle.calls.specs.Run.{Lent}
 use Rattle.cram.proofs.RunLaws.{rows-packed, few-used}
 use Rattle.cram.proofs.runs.over_rows.Statement.{statement}
 use Rattle.cram.proofs.runs.over_rows.Tie as tie

@@ -1,9 +1,8 @@
 -- Up to the cell the two slices agree.
-use Prim.Native.Nat.{ℕ, _≤_, _<_, _-_}
-use mathlib.Core.Path.{_≡_, refl, sym, _∙_}
+use Prim.Native.Nat.{_-_}
 use native.Mathlib.Omega.{arith}
-use borrow.Author.Needs.{needs, scaled-fits}
-use lib.ListN.{length, getD, length-set}
+use borrow.Author.Needs.{scaled-fits}
+use lib.ListN.{length}
 use Rattle.word.proofs.CopyLaws.{Copied, copied-none, copied-more, copied-whole}
 use Rattle.running.proofs.cells.copy.Statement.{statement}
 use Rattle.running.proofs.cells.copy.Tie as tie

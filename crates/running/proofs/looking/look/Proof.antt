@@ -11,9 +11,10 @@ use borrow.Author.Tests.{not-true, not-false}
 use Rattle.terms.specs.Rules.{usedRows, badTerm}
 use Rattle.word.proofs.ScanLaws.{placed-at, placed-nowhere}
 use Rattle.terms.proofs.TableLaws.{used-rows}
-use Rattle.theory.specs.Run.{Lent, lengthsFit, mostCodeWords}
-use Rattle.theory.specs.Valid.{LentWithin}
-use Rattle.theory.proofs.RunLaws.{storesFit, run-within}
+use Rattle.calls.specs.Run.{Lent, lengthsFit}
+use Rattle.numbers.specs.Limits.{mostCodeWords}
+use Rattle.calls.specs.Valid.{LentWithin}
+use Rattle.calls.proofs.RunLaws.{storesFit, run-within}
 use Rattle.running.proofs.LookLaws.{checked-bad, checked-used, true-holds, found-limit, found-term, found-store, found-word, found-accepted}
 use Rattle.running.proofs.looking.look.Statement.{statement}
 use Rattle.running.proofs.looking.look.Tie as tie

@@ -21,33 +21,35 @@ use Rattle.patterns.specs.Pattern.{Pattern}
 use Rattle.patterns.specs.Tree.{patternOf}
 use Rattle.patterns.specs.Kinds.{RightKinds}
 use Rattle.patterns.proofs.TreeLaws.{raws-below}
 use Rattle.theory.specs.Outcome.{Outcome, done, stuck, room, bind, isSome}
 use Rattle.theory.specs.RowModel.{rowWorld}
 use Rattle.theory.specs.TermModel.{Term, termWorld}
-use Rattle.theory.specs.Machine.{Line, State, exec, namedCells}
+use Rattle.theory.specs.Machine.{Line, State, exec}
+use Rattle.numbers.specs.Limits.{namedCells}
 use Rattle.theory.specs.Compilers.{compile↓, compile↑}
 use Rattle.theory.specs.Rules.{match, create}
 use Rattle.theory.specs.Figure2.{TermStores, Matches}
 use Rattle.theory.specs.Figure3.{Creates}
-use Rattle.theory.specs.Compile.{kindIn, codeWords, usedPart, entry, compile}
-use Rattle.theory.specs.Run.{Lent, RunOutcome, stateOver, stateOf, leftBy, unchanged, ended, linesOf, run}
+use Rattle.numbers.specs.Kinds.{kindIn}
+use Rattle.calls.specs.Compile.{codeWords, usedPart, entry, compile}
+use Rattle.calls.specs.Run.{Lent, RunOutcome, stateOver, stateOf, leftBy, unchanged, ended, linesOf, run}
 use Rattle.theory.proofs.Compiled.{known, storesOf, messageOf, madeOf, matching-runs, creating-runs}
 use Rattle.theory.proofs.MatchingRules.{matches-is-done, done-is-matches}
 use Rattle.theory.proofs.CreatingRules.{creates-is-done, done-is-creates}
-use Rattle.theory.specs.Limits.{InRange}
+use Rattle.theory.specs.Bounds.{InRange}
 use Rattle.theory.proofs.Fitting.{ByteFits}
 use Rattle.theory.proofs.Places.{movedTo, same-instructions}
 use Rattle.theory.proofs.Related.{SameEnd, both-done, both-stuck}
 use Rattle.theory.specs.Meaning.{meaning}
 use Rattle.theory.proofs.RowsRunAsTerms.{ValidState, termsOf, Reads}
 use Rattle.theory.proofs.Room.{Free, rows-end-as-terms}
-use Rattle.theory.specs.Valid.{Valid}
-use Rattle.theory.proofs.ValidLent.{valid-state}
-use Rattle.theory.proofs.CompiledWords.{compiled-words-good, compiled-words-read}
-use Rattle.theory.proofs.Product.{Written, compile-writes}
-use Rattle.theory.proofs.RunLaws.{run-steps, valid-passes}
-use Rattle.theory.proofs.SetCells as SetCells
-use Rattle.theory.proofs.SetCells.{set-held}
+use Rattle.calls.specs.Valid.{Valid}
+use Rattle.calls.proofs.ValidLent.{valid-state}
+use Rattle.calls.proofs.CompiledWords.{compiled-words-good, compiled-words-read}
+use Rattle.calls.proofs.Product.{Written, compile-writes}
+use Rattle.calls.proofs.RunLaws.{run-steps, valid-passes}
+use Rattle.calls.proofs.SetCells as SetCells
+use Rattle.calls.proofs.SetCells.{set-held}
 
 -- compile sees of a cell what the rules see of its term: whether it is set
 set-some : (means : ℕ → Term) (cell : ℕ) → isSet cell ≡ isSome (Option·map means (held cell))

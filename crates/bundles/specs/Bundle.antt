@@ -10,9 +10,7 @@ use Rattle.word.specs.Fields.{split, at}
 use Rattle.word.specs.Bytes.{elements}
 use Rattle.word.specs.Lowest.{each}
 use Rattle.stores.specs.Certificates.{spareOf}
-use Rattle.theory.specs.Compile.{mostPatternRows}
-use Rattle.theory.specs.RowModel.{mostNames}
-use Rattle.theory.specs.Run.{mostCertificates, mostTermRows}
+use Rattle.numbers.specs.Limits.{mostPatternRows, mostNames, mostCertificates, mostTermRows}
 
 abbrev pub wordBytes : ℕ
 wordBytes = 8

@@ -1,12 +1,10 @@
--- The cases P1 to P10 of document 01 as one table, from packed rows to the answer.
+-- The cases P1 to P10 of document 01 as one table, from packed rows to the answer. What the listing prints of P1 is promised with the listing.
 use Prim.Native.Nat.{ℕ, _+_, _*_, _-_, _^_}
 use mathlib.Core.Path.{_≡_}
-use mathlib.Core.Bool.{Bool, true, false}
-use mathlib.Core.List.{List, [], _∷_, _++_, flatMap}
+use mathlib.Core.Bool.{true, false}
+use mathlib.Core.List.{List, [], _∷_, _++_}
 use lib.ListN.{length, replicate}
 use Rattle.word.specs.Fields.{join}
-use Rattle.word.specs.Bytes.{spelled}
-use Rattle.text.specs.Lines.{line, wordLine}
 use Rattle.answers.specs.declared.Reason.the-variants.{PartCount, NoCertificate}
 use Rattle.answers.specs.declared.Compiled.the-variants as Compiled
 use Rattle.answers.specs.declared.Ran.the-variants as Ran
@@ -14,9 +12,8 @@ use Rattle.terms.specs.Shape.{atom, encrypted, tupled}
 use Rattle.terms.specs.Row.{wordOf}
 use Rattle.stores.specs.Cells.{unset}
 use Rattle.patterns.specs.Row.{rowWidths}
-use Rattle.theory.specs.Compile.{leaves, compile}
-use Rattle.theory.specs.Run.{Lent, RunOutcome, unchanged, run}
-use Rattle.theory.specs.Listing.{refusedWord, endWord, objectWord, messageWord, listing}
+use Rattle.calls.specs.Compile.{leaves, compile}
+use Rattle.calls.specs.Run.{Lent, unchanged, run}
 
 -- a pattern row by its fields from the front: tag, V, F, X, Y, R, n, children
 abbrev pub row : List ℕ → ℕ
@@ -77,28 +74,9 @@ P9-code = word 5 0 0 0 ∷ word 8 0 64 0 ∷ []
 abbrev pub P10-code : List ℕ
 P10-code = word 5 0 0 0 ∷ word 3 64 0 0 ∷ word 6 1 0 0 ∷ word 11 0 0 0 ∷ word 12 64 0 0 ∷ []
 
--- the bundle of the listing's example, word for word
-abbrev pub P1-bundle : List ℕ
-P1-bundle =
-    0x0300_0008_0060_0040
-    ∷ 0x0000_0000_0000_0000 ∷ 0x1000_0000_0000_0000 ∷ 0x8040_0000_4000_8000
-    ∷ 0x2000_0000_0000_0003 ∷ 0x3000_0000_0000_0001 ∷ 0xa200_0000_0100_0000
-    ∷ 0x2a00_0000_0000_0000 ∷ replicate 3 0 ++ replicate 32 0xffff_ffff_ffff_ffff
-
 pub record Cases : Type 0 where
   pub P1 : compile false (objectRow 0 ∷ rawRow 0 ∷ tupleRow 1 (0 ∷ 1 ∷ []) ∷ []) (kinds (2 ∷ 10 ∷ [])) (cells []) (cells []) slice
       ≡ leaves (Compiled.Done 6) (after P1-code)
-  pub P1-listing : listing (spelled 8 P1-bundle)
-      ≡ line (0 ∷ 5 ∷ 1 ∷ 0 ∷ 0 ∷ [])
-      ++ line (1 ∷ 8 ∷ 1 ∷ 64 ∷ 2 ∷ [])
-      ++ line (2 ∷ 2 ∷ 64 ∷ 0 ∷ 0 ∷ [])
-      ++ line (3 ∷ 5 ∷ 0 ∷ 0 ∷ 0 ∷ [])
-      ++ line (4 ∷ 2 ∷ 65 ∷ 0 ∷ 0 ∷ [])
-      ++ line (5 ∷ 3 ∷ 0 ∷ 0 ∷ 0 ∷ [])
-      ++ wordLine endWord (0 ∷ 6 ∷ 0 ∷ 3 ∷ 4 ∷ 1 ∷ [])
-      ++ wordLine objectWord (0 ∷ 0 ∷ [])
-      ++ wordLine objectWord (1 ∷ 2 ∷ [])
-      ++ wordLine messageWord (0 ∷ 1 ∷ [])
   pub P2 : compile true (objectRow 0 ∷ row (5 ∷ 1 ∷ 1 ∷ 2 ∷ 3 ∷ 0 ∷ 1 ∷ 0 ∷ []) ∷ []) (kinds (2 ∷ 7 ∷ 4 ∷ 5 ∷ [])) (cells []) (cells []) slice
       ≡ leaves (Compiled.Done 6) (after P2-code)
   pub P2-run : run (lent (2 ∷ 7 ∷ 4 ∷ 5 ∷ []) [] unset (replicate 6 0) 0) P2-code

@@ -14,13 +14,15 @@ use Rattle.terms.specs.Rules.{usedRows, badTerm}
 use Rattle.terms.proofs.TableLaws.{valid-table}
 use Rattle.stores.specs.Valid.{valid}
 use Rattle.stores.proofs.ValidLaws.{valid-stores}
 use Rattle.theory.specs.Outcome.{Outcome}
 use Rattle.theory.specs.RowModel.{rowWorld}
 use Rattle.theory.specs.Machine.{State, exec}
-use Rattle.theory.specs.Compile.{first, kindIn}
-use Rattle.theory.specs.Valid.{LentWithin, ValidStores, Valid}
-use Rattle.theory.specs.Run.{Lent, stateOf, linesOf, ended, lengthsFit, run, mostCodeWords}
-use Rattle.theory.proofs.CompileLaws.{passes-when}
+use Rattle.answers.specs.First.{first}
+use Rattle.numbers.specs.Kinds.{kindIn}
+use Rattle.calls.specs.Valid.{LentWithin, ValidStores, Valid}
+use Rattle.calls.specs.Run.{Lent, stateOf, linesOf, ended, lengthsFit, run}
+use Rattle.numbers.specs.Limits.{mostCodeWords}
+use Rattle.calls.proofs.CompileLaws.{passes-when}
 
 -- the test of 3, and the steps
 module _ (x : Lent) where

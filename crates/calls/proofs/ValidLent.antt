@@ -16,11 +16,11 @@ use Rattle.terms.specs.Rules.{usedRows}
 use Rattle.terms.specs.Table.{ValidTable}
 use Rattle.stores.specs.Cells.{unset, held, storeOf}
 use Rattle.stores.specs.ValidStores.{UndeclaredUnset, HoldsKind, UnsetOrUsed}
-use Rattle.theory.specs.Machine.{namedCells}
-use Rattle.theory.specs.Compile.{kindIn}
-use Rattle.theory.specs.Run.{Lent, stateOver, stateOf}
-use Rattle.theory.specs.Valid.{Valid}
+use Rattle.numbers.specs.Limits.{namedCells}
+use Rattle.numbers.specs.Kinds.{kindIn}
+use Rattle.calls.specs.Run.{Lent, stateOver, stateOf}
+use Rattle.calls.specs.Valid.{Valid}
 use Rattle.theory.proofs.RowsRunAsTerms.{Held, ValidState}
 
 -- a cell that is unset or a used row holds a used row at most
 pub cell-held : (used cell : ℕ) → UnsetOrUsed used cell ↔ Held (λ row. row < used) (held cell)

@@ -9,17 +9,17 @@ use lib.Dec.{T}
 use lib.ListN.{length, getD}
 use Rattle.word.proofs.TestLaws.{both}
 use Rattle.code.specs.Words.{hasKind, cellsFit, badWord}
-use Rattle.code.specs.declared.Object.{Object}
-use Rattle.code.specs.declared.Raw.{Raw}
+use Rattle.numbers.specs.declared.Object.{Object}
+use Rattle.numbers.specs.declared.Raw.{Raw}
 use Rattle.code.specs.declared.Instruction.{Instruction}
 use Rattle.code.specs.declared.Instruction.the-variants.{Load, Store, StoreConst, Decode, Encode, Create, AnalyzeTuple, CreateTuple, Opposite, KeyOf, Match, Encrypt, Decrypt, Sign, Verify, Hash}
 use Rattle.code.specs.GoodWords.{GoodWord}
 use Rattle.code.proofs.KindLaws.{object-below, cells-below}
 use Rattle.code.proofs.WordLaws.{FieldsFit, word-read, no-bad-word-iff}
 use Rattle.theory.specs.Machine.{Line}
-use Rattle.theory.specs.Compile.{codeWords}
-use Rattle.theory.specs.Run.{linesFrom, linesOf}
-use Rattle.theory.specs.Limits.{InRange, AllInRange}
+use Rattle.calls.specs.Compile.{codeWords}
+use Rattle.calls.specs.Run.{linesFrom, linesOf}
+use Rattle.theory.specs.Bounds.{InRange, AllInRange}
 
 module _ (kind : ℕ → ℕ) where
   low : (v : Object) (kinds : List ℕ) → T (hasKind kind v kinds) → v .0 < 256

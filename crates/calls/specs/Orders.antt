@@ -12,11 +12,11 @@ use Rattle.answers.specs.declared.Ran.the-variants as Ran
 use Rattle.terms.specs.Shape.{atom, hashed, tupled}
 use Rattle.terms.specs.Row.{wordOf}
 use Rattle.stores.specs.Cells.{unset}
-use Rattle.patterns.specs.Pattern.{Key, plainKey, opKey, certifiedKey, Pattern, object, raw, constant, opposite, keyOf, encryption, signature, hash, tuple, letIn, Parts, end, part}
-use Rattle.theory.specs.Emission.{Env, Emitted, ok, refuse}
-use Rattle.theory.specs.Compile.{tables, leaves, compile}
-use Rattle.theory.specs.Run.{Lent, unchanged, run}
-use Rattle.theory.specs.Cases.{row, objectRow, rawRow, tupleRow, word, kinds, cells, slice, after, lent}
+use Rattle.patterns.specs.Pattern.{plainKey, opKey, certifiedKey, Pattern, object, raw, constant, opposite, keyOf, encryption, signature, hash, tuple, letIn, Parts, end, part}
+use Rattle.theory.specs.Emission.{Emitted, ok, refuse}
+use Rattle.calls.specs.Compile.{tables, leaves, compile}
+use Rattle.calls.specs.Run.{unchanged, run}
+use Rattle.calls.specs.Cases.{row, objectRow, rawRow, tupleRow, word, kinds, cells, slice, after, lent}
 
 -- object variables by their kinds: 1 byte, 2 nonce, 3 agent, 4 public key, 5 private key, 7 encryption, 8 signature, 9 hash, 10 tuple; 11 is a second byte
 abbrev pub kindOf : ℕ → ℕ

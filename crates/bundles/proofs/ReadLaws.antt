@@ -8,7 +8,7 @@ use mathlib.Core.List.{List}
 use lib.Dec.{T}
 use lib.ListN.{length}
 use Rattle.word.proofs.TestLaws.{both, is-true, is-false, equals, at-most}
-use Rattle.theory.specs.Bundle.{wordBytes, Header, wordsIn, headerIn, bundleIn, headerFits, sizeFits, bundleBy, readBundle, HeaderWithin, BundleWithin}
+use Rattle.bundles.specs.Bundle.{wordBytes, Header, wordsIn, headerIn, bundleIn, headerFits, sizeFits, bundleBy, readBundle, HeaderWithin, BundleWithin}
 
 pub header-within : (h : Header) → T (headerFits h) ↔ HeaderWithin h
 header-within h =

@@ -12,12 +12,14 @@ use Rattle.answers.specs.declared.Compiled.the-variants.{Done, CodeTooShort}
 use Rattle.stores.specs.Cells.{unset, isSet, held}
 use Rattle.stores.specs.Valid.{undeclaredUnset, eachVariable, declared}
 use Rattle.patterns.specs.Tree.{patternOf}
 use Rattle.theory.specs.Outcome.{isSome}
 use Rattle.theory.specs.World.{World}
 use Rattle.theory.specs.Machine.{Stores}
 use Rattle.theory.specs.Emission.{Emitted, ok, refuse}
-use Rattle.theory.specs.Compile.{SameSet, CompileOutcome, first, codeWords, kindIn, entry, tables, leaves, written, finished, refusals, emitted, compileBy, compile}
+use Rattle.calls.specs.Compile.{SameSet, CompileOutcome, codeWords, entry, tables, leaves, written, finished, refusals, emitted, compileBy, compile}
+use Rattle.answers.specs.First.{first}
+use Rattle.numbers.specs.Kinds.{kindIn}
 use Rattle.theory.proofs.Compiled.{known}
 
 -- compile sees of a cell whether it holds a row
 pub set-held : (cell : ℕ) → isSet cell ≡ isSome (held cell)

@@ -1,5 +1,5 @@
 -- Run's answer: it looks in the order 1, 2, 3, 9, then steps. Any answer but 0 leaves the values on entry.
-use Prim.Native.Nat.{ℕ, zero, suc, _+_}
+use Prim.Native.Nat.{ℕ, zero, suc}
 use mathlib.Core.Bool.{Bool, not, _&&_}
 use mathlib.Core.Option.{Option, none, some, Option·map}
 use mathlib.Core.List.{List, [], _∷_, _++_}
@@ -14,22 +14,12 @@ use Rattle.code.specs.declared.Instruction.{Instruction}
 use Rattle.terms.specs.Rules.{usedRows, badTerm}
 use Rattle.stores.specs.Cells.{held, cellOf, storeOf, cellsFrom}
 use Rattle.stores.specs.Valid.{valid}
 use Rattle.theory.specs.Outcome.{Outcome, done, stuck, room}
-use Rattle.theory.specs.RowModel.{Table, rowWorld, mostNames}
-use Rattle.theory.specs.Machine.{Line, line, State, exec, namedCells, scratchCells}
-use Rattle.theory.specs.Compile.{when, first, kindIn, variables}
-
-abbrev pub mostCodeWords : ℕ
-mostCodeWords = 768
-
-abbrev pub mostTermRows : ℕ
-mostTermRows = 4096
-
-abbrev pub mostCertificates : ℕ
-mostCertificates = 32
-
-abbrev pub messageCells : ℕ
-messageCells = namedCells + scratchCells
+use Rattle.theory.specs.RowModel.{Table, rowWorld}
+use Rattle.numbers.specs.Limits.{variables, namedCells, scratchCells, messageCells, mostCodeWords, mostTermRows, mostCertificates, mostNames}
+use Rattle.theory.specs.Machine.{Line, line, State, exec}
+use Rattle.answers.specs.First.{when, first}
+use Rattle.numbers.specs.Kinds.{kindIn}
 
 -- what is lent to a run
 pub record Lent : Type 0 where

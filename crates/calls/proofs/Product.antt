@@ -13,12 +13,14 @@ use Rattle.patterns.specs.Pattern.{Pattern, size, RawsBelow, Packed}
 use Rattle.patterns.specs.Tree.{patternOf}
 use Rattle.patterns.specs.Kinds.{RightKinds}
 use Rattle.patterns.proofs.TreeLaws.{pattern-size, right-kinds, raws-below, packed}
 use Rattle.theory.specs.Machine.{Line}
 use Rattle.theory.specs.Emission.{Env, ok, refuse}
-use Rattle.theory.specs.Compile.{kindIn, variables, tables, entry, compile}
-use Rattle.theory.specs.Limits.{InLimits}
+use Rattle.numbers.specs.Kinds.{kindIn}
+use Rattle.numbers.specs.Limits.{variables}
+use Rattle.calls.specs.Compile.{tables, entry, compile}
+use Rattle.theory.specs.Bounds.{InLimits}
 use Rattle.theory.proofs.InLimits.{Refusal, matching-in-limits, creating-in-limits, matching-refuses, creating-refuses}
-use Rattle.theory.proofs.CompileLaws.{Checked, Compiles, done-compiles}
+use Rattle.calls.proofs.CompileLaws.{Checked, Compiles, done-compiles}
 
 -- the lengths of 1, as far as the pattern's
 pattern-lengths : (a b c d e : Bool) → T (a && b && c && d && e) → T a × T b

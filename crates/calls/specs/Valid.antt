@@ -6,9 +6,8 @@ use lib.ListN.{length}
 use Rattle.terms.specs.Rules.{usedRows}
 use Rattle.terms.specs.Table.{ValidTable}
 use Rattle.stores.specs.ValidStores as Stores
-use Rattle.theory.specs.RowModel.{mostNames}
-use Rattle.theory.specs.Compile.{variables, mostPatternRows}
-use Rattle.theory.specs.Run.{Lent, mostTermRows, mostCertificates, messageCells}
+use Rattle.numbers.specs.Limits.{mostNames, variables, mostPatternRows, mostTermRows, mostCertificates, messageCells}
+use Rattle.calls.specs.Run.{Lent}
 
 -- not 1, in compile: 1 to 96 pattern rows, 64 kinds, 64 object cells, 64 named cells
 pub record CompileWithin (pattern kinds objects named : List ℕ) : Type 0 where

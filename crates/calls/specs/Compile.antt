@@ -6,6 +6,9 @@ use mathlib.Core.Option.{Option, none, some, Option·map}
 use mathlib.Core.List.{List, [], _∷_, _++_, map}
 use lib.ListN.{length, getD, take, drop}
 use lib.Dec.{eqb, leb}
+use Rattle.numbers.specs.Kinds.{kindIn}
+use Rattle.numbers.specs.Limits.{variables, mostPatternRows}
+use Rattle.answers.specs.First.{when, first}
 use Rattle.answers.specs.Numbers.{compiledPlace}
 use Rattle.answers.specs.declared.Compiled.{Compiled}
 use Rattle.answers.specs.declared.Compiled.the-variants.{Done, Limit, BadStore, BadPattern, WrongKind, CodeTooShort}
@@ -16,31 +19,9 @@ use Rattle.patterns.specs.Pattern.{Pattern}
 use Rattle.patterns.specs.Rules.{badPattern}
 use Rattle.patterns.specs.Tree.{patternOf}
 use Rattle.patterns.specs.Kinds.{wrongKind}
 use Rattle.theory.specs.Machine.{Line}
 use Rattle.theory.specs.Emission.{Env, Emitted, ok, refuse}
 use Rattle.theory.specs.Compilers.{compile↓, compile↑}
-
-abbrev pub mostPatternRows : ℕ
-mostPatternRows = 96
-
--- kinds, object cells and named message cells
-abbrev pub variables : ℕ
-variables = 64
-
--- the first refusal of checks in their order
-module _ {A : Type 0} where
-  abbrev pub when : Bool → A → Option A
-  when true answer = some answer
-  when false answer = none
-
-  unfoldable pub first : List (Option A) → Option A
-  first [] = none
-  first (some answer ∷ rest) = some answer
-  first (none ∷ rest) = first rest
-
--- the kind of a variable; one past the kinds is undeclared
-abbrev pub kindIn : List ℕ → ℕ → ℕ
-kindIn kinds v = getD kinds v 0
 
 -- which cells are set; no scratch is taken yet
 abbrev pub entry : List ℕ → List ℕ → Env

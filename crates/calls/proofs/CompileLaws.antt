@@ -17,11 +17,13 @@ use Rattle.code.specs.Instruction.{wordOf}
 use Rattle.stores.specs.Valid.{declared}
 use Rattle.patterns.specs.Rules.{badPattern}
 use Rattle.patterns.specs.Kinds.{wrongKind}
 use Rattle.theory.specs.Machine.{Line}
 use Rattle.theory.specs.Emission.{Env, Emitted, ok, refuse}
-use Rattle.theory.specs.Compile.{when, first, kindIn, codeWords, usedPart, leaves, finished, lengthsFit, refusals, emitted, compileBy, compile}
-use Rattle.theory.specs.Valid.{CompileWithin}
+use Rattle.answers.specs.First.{when, first}
+use Rattle.numbers.specs.Kinds.{kindIn}
+use Rattle.calls.specs.Compile.{codeWords, usedPart, leaves, finished, lengthsFit, refusals, emitted, compileBy, compile}
+use Rattle.calls.specs.Valid.{CompileWithin}
 use Rattle.theory.proofs.InLimits.{Refusal}
 
 -- an answer that is not done
 abbrev pub NotDone : Compiled → Type 0

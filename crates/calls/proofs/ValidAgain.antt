@@ -14,15 +14,16 @@ use Rattle.terms.specs.Row.{tagOf}
 use Rattle.terms.specs.Rules.{usedRows}
 use Rattle.stores.specs.Cells.{unset, held, cellOf, cellsFrom}
 use Rattle.stores.specs.ValidStores.{ValidCertificates, UndeclaredUnset, HoldsKind, UnsetOrUsed}
 use Rattle.theory.specs.RowModel.{rowWorld}
-use Rattle.theory.specs.Machine.{State, namedCells, scratchCells}
-use Rattle.theory.specs.Compile.{kindIn, variables}
-use Rattle.theory.specs.Run.{Lent, lentAfter, stateOver, stateOf, leftBy}
+use Rattle.theory.specs.Machine.{State}
+use Rattle.numbers.specs.Limits.{namedCells, scratchCells, variables}
+use Rattle.numbers.specs.Kinds.{kindIn}
+use Rattle.calls.specs.Run.{Lent, lentAfter, stateOver, stateOf, leftBy}
 use Rattle.theory.proofs.ValidMemory.{used-inside}
 use Rattle.theory.proofs.RowsRunAsTerms.{Held, IsUsed, HasTag, ValidState}
 use Rattle.theory.proofs.RowsKept.{Appended}
-use Rattle.theory.specs.Valid.{Valid}
-use Rattle.theory.proofs.ValidLent.{cell-held, object-held, tagged}
+use Rattle.calls.specs.Valid.{Valid}
+use Rattle.calls.proofs.ValidLent.{cell-held, object-held, tagged}
 
 -- the cells of a store
 pub length-cells : (n count : ℕ) (store : ℕ → Option ℕ) → length (cellsFrom n count store) ≡ count

@@ -11,10 +11,10 @@ use Rattle.answers.specs.Numbers.{compiledNumber, compiledPlace, ranNumber, ran
 use Rattle.code.specs.Instruction.{wordWidths}
 use Rattle.terms.specs.Rules.{usedRows}
 use Rattle.stores.specs.Cells.{unset, isSet}
-use Rattle.theory.specs.Machine.{namedCells, scratchCells}
-use Rattle.theory.specs.Compile.{CompileOutcome, compiledCode, compile}
-use Rattle.theory.specs.Run.{Lent, RunOutcome, run, mostCodeWords, mostTermRows}
-use Rattle.theory.specs.Bundle.{Bundle, readBundle, certificatesClear}
+use Rattle.numbers.specs.Limits.{namedCells, scratchCells, mostCodeWords, mostTermRows}
+use Rattle.calls.specs.Compile.{CompileOutcome, compiledCode, compile}
+use Rattle.calls.specs.Run.{Lent, RunOutcome, run}
+use Rattle.bundles.specs.Bundle.{Bundle, readBundle, certificatesClear}
 
 -- the words that lines begin with, in ASCII
 abbrev pub refusedWord : List ℕ

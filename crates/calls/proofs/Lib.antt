@@ -1,0 +1,11 @@
+-- The theorems, for what is lent.
+pub mod Cases
+pub mod CompileLaws
+pub mod SetCells
+pub mod CompiledWords
+pub mod Product
+pub mod RunLaws
+pub mod ValidLent
+pub mod ValidAgain
+pub mod Demand3
+pub mod Theorems

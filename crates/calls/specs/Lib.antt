@@ -1,0 +1,6 @@
+-- What compile and run answer, and the worked cases.
+pub mod Compile
+pub mod Run
+pub mod Valid
+pub mod Cases
+pub mod Orders
