@@ -58,13 +58,14 @@ pub fn compile(
     deliver(&buffer[..count], code)
 }
 
-// The first n words of the lent code slice, or an empty part where n exceeds its length.
-pub fn used(code: &mut [u32], n: usize) -> &mut [u32]
-    ensures { λ r. ⌜ now r ≡ usedPart n (now (code .entry)) ⌝ }
+// The first n words of the lent code slice, or an empty part where n exceeds its length. It is the slice's own front, and lent to
+// be read: no word of the slice changes.
+pub fn used(code: &[u32], n: usize) -> &[u32]
+    ensures { λ r. ⌜ (now r ≡ usedPart n (now (code .entry))) × (r .ptr ≡ code .entry .ptr) ⌝ }
 {
     if n <= code.len() {
-        &mut code[..n]
+        &code[..n]
     } else {
-        &mut code[..0]
+        &code[..0]
     }
 }
