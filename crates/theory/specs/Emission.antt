@@ -5,9 +5,10 @@ use mathlib.Core.List.{List, [], _∷_, _++_}
 use lib.Dec.{ltb}
 use Rattle.answers.specs.declared.Compiled.{Compiled}
 use Rattle.answers.specs.declared.Compiled.the-variants.{WrittenWhileSet, ReadWhileUnset}
+use Rattle.numbers.specs.declared.Raw.{Raw}
 use Rattle.code.specs.declared.Instruction.{Instruction}
 use Rattle.theory.specs.Store.{put}
-use Rattle.theory.specs.Machine.{Line, line}
+use Rattle.theory.specs.Machine.{Line, line, named}
 use Rattle.theory.specs.Uses.{Used, objectAt, messageAt, messagesAt, Uses, usesOf}
 use Rattle.numbers.specs.Limits.{namedCells}
 
@@ -16,6 +17,10 @@ pub record Env : Type 0 where
   pub objects : ℕ → Bool
   pub raws : ℕ → Bool
   pub next : ℕ
+
+-- the message cell in which a raw variable stands
+abbrev pub rawCell : Env → ℕ → Raw
+rawCell e r = named r
 
 -- code and the environment after it, or a refusal
 pub data Emitted : Type 0 where
