@@ -99,7 +99,8 @@ module _ (kind : ℕ → ℕ) (row n : ℕ) (i : Instruction) (f : InRange kind 
 
 -- an instruction, and then; and the last one
 module _ (kind : ℕ → ℕ) (row : ℕ) where
-  first : (i : Instruction) → InRange kind i → (m w n : ℕ) (K : Env → Emitted) (e : Env) → 1 ≤ w → e .next ≤ m → ((e′ : Env) → e′ .next ≤ m → Takes kind (w - 1) n (K e′)) → Takes kind w n (andThen (emit row i e) K)
+  first : (i : Instruction) → InRange kind i → (m w n : ℕ) (K : Env → Emitted) (e : Env) → 1 ≤ w → e .next ≤ m
+      → ((e′ : Env) → e′ .next ≤ m → Takes kind (w - 1) n (K e′)) → Takes kind w n (andThen (emit row i e) K)
   first i f m w n K e l h k = follows kind 1 m w n (emit row i e) K l (emit-word kind row m i f e h) k
 
   wider : (v w n : ℕ) (C : Emitted) → v ≤ w → Takes kind v n C → Takes kind w n C
@@ -258,7 +259,8 @@ module _ (kind : ℕ → ℕ) (declared : (v : ℕ) → 64 ≤ v → kind v ≡ 
         takes↓ p₁ _ n e₂ (k .0) (d .1) (b .0) m (omega arith) (omega arith))
 
     -- a part adds its LOAD, and its scratch number is taken already
-    takes↓parts : (ps : Parts) (row i w n : ℕ) (e : Env) → RightParts false kind ps → PartsBelow 64 ps → PackedParts ps → n ≤ 191 → i + count ps ≤ 191 → 8 * sizes ps ≤ w → e .next + 2 * sizes ps ≤ n + count ps
+    takes↓parts : (ps : Parts) (row i w n : ℕ) (e : Env) → RightParts false kind ps → PartsBelow 64 ps → PackedParts ps
+        → n ≤ 191 → i + count ps ≤ 191 → 8 * sizes ps ≤ w → e .next + 2 * sizes ps ≤ n + count ps
         → Takes kind w n (compile↓parts ps row i e)
     takes↓parts end row i w n e k r b m g l h = nothing kind w n e (omega arith)
     takes↓parts (part p ps) row i w n e k r b m g l h =
@@ -355,7 +357,8 @@ module _ (kind : ℕ → ℕ) (declared : (v : ℕ) → 64 ≤ v → kind v ≡ 
         takes↑ p₂ _ n e₂ (k .1) (d .2) (b .1) m (omega arith) (omega arith)
 
     -- a part adds its STORE, and its scratch number is taken already
-    takes↑parts : (ps : Parts) (row i w n : ℕ) (e : Env) → RightParts true kind ps → PartsBelow 64 ps → PackedParts ps → n ≤ 191 → i + count ps ≤ 191 → 8 * sizes ps ≤ w → e .next + 2 * sizes ps ≤ n + count ps
+    takes↑parts : (ps : Parts) (row i w n : ℕ) (e : Env) → RightParts true kind ps → PartsBelow 64 ps → PackedParts ps
+        → n ≤ 191 → i + count ps ≤ 191 → 8 * sizes ps ≤ w → e .next + 2 * sizes ps ≤ n + count ps
         → Takes kind w n (compile↑parts kind ps row i e)
     takes↑parts end row i w n e k r b m g l h = nothing kind w n e (omega arith)
     takes↑parts (part p ps) row i w n e k r b m g l h =
@@ -373,7 +376,8 @@ module _ (kind : ℕ → ℕ) (declared : (v : ℕ) → 64 ≤ v → kind v ≡ 
   pub matching-in-limits : (p : Pattern) (e e′ : Env) (c : List Line) → RightKinds false kind p → RawsBelow 64 p → Packed p → size p ≤ 96 → e .next ≡ 0 → compile↓ p e ≡ ok c e′ → InLimits kind c e′
   matching-in-limits p e e′ c k r b s z q = within _ c e′ (takes↓ p 767 191 e k r b (omega arith) (omega arith) (omega arith)) q
 
-  pub creating-in-limits : (p : Pattern) (e e′ : Env) (c : List Line) → RightKinds true kind p → RawsBelow 64 p → Packed p → size p ≤ 96 → e .next ≡ 0 → compile↑ kind p e ≡ ok c e′ → InLimits kind c e′
+  pub creating-in-limits : (p : Pattern) (e e′ : Env) (c : List Line) → RightKinds true kind p → RawsBelow 64 p → Packed p → size p ≤ 96 → e .next ≡ 0
+      → compile↑ kind p e ≡ ok c e′ → InLimits kind c e′
   creating-in-limits p e e′ c k r b s z q = within _ c e′ (takes↑ p 767 191 e k r b (omega arith) (omega arith) (omega arith)) q
 
   -- and where it refuses, that is with 6 or 7
@@ -384,5 +388,6 @@ module _ (kind : ℕ → ℕ) (declared : (v : ℕ) → 64 ≤ v → kind v ≡ 
   pub matching-refuses : (p : Pattern) (e : Env) (answer : Compiled) → RightKinds false kind p → RawsBelow 64 p → Packed p → size p ≤ 96 → e .next ≡ 0 → compile↓ p e ≡ refuse answer → Refusal answer
   matching-refuses p e answer k r b s z q = refusal _ answer (takes↓ p 767 191 e k r b (omega arith) (omega arith) (omega arith)) q
 
-  pub creating-refuses : (p : Pattern) (e : Env) (answer : Compiled) → RightKinds true kind p → RawsBelow 64 p → Packed p → size p ≤ 96 → e .next ≡ 0 → compile↑ kind p e ≡ refuse answer → Refusal answer
+  pub creating-refuses : (p : Pattern) (e : Env) (answer : Compiled) → RightKinds true kind p → RawsBelow 64 p → Packed p → size p ≤ 96 → e .next ≡ 0
+      → compile↑ kind p e ≡ refuse answer → Refusal answer
   creating-refuses p e answer k r b s z q = refusal _ answer (takes↑ p 767 191 e k r b (omega arith) (omega arith) (omega arith)) q

@@ -1,5 +1,5 @@
--- What an operation makes of a model's memory follows from what making a message and taking a name make of it; and the models,
--- of rows and of terms among them, say no for document 01's reasons, and never that a cell is unset.
+-- What an operation makes of a model's memory follows from what making a message and taking a name make of it; and the world
+-- of rows says no for document 01's reasons, and never that a cell is unset.
 use Prim.Native.Nat.{ℕ, suc}
 use mathlib.Core.Bool.{Bool, true, false, cond, _&&_}
 use mathlib.Core.Option.{Option, none, some}
@@ -17,11 +17,8 @@ use Rattle.theory.specs.Outcome.{got, full}
 use Rattle.theory.specs.World.{Op, Test}
 use Rattle.theory.specs.World as Voc
 use Rattle.theory.specs.Model.{Model, world, numberOf, goesWith, opened, certified, verified, taken, applyIn, testIn}
-use Rattle.theory.specs.RowModel as Rows
-use Rattle.theory.specs.RowModel.{Table, name, placedBy, rowModel, rowWorld}
+use Rattle.theory.specs.RowModel.{Table, withCounter, name, placedBy, rowModel, rowWorld}
 use Rattle.numbers.specs.Limits.{mostNames}
-use Rattle.theory.specs.TermModel as Terms
-use Rattle.theory.specs.TermModel.{termModel, termWorld}
 use Rattle.theory.proofs.Ends.{Any, Answers, gets, fails, fills, answers-sure, answers-test, answers-then}
 use Rattle.theory.proofs.StepEnds.{Moves}
 use Rattle.theory.proofs.Reasons.{AnswerWithin, OwnReason, Calm}
@@ -108,13 +105,5 @@ calm-rows = calm-model rowModel λ x.
     record {
       left = tt;
       makes = calm-make x;
-      creates = λ kind. answers-then _ (calm-name (x .counter) (Rows.withCounter x)) λ r _. calm-make (r .1) (atom kind (r .0));
-    }
-
-pub calm-terms : Calm termWorld
-calm-terms = calm-model termModel λ x.
-    record {
-      left = tt;
-      makes = λ shape. gets tt;
-      creates = λ kind. answers-then _ (calm-name (x .counter) (Terms.withCounter x)) λ r _. gets tt;
+      creates = λ kind. answers-then _ (calm-name (x .counter) (withCounter x)) λ r _. calm-make (r .1) (atom kind (r .0));
     }

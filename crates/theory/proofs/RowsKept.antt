@@ -49,7 +49,17 @@ module _ (x : Table) where
   named-appends y a = go (ltb (y .counter) mostNames)
     where
       go : (b : Bool) → Answers Any (Unit {0}) (λ (r : ℕ × Table). Appended x (r .1)) (cond b (got (y .counter, withCounter y (suc (y .counter)))) full)
-      go true = gets {a = (y .counter, withCounter y (suc (y .counter)))} (record { same-length = a .same-length; kept = a .kept; rest = a .rest; more = a .more; inside = a .inside; names = omega (arith, a .names); certificates = a .certificates })
+      go true =
+          gets {a = (y .counter, withCounter y (suc (y .counter)))}
+          (record {
+            same-length = a .same-length;
+            kept = a .kept;
+            rest = a .rest;
+            more = a .more;
+            inside = a .inside;
+            names = omega (arith, a .names);
+            certificates = a .certificates;
+          })
       go false = fills tt
 
   moves-append : (y : Table) → Appended x y → Moves Any (Unit {0}) rowWorld (Appended x) y
