@@ -9,6 +9,7 @@ use Rattle.promises.proofs.Demand1.{demand-1}
 use Rattle.promises.proofs.Demand2.{demand-2}
 use Rattle.promises.proofs.Demand3.{demand-3}
 use Rattle.promises.proofs.Example.{example}
+use Rattle.promises.proofs.ForC.{for-c}
 use Rattle.promises.proofs.ListingLaws.{listing-table}
 use Rattle.promises.proofs.Printed.{printed}
 
@@ -21,6 +22,7 @@ promises = record {
   vocabulary = vocabulary;
   demand-2 = demand-2;
   demand-3 = demand-3;
+  for-c = for-c;
   example = example;
   listings = listing-table;
   printed = printed;

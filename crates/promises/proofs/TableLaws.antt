@@ -51,7 +51,7 @@ table-written create pattern kinds objects named slice e =
     }
 
 -- the used part is the lines' words
-used-words : {create : Bool} {pattern kinds objects named slice : List ℕ} {o : CompileOutcome} (w : WritesTable create pattern kinds objects named slice o) → compiledCode o ≡ codeWords (w .lines)
+pub used-words : {create : Bool} {pattern kinds objects named slice : List ℕ} {o : CompileOutcome} (w : WritesTable create pattern kinds objects named slice o) → compiledCode o ≡ codeWords (w .lines)
 used-words {slice = slice} w =
     let count : length (codeWords (w .lines)) ≡ length (w .lines) = length-map (w .lines) _ in
     rw (w .count .1, w .code, ← count) (part-written (codeWords (w .lines)) (drop (length (codeWords (w .lines))) slice))

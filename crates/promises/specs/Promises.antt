@@ -13,6 +13,7 @@ use Rattle.promises.specs.Demand1.{Demand1}
 use Rattle.promises.specs.Demand2.{Demand2}
 use Rattle.promises.specs.Demand3.{Demand3}
 use Rattle.promises.specs.Example.{Example}
+use Rattle.promises.specs.ForC.{ForC}
 use Rattle.promises.specs.Listing.{ListingTable, Printed}
 
 pub record Promises : Type 0 where
@@ -28,6 +29,8 @@ pub record Promises : Type 0 where
   pub demand-2 : Demand2
   -- finished exactly where figures 2 and 3 lead somewhere, with what they give
   pub demand-3 : Demand3
+  -- the same for what firmware calls, over bytes
+  pub for-c : ForC
   -- its premises met by P1 and P2
   pub example : Example
   -- what a bundle's listing prints
