@@ -18,7 +18,7 @@ use Rattle.patterns.specs.Kinds.{wrongKind}
 use Rattle.theory.specs.Store.{put, puts}
 use Rattle.theory.specs.World.{creatable}
 use Rattle.theory.specs.Machine.{message, setMessage, setMessages, messages}
-use Rattle.theory.specs.Emission.{after, andThen, readable, occupied, addRaw, emit}
+use Rattle.theory.specs.Emission.{behind, andThen, readable, occupied, addRaw, emit}
 use Rattle.answers.specs.First.{first}
 use Rattle.calls.specs.Compile.{usedPart, compile}
 use Rattle.calls.specs.Run.{stateOver, leftBy, linesFrom, run}
@@ -26,7 +26,7 @@ use Rattle.calls.specs.Cases.{Cases}
 use Rattle.calls.specs.Orders.{Orders, Corners}
 
 pub worked : Cases × Orders × Corners
-unfolding flatMap lowestFrom each oneOf Code.wordOf Code.instructionOf goodWord badWord Row.wordOf Row.tagOf Row.shapeOf usedRows knownTag unusedZero numberFits partsBelow keyFits earlierEqual badRow badTerm equalRow locate held cellOf storeOf cellsFrom agentOf keyOf spareOf certified pairFits agentsOnce kindsFit eachVariable declared valid count fieldsOf Patterns.repeats Patterns.badRow Patterns.unnamed Patterns.badPattern patternsFrom patternsOf patternOf wrongKind put puts creatable message setMessage setMessages messages after andThen readable occupied addRaw emit first usedPart compile stateOver leftBy linesFrom run
+unfolding flatMap lowestFrom each oneOf Code.wordOf Code.instructionOf goodWord badWord Row.wordOf Row.tagOf Row.shapeOf usedRows knownTag unusedZero numberFits partsBelow keyFits earlierEqual badRow badTerm equalRow locate held cellOf storeOf cellsFrom agentOf keyOf spareOf certified pairFits agentsOnce kindsFit eachVariable declared valid count fieldsOf Patterns.repeats Patterns.badRow Patterns.unnamed Patterns.badPattern patternsFrom patternsOf patternOf wrongKind put puts creatable message setMessage setMessages messages behind andThen readable occupied addRaw emit first usedPart compile stateOver leftBy linesFrom run
 worked = (
   record {
     P1 = refl;

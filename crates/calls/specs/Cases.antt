@@ -47,8 +47,8 @@ cells cs = cs ++ replicate (64 - length cs) unset
 abbrev pub slice : List ℕ
 slice = replicate 12 7
 
-abbrev pub after : List ℕ → List ℕ
-after words = words ++ replicate (12 - length words) 7
+abbrev pub sliceWith : List ℕ → List ℕ
+sliceWith words = words ++ replicate (12 - length words) 7
 
 -- a run with all message cells unset and no certificates
 abbrev pub lent : List ℕ → List ℕ → ℕ → List ℕ → ℕ → Lent
@@ -76,9 +76,9 @@ P10-code = word 5 0 0 0 ∷ word 3 64 0 0 ∷ word 6 1 0 0 ∷ word 11 0 0 0 ∷
 
 pub record Cases : Type 0 where
   pub P1 : compile false (objectRow 0 ∷ rawRow 0 ∷ tupleRow 1 (0 ∷ 1 ∷ []) ∷ []) (kinds (2 ∷ 10 ∷ [])) (cells []) (cells []) slice
-      ≡ leaves (Compiled.Done 6) (after P1-code)
+      ≡ leaves (Compiled.Done 6) (sliceWith P1-code)
   pub P2 : compile true (objectRow 0 ∷ row (5 ∷ 1 ∷ 1 ∷ 2 ∷ 3 ∷ 0 ∷ 1 ∷ 0 ∷ []) ∷ []) (kinds (2 ∷ 7 ∷ 4 ∷ 5 ∷ [])) (cells []) (cells []) slice
-      ≡ leaves (Compiled.Done 6) (after P2-code)
+      ≡ leaves (Compiled.Done 6) (sliceWith P2-code)
   pub P2-run : run (lent (2 ∷ 7 ∷ 4 ∷ 5 ∷ []) [] unset (replicate 6 0) 0) P2-code
       ≡ record {
         answer = Ran.Done 6;
@@ -90,7 +90,7 @@ pub record Cases : Type 0 where
       }
   pub P3 : compile false (rawRow 0 ∷ rawRow 1 ∷ tupleRow 1 (0 ∷ 1 ∷ []) ∷ rawRow 2 ∷ tupleRow 0 (2 ∷ 3 ∷ []) ∷ []) (kinds (10 ∷ 10 ∷ [])) (cells []) (cells []) slice
       ≡ leaves (Compiled.Done 11)
-      (after
+      (sliceWith
       (word 5 0 0 0 ∷ word 8 0 64 2 ∷ word 2 64 0 0 ∷ word 5 1 0 0 ∷ word 8 1 66 2 ∷ word 2 66 0 0 ∷ word 3 0 0 0 ∷ word 2 67 0 0
       ∷ word 3 1 0 0 ∷ word 2 65 0 0 ∷ word 3 2 0 0 ∷ []))
   pub P4 : compile false (objectRow 0 ∷ row (5 ∷ 1 ∷ 1 ∷ 2 ∷ 3 ∷ 0 ∷ 1 ∷ 0 ∷ []) ∷ []) (kinds (2 ∷ 7 ∷ 4 ∷ 5 ∷ [])) (cells []) (cells []) slice
@@ -98,13 +98,13 @@ pub record Cases : Type 0 where
   pub P5 : compile false (row (2 ∷ 0 ∷ 0 ∷ 5 ∷ []) ∷ row (2 ∷ 0 ∷ 0 ∷ 5 ∷ []) ∷ tupleRow 1 (0 ∷ 1 ∷ []) ∷ []) (kinds (1 ∷ 10 ∷ [])) (cells []) (cells []) slice
       ≡ leaves (Compiled.WrittenWhileSet 1) slice
   pub P6 : compile false (objectRow 0 ∷ rawRow 0 ∷ letRow 0 0 1 ∷ []) (kinds (2 ∷ [])) (cells []) (cells []) slice
-      ≡ leaves (Compiled.Done 3) (after (word 3 0 0 0 ∷ word 2 0 0 0 ∷ word 5 0 0 0 ∷ []))
+      ≡ leaves (Compiled.Done 3) (sliceWith (word 3 0 0 0 ∷ word 2 0 0 0 ∷ word 5 0 0 0 ∷ []))
   pub P6-set : compile false (objectRow 0 ∷ rawRow 0 ∷ letRow 0 0 1 ∷ []) (kinds (2 ∷ [])) (cells []) (cells (0 ∷ [])) slice
       ≡ leaves (Compiled.WrittenWhileSet 2) slice
   pub P7 : compile false (objectRow 0 ∷ rawRow 1 ∷ letRow 0 0 1 ∷ []) (kinds (2 ∷ [])) (cells []) (cells []) slice
       ≡ leaves (Compiled.ReadWhileUnset 2) slice
   pub P8 : compile false (objectRow 0 ∷ []) (kinds (10 ∷ [])) (cells []) (cells []) slice ≡ leaves (Compiled.WrongKind 0) slice
-  pub P9 : compile false (tupleRow 0 [] ∷ []) (kinds (10 ∷ [])) (cells []) (cells []) slice ≡ leaves (Compiled.Done 2) (after P9-code)
+  pub P9 : compile false (tupleRow 0 [] ∷ []) (kinds (10 ∷ [])) (cells []) (cells []) slice ≡ leaves (Compiled.Done 2) (sliceWith P9-code)
   pub P9-run : run (lent (10 ∷ []) [] 0 (wordOf (tupled []) ∷ []) 0) P9-code
       ≡ record {
         answer = Ran.Done 2;
@@ -117,6 +117,6 @@ pub record Cases : Type 0 where
   pub P9-stuck : run (lent (10 ∷ []) [] 1 (wordOf (atom 3 0) ∷ wordOf (tupled (0 ∷ [])) ∷ []) 0) P9-code
       ≡ unchanged (Ran.Stuck 1 PartCount) (lent (10 ∷ []) [] 1 (wordOf (atom 3 0) ∷ wordOf (tupled (0 ∷ [])) ∷ []) 0)
   pub P10 : compile false (row (4 ∷ 0 ∷ 0 ∷ 0 ∷ 1 ∷ []) ∷ []) (kinds (4 ∷ 3 ∷ [])) (cells (unset ∷ 0 ∷ [])) (cells []) slice
-      ≡ leaves (Compiled.Done 5) (after P10-code)
+      ≡ leaves (Compiled.Done 5) (sliceWith P10-code)
   pub P10-run : run (lent (4 ∷ 3 ∷ []) (unset ∷ 0 ∷ []) 1 (wordOf (atom 3 1) ∷ wordOf (atom 4 0) ∷ []) 1) P10-code
       ≡ unchanged (Ran.Stuck 3 NoCertificate) (lent (4 ∷ 3 ∷ []) (unset ∷ 0 ∷ []) 1 (wordOf (atom 3 1) ∷ wordOf (atom 4 0) ∷ []) 1)

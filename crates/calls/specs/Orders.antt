@@ -16,20 +16,20 @@ use Rattle.patterns.specs.Pattern.{plainKey, opKey, certifiedKey, Pattern, obje
 use Rattle.theory.specs.Emission.{Emitted, ok, refuse}
 use Rattle.calls.specs.Compile.{tables, leaves, compile}
 use Rattle.calls.specs.Run.{unchanged, run}
-use Rattle.calls.specs.Cases.{row, objectRow, rawRow, tupleRow, word, kinds, cells, slice, after, lent}
+use Rattle.calls.specs.Cases.{row, objectRow, rawRow, tupleRow, word, kinds, cells, slice, sliceWith, lent}
 
 -- object variables by their kinds: 1 byte, 2 nonce, 3 agent, 4 public key, 5 private key, 7 encryption, 8 signature, 9 hash, 10 tuple; 11 is a second byte
 abbrev pub kindOf : ℕ → ℕ
 kindOf v = getD (0 ∷ 1 ∷ 2 ∷ 3 ∷ 4 ∷ 5 ∷ 6 ∷ 7 ∷ 8 ∷ 9 ∷ 10 ∷ 1 ∷ []) v 0
 
 -- what a pattern is refused with where these object and raw variables are set
-abbrev pub refusal : Emitted → Option Compiled
-refusal (ok lines e) = none
-refusal (refuse answer) = some answer
+abbrev pub refusalOf : Emitted → Option Compiled
+refusalOf (ok lines e) = none
+refusalOf (refuse answer) = some answer
 
 abbrev pub refused : Bool → Pattern → List ℕ → List ℕ → Option Compiled
 refused create p objects raws =
-    refusal (tables create kindOf p (record { objects = λ v. oneOf objects v; raws = λ r. oneOf raws r; next = 0 }))
+    refusalOf (tables create kindOf p (record { objects = λ v. oneOf objects v; raws = λ r. oneOf raws r; next = 0 }))
 
 -- row 0, a part that is refused with 6 while the byte 11 is set
 abbrev pub bad : Pattern
@@ -76,18 +76,18 @@ pub record Corners : Type 0 where
   -- a tuple of no parts takes no scratch: its B is the next number, which a later form takes
   pub empty-tuple : compile false (tupleRow 1 [] ∷ row (2 ∷ 2 ∷ 0 ∷ 5 ∷ []) ∷ tupleRow 0 (0 ∷ 1 ∷ []) ∷ []) (kinds (10 ∷ 10 ∷ 1 ∷ [])) (cells []) (cells []) slice
       ≡ leaves (Done 10)
-      (after
+      (sliceWith
       (word 5 0 0 0 ∷ word 8 0 64 2 ∷ word 2 64 0 0 ∷ word 5 1 0 0 ∷ word 8 1 66 0 ∷ word 2 65 0 0 ∷ word 3 66 0 0 ∷ word 4 2 5 0
       ∷ word 6 2 0 0 ∷ word 12 66 0 0 ∷ []))
   -- a created tuple takes its scratch on entry, before its parts
   pub created-tuple : compile true (rawRow 0 ∷ tupleRow 1 (0 ∷ []) ∷ rawRow 1 ∷ tupleRow 0 (1 ∷ 2 ∷ []) ∷ []) (kinds (10 ∷ 10 ∷ [])) (cells []) (cells (0 ∷ 0 ∷ [])) slice
       ≡ leaves (Done 9)
-      (after
+      (sliceWith
       (word 2 0 0 0 ∷ word 3 66 0 0 ∷ word 9 1 66 1 ∷ word 6 1 0 0 ∷ word 3 64 0 0 ∷ word 2 1 0 0 ∷ word 3 65 0 0 ∷ word 9 0 64 2
       ∷ word 6 0 0 0 ∷ []))
   -- a matched hash ends in its MATCH
   pub hash-matched : compile false (row (7 ∷ 1 ∷ 0 ∷ 0 ∷ 0 ∷ 0 ∷ []) ∷ []) (kinds (0 ∷ 9 ∷ [])) (cells []) (cells (0 ∷ [])) slice
-      ≡ leaves (Done 5) (after (word 5 1 0 0 ∷ word 3 64 0 0 ∷ word 2 0 0 0 ∷ word 17 1 0 0 ∷ word 12 64 0 0 ∷ []))
+      ≡ leaves (Done 5) (sliceWith (word 5 1 0 0 ∷ word 3 64 0 0 ∷ word 2 0 0 0 ∷ word 17 1 0 0 ∷ word 12 64 0 0 ∷ []))
   -- a child named twice by one row, and by two rows; a row that nobody names
   pub child-twice : compile false (objectRow 0 ∷ tupleRow 1 (0 ∷ 0 ∷ []) ∷ []) (kinds (2 ∷ 10 ∷ [])) (cells []) (cells []) slice ≡ leaves (BadPattern 1) slice
   pub child-taken : compile false (objectRow 0 ∷ tupleRow 1 (0 ∷ []) ∷ tupleRow 1 (1 ∷ 0 ∷ []) ∷ []) (kinds (2 ∷ 10 ∷ [])) (cells []) (cells []) slice ≡ leaves (BadPattern 2) slice

@@ -17,7 +17,7 @@ use Rattle.stores.specs.Valid.{valid}
 use Rattle.theory.specs.Outcome.{Outcome, done, stuck, room}
 use Rattle.theory.specs.RowModel.{Table, rowWorld}
 use Rattle.numbers.specs.Limits.{variables, namedCells, scratchCells, messageCells, mostCodeWords, mostTermRows, mostCertificates, mostNames}
-use Rattle.theory.specs.Machine.{Line, line, State, exec}
+use Rattle.theory.specs.Machine.{Line, lineAt, State, exec}
 use Rattle.answers.specs.First.{when, first}
 use Rattle.numbers.specs.Kinds.{kindIn}
 
@@ -83,7 +83,7 @@ leftBy answer s = record {
 
 -- the instructions of code words, each at its number; every word that passed 9 has one
 abbrev pub addLine : ℕ → Option Instruction → List Line → List Line
-addLine place (some instruction) lines = line place instruction ∷ lines
+addLine place (some instruction) lines = lineAt place instruction ∷ lines
 addLine place none lines = lines
 
 unfoldable pub linesFrom : ℕ → List ℕ → List Line

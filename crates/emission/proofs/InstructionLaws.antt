@@ -7,7 +7,7 @@ use native.Mathlib.Omega.{arith}
 use Rattle.word.specs.Fields.{join}
 use Rattle.code.specs.Instruction.{wordWidths, fieldsOf, wordOf}
 use Rattle.code.specs.declared.Instruction.{Instruction}
-use Rattle.theory.specs.Machine.{Line, line}
+use Rattle.theory.specs.Machine.{Line, lineAt}
 use Rattle.theory.specs.Uses.{Used, objectAt, messageAt, messagesAt, usesOf}
 use Rattle.theory.specs.Emission.{Env, Emitted, ok, andThen, _then_, reads, writes, one, reading, writing, readable, occupied, addObject, addRaw, emit}
 use Rattle.emission.specs.Steps.{readObject, looks}
@@ -63,7 +63,7 @@ module _ (row : ℕ) (i : Instruction) (word : ℕ) {e₁ e₂ code code₂ : Li
   unfolding wordOf
   emitted-as k same =
       does-as (λ env. emit-looks row i env ∙ ap (λ (x : Emitted). andThen x (one row i)) (same env))
-      (does-seq (k .does code) (writes-it (line row i) spells))
+      (does-seq (k .does code) (writes-it (lineAt row i) spells))
 
   pub emitted : {f : Env → Emitted} {e : List ℕ} → Quiet f 0 e e₁ → looks row i ≡ f → Does (emit row i) 1 0 e code e₂ code₂
   emitted k same = emitted-as k λ env. ap (λ (g : Env → Emitted). g env) same

@@ -10,20 +10,20 @@ use lib.Seq.{sets}
 use Rattle.word.proofs.ByteLaws.{sets-append}
 use Rattle.answers.specs.declared.Compiled.{Compiled}
 use Rattle.theory.specs.Machine.{Line}
-use Rattle.theory.specs.Emission.{Env, Emitted, ok, refuse, after, andThen, _then_, take, writes}
+use Rattle.theory.specs.Emission.{Env, Emitted, ok, refuse, behind, andThen, _then_, take, writes}
 use Rattle.calls.specs.Compile.{codeWords}
 use Rattle.emission.specs.Known.{known}
 use Rattle.emission.specs.Steps.{freeRaw, raise}
 use Rattle.emission.specs.Meets.{nextIn, writtenIn, refusalIn, envOf, refusal, MeetsBy, Meets, Does, Quiet}
 
 -- what follows an emission may be taken together
-after-append : (c d : List Line) (x : Emitted) → after (c ++ d) x ≡ after c (after d x)
-unfolding after
+after-append : (c d : List Line) (x : Emitted) → behind (c ++ d) x ≡ behind c (behind d x)
+unfolding behind
 after-append c d (ok lines e) = rw append-assoc
 after-append c d (refuse answer) = refl
 
-after-then : (c : List Line) (x : Emitted) (g : Env → Emitted) → andThen (after c x) g ≡ after c (andThen x g)
-unfolding after andThen
+after-then : (c : List Line) (x : Emitted) (g : Env → Emitted) → andThen (behind c x) g ≡ behind c (andThen x g)
+unfolding behind andThen
 after-then c (ok d e) g = after-append c d (g e)
 after-then c (refuse answer) g = refl
 
@@ -32,8 +32,8 @@ unfolding andThen
 then-assoc (ok c e) f g = after-then c (f e) g
 then-assoc (refuse answer) f g = refl
 
-pub after-nil : (x : Emitted) → after [] x ≡ x
-unfolding after
+pub after-nil : (x : Emitted) → behind [] x ≡ x
+unfolding behind
 after-nil (ok lines e) = refl
 after-nil (refuse answer) = refl
 
@@ -43,8 +43,8 @@ codeWords-append c d = map-append _ c d
 module _ {start : ℕ} {blank code e′ code′ : List ℕ} where
   -- lines are added
   met-more : {place : ℕ} (lines : List Line) (x : Emitted) → place ≡ start + length lines → code ≡ sets blank start (codeWords lines)
-      → Meets x place code e′ code′ → Meets (after lines x) start blank e′ code′
-  unfolding MeetsBy after
+      → Meets x place code e′ code′ → Meets (behind lines x) start blank e′ code′
+  unfolding MeetsBy behind
   met-more lines (refuse answer) p q m = record { met = m .met }
   met-more lines (ok more env) p q m =
       let n = m .met in
@@ -91,7 +91,7 @@ module _ {e code e′ code′ : List ℕ} where
   does-env f k = record { go = λ a start blank m. by a m (k .go a start blank m); place = k .place; free = k .free; long = k .long }
     where
       by : {start : ℕ} {blank : List ℕ} (a : Emitted) → Meets a start blank e code → Meets (andThen a (f (envOf e))) start blank e′ code′ → Meets (andThen a (λ env. f env env)) start blank e′ code′
-      by {start} {blank} (ok lines env) m n = subst (λ (x : Env). Meets (after lines (f x env)) start blank e′ code′) (m .met .env) n
+      by {start} {blank} (ok lines env) m n = subst (λ (x : Env). Meets (behind lines (f x env)) start blank e′ code′) (m .met .env) n
       by (refuse answer) m n = n
 
 -- one step, then another

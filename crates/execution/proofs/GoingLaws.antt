@@ -21,7 +21,7 @@ use Rattle.terms.proofs.TableLaws.{used-rows}
 use Rattle.theory.specs.Outcome.{Outcome, done, bind}
 use Rattle.theory.specs.Outcome as Outcome
 use Rattle.theory.specs.RowModel.{Table, rowWorld}
-use Rattle.theory.specs.Machine.{line, State, step, exec}
+use Rattle.theory.specs.Machine.{lineAt, State, step, exec}
 use Rattle.numbers.specs.Kinds.{kindIn}
 use Rattle.calls.specs.Run.{Lent, RunOutcome, stateOver, stateOf, linesFrom, linesOf, runBy}
 use Rattle.theory.proofs.Places.{movedTo, moved-step}
@@ -76,7 +76,7 @@ module _ (x : Lent) (kind : ℕ → ℕ) (place : ℕ) (i : Instruction) (g g′
   grows : g .used ≤ length rows → step rowWorld kind place i (stands x g objects messages rows) ≡ done (stands x g′ objects′ messages′ rows′)
       → Appended (tableAt x g rows) (tableAt x g′ rows′)
   unfolding stateOver
-  grows inside goes = exec-appends kind (line place i ∷ []) (stands x g objects messages rows) (stands x g′ objects′ messages′ rows′) inside (rw goes)
+  grows inside goes = exec-appends kind (lineAt place i ∷ []) (stands x g objects messages rows) (stands x g′ objects′ messages′ rows′) inside (rw goes)
 
 module _ {g : Registers} {kinds objects messages certificates rows code : List ℕ} (ready : Ready (lentFrom g kinds objects messages certificates rows) (g .used) code) where
   pub going-start : length objects ≡ 64 → length messages ≡ 256 → Going (lentFrom g kinds objects messages certificates rows) code g objects messages rows 0
@@ -118,7 +118,7 @@ module _ (x : Lent) (code : List ℕ) {g : Registers} {objects messages rows : L
     pub going-good : T (goodWord kind (getD code i 0))
     going-good = good-iff kind (getD code i 0) .1 good
 
-    here : linesFrom i (drop i code) ≡ line i (good .instruction) ∷ linesFrom (suc i) (drop (suc i) code)
+    here : linesFrom i (drop i code) ≡ lineAt i (good .instruction) ∷ linesFrom (suc i) (drop (suc i) code)
     unfolding linesFrom
     here = rw (drop-cons code i 0 more, good .says)
 

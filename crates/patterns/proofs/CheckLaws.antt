@@ -12,7 +12,7 @@ use Rattle.word.specs.Lowest.{lowest}
 use Rattle.word.proofs.All.{All, at-all}
 use Rattle.word.proofs.ScanLaws.{Left, scan-hit, scan-miss, scan-end, lowest-same}
 use Rattle.patterns.specs.Row.{fieldsOf, childrenOf}
-use Rattle.patterns.specs.Rules.{rowFits, named, badRow, unnamed, badPattern}
+use Rattle.patterns.specs.Rules.{rowFits, childrenNamed, badRow, unnamed, badPattern}
 use Rattle.patterns.specs.Marks.{Taken, taking, takeAll, Marked}
 use Rattle.patterns.proofs.RowLaws.{slot-below, child-slot}
 use Rattle.patterns.proofs.MarkLaws.{marked-none, marked-all, again-all}
@@ -20,22 +20,22 @@ use Rattle.patterns.proofs.MarkLaws.{marked-none, marked-all, again-all
 children-below : (word : ℕ) → All (λ child. child < 128) (childrenOf word)
 children-below word = at-all _ (childrenOf word) 0 λ slot inside. rw (child-slot word slot inside) (slot-below word slot)
 
-named-append : (front back : List ℕ) → named (front ++ back) ≡ named front ++ named back
+named-append : (front back : List ℕ) → childrenNamed (front ++ back) ≡ childrenNamed front ++ childrenNamed back
 unfolding flatMap
 named-append [] back = refl
 named-append (word ∷ front) back = rw (named-append front back, append-assoc)
 
-named-one : (word : ℕ) → named (word ∷ []) ≡ childrenOf word
+named-one : (word : ℕ) → childrenNamed (word ∷ []) ≡ childrenOf word
 unfolding flatMap
 named-one word = append-nil (childrenOf word)
 
 -- what is named by one row more
-pub named-more : (rows : List ℕ) (place : ℕ) → place < length rows → named (take (suc place) rows) ≡ named (take place rows) ++ childrenOf (getD rows place 0)
+pub named-more : (rows : List ℕ) (place : ℕ) → place < length rows → childrenNamed (take (suc place) rows) ≡ childrenNamed (take place rows) ++ childrenOf (getD rows place 0)
 named-more rows place inside = rw (take-suc rows place 0, named-append, named-one)
 
 -- the rows before a place are good, and their children marked
 pub record Good (rows : List ℕ) (marks : List Bool) (place : ℕ) : Type 0 where
-  pub marked : Marked marks (named (take place rows))
+  pub marked : Marked marks (childrenNamed (take place rows))
   pub left : Left (badRow rows) rows place
 
 pub good-none : (rows : List ℕ) → Good rows (replicate 128 false) 0
@@ -48,7 +48,7 @@ module _ (rows : List ℕ) (marks : List Bool) (place : ℕ) (good : Good rows m
     bad-none : lowest (badRow rows) rows ≡ none
     bad-none = scan-end (badRow rows) rows 0 place (good .left) past
 
-    all-marked : Marked marks (named rows)
+    all-marked : Marked marks (childrenNamed rows)
     all-marked = rw (take-all place rows past) at (good .marked)
 
     pub good-end : length rows ≤ 96 → badPattern rows ≡ lowest (λ row mark. not mark) (take (length rows - 1) marks)
@@ -65,7 +65,7 @@ module _ (rows : List ℕ) (marks : List Bool) (place : ℕ) (good : Good rows m
   module _ (word : ℕ) (fits : Bool) (next : List Bool) (again : Bool) (inside : place < length rows) (here : getD rows place 0 ≡ word) (own : fits ≡ rowFits place (fieldsOf word)) (takes : taking next again ≡ takeAll (taking marks false) (childrenOf word)) where
     bad-here : badRow rows place word ≡ (not fits || again)
     unfolding badRow
-    bad-here = rw (own, ap (λ (t : Taken). t .again) takes, again-all (taking marks false) (named (take place rows)) (childrenOf word) (good .marked) (children-below word))
+    bad-here = rw (own, ap (λ (t : Taken). t .again) takes, again-all (taking marks false) (childrenNamed (take place rows)) (childrenOf word) (good .marked) (children-below word))
 
     pub good-stop : (not fits || again) ≡ true → badPattern rows ≡ some place
     unfolding badPattern
@@ -74,6 +74,6 @@ module _ (rows : List ℕ) (marks : List Bool) (place : ℕ) (good : Good rows m
     pub good-next : (not fits || again) ≡ false → Good rows next (place + 1)
     good-next fine =
         record {
-          marked = rw (add-one, named-more rows place inside, here, ap (λ (t : Taken). t .marks) takes) (marked-all (taking marks false) (named (take place rows)) (childrenOf word) (good .marked) (children-below word));
+          marked = rw (add-one, named-more rows place inside, here, ap (λ (t : Taken). t .marks) takes) (marked-all (taking marks false) (childrenNamed (take place rows)) (childrenOf word) (good .marked) (children-below word));
           left = scan-miss (badRow rows) rows 0 place (good .left) inside (rw here (bad-here ∙ fine));
         }

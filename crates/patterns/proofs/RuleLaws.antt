@@ -13,7 +13,7 @@ use Rattle.word.specs.Lowest.{lowest, LowestWith, NoneWith, oneOf}
 use Rattle.word.proofs.TestLaws.{either, equals}
 use Rattle.word.proofs.LowestLaws.{one-of, none-with, lowest-with}
 use Rattle.patterns.specs.Row.{childrenOf}
-use Rattle.patterns.specs.Rules.{rowFits, repeats, named, badRow, unnamed, badPattern}
+use Rattle.patterns.specs.Rules.{rowFits, repeats, childrenNamed, badRow, unnamed, badPattern}
 use Rattle.patterns.proofs.MarkLaws.{one-append}
 use Rattle.patterns.specs.GoodRow.{GoodRow, fieldsAt, childrenAt, Names, TakenBefore, NamesTaken, BadRow, Unnamed}
 use Rattle.patterns.proofs.GoodRow.{good-row}
@@ -34,13 +34,13 @@ module _ (word : ℕ) (rest : List ℕ) (child : ℕ) where
   named-split zero slot n = inl (one-of (childrenOf word) child .1 (slot, n .used, n .here))
   named-split (suc owner) slot n = inr (owner, slot, record { inside = omega (arith, n .inside); used = n .used; here = n .here })
 
-named-says : (rows : List ℕ) (child : ℕ) → T (oneOf (named rows) child) ↔ Named rows child
+named-says : (rows : List ℕ) (child : ℕ) → T (oneOf (childrenNamed rows) child) ↔ Named rows child
 unfolding flatMap oneOf
 named-says [] child = (λ h. absurd h, λ n. absurd (omega (arith, n .2 .inside)))
 named-says (word ∷ rest) child =
     let ih = named-says rest child in
-    let parts = either (oneOf (childrenOf word) child) (oneOf (named rest) child) in
-    rw (one-append (childrenOf word) (named rest) child) (
+    let parts = either (oneOf (childrenOf word) child) (oneOf (childrenNamed rest) child) in
+    rw (one-append (childrenOf word) (childrenNamed rest) child) (
       λ h. ⊎-elim (named-first word rest child) (λ later. named-later word rest child (ih .0 later)) (parts .0 h),
       λ n. parts .1 (⊎-elim inl (λ later. inr (ih .1 later)) (named-split word rest child (n .0) (n .1) (n .2))),
     )
@@ -104,7 +104,7 @@ module _ (rows : List ℕ) (place : ℕ) (inside : place < length rows) where
   -- what a slot names is taken already
   abbrev Earlier : ℕ → Type 0
   Earlier slot =
-      T (oneOf (named (take place rows)) (getD (childrenAt rows place) slot 0))
+      T (oneOf (childrenNamed (take place rows)) (getD (childrenAt rows place) slot 0))
       ⊎ ((other : ℕ) × (other < slot) × (getD (childrenAt rows place) other 0 ≡ getD (childrenAt rows place) slot 0))
 
   earlier-taken : (slot : ℕ) → slot < length (childrenAt rows place) → Earlier slot → TakenBefore rows place slot (getD (childrenAt rows place) slot 0)
@@ -120,9 +120,9 @@ module _ (rows : List ℕ) (place : ℕ) (inside : place < length rows) where
       ⊎-elim (λ less. inl (rw (n .here) (named-says (take place rows) child .1 (t .owner, t .other, names-front less (t .names)))))
       (λ o. inr (t .other, o .1, rw (o .0) at (t .names .here) ∙ sym (n .here))) (t .before)
 
-  taken-says : T (repeats (named (take place rows)) (childrenAt rows place)) ↔ NamesTaken rows place
+  taken-says : T (repeats (childrenNamed (take place rows)) (childrenAt rows place)) ↔ NamesTaken rows place
   taken-says =
-      let says = again-says (named (take place rows)) (childrenAt rows place) in (
+      let says = again-says (childrenNamed (take place rows)) (childrenAt rows place) in (
         λ h.
             let a = says .0 h in
             record { slot = a .0; child = getD (childrenAt rows place) (a .0) 0; names = record { inside = inside; used = a .1; here = refl }; taken = earlier-taken (a .0) (a .1) (a .2) },
@@ -134,7 +134,7 @@ module _ (rows : List ℕ) (place : ℕ) (inside : place < length rows) where
   bad-says =
       let fits = rowFits place (fieldsAt rows place) in
       let good = good-row place (fieldsAt rows place) in
-      let parts = either (not fits) (repeats (named (take place rows)) (childrenAt rows place)) in (
+      let parts = either (not fits) (repeats (childrenNamed (take place rows)) (childrenAt rows place)) in (
         λ h. ⊎-elim (λ bad. inl λ g. T-not fits bad (good .1 g)) (λ again. inr (taken-says .0 again)) (parts .0 h),
         λ b. parts .1 (⊎-elim (λ bad. inl (not-T fits λ g. bad (good .0 g))) (λ again. inr (taken-says .1 again)) b),
       )
@@ -144,7 +144,7 @@ module _ (rows : List ℕ) where
   unfolding unnamed
   unnamed-says place word =
       let says = named-says rows place in
-      (λ h owner slot n. T-not (oneOf (named rows) place) h (says .1 (owner, slot, n)), λ u. not-T (oneOf (named rows) place) λ h. let n = says .0 h in u (n .0) (n .1) (n .2))
+      (λ h owner slot n. T-not (oneOf (childrenNamed rows) place) h (says .1 (owner, slot, n)), λ u. not-T (oneOf (childrenNamed rows) place) λ h. let n = says .0 h in u (n .0) (n .1) (n .2))
 
   front : List ℕ
   front = take (length rows - 1) rows
@@ -216,18 +216,18 @@ module _ (rows : List ℕ) (passed : badPattern rows ≡ none) where
       go false e = absurd (no-bad place inside (inl λ g. rw e at (good-row place (fieldsAt rows place) .1 g)))
 
   -- no child is taken again
-  pub never-again : (place : ℕ) → place < length rows → repeats (named (take place rows)) (childrenAt rows place) ≡ false
-  never-again place inside = go (repeats (named (take place rows)) (childrenAt rows place)) refl
+  pub never-again : (place : ℕ) → place < length rows → repeats (childrenNamed (take place rows)) (childrenAt rows place) ≡ false
+  never-again place inside = go (repeats (childrenNamed (take place rows)) (childrenAt rows place)) refl
     where
-      go : (again : Bool) → repeats (named (take place rows)) (childrenAt rows place) ≡ again → again ≡ false
+      go : (again : Bool) → repeats (childrenNamed (take place rows)) (childrenAt rows place) ≡ again → again ≡ false
       go true e = absurd (no-bad place inside (inr (taken-says rows place inside .0 (rw e tt))))
       go false e = refl
 
   -- every row but the last is named
-  pub all-named : (row : ℕ) → row < length rows - 1 → oneOf (named rows) row ≡ true
-  all-named row inside = go (oneOf (named rows) row) refl
+  pub all-named : (row : ℕ) → row < length rows - 1 → oneOf (childrenNamed rows) row ≡ true
+  all-named row inside = go (oneOf (childrenNamed rows) row) refl
     where
-      go : (some : Bool) → oneOf (named rows) row ≡ some → some ≡ true
+      go : (some : Bool) → oneOf (childrenNamed rows) row ≡ some → some ≡ true
       go true e = refl
       go false e = absurd (bad-pattern-none rows .0 passed .1 row inside λ owner slot n. rw e at (named-says rows row .1 (owner, slot, n)))
 

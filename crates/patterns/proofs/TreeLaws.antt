@@ -16,7 +16,7 @@ use Rattle.word.proofs.ScanLaws.{lt-or-ge}
 use Rattle.word.proofs.All.{All, all-at, all-getD, all-append, all-map}
 use Rattle.patterns.specs.Pattern.{Pattern, object, encryption, tuple, letIn, part, count, size, sizes, RawsBelow, PartsBelow, Packed, PackedParts}
 use Rattle.patterns.specs.Row.{Fields, fieldsOf, childrenOf}
-use Rattle.patterns.specs.Rules.{named, badPattern}
+use Rattle.patterns.specs.Rules.{childrenNamed, badPattern}
 use Rattle.patterns.specs.Tree.{keyBy, partsBy, formsBy, formBy, noPattern, patternAt, patternsOf, patternOf}
 use Rattle.patterns.specs.Kinds.{formKinds, wrongKind, RightKinds, RightParts}
 use Rattle.patterns.proofs.ArmLaws.{below-ten}
@@ -132,34 +132,34 @@ module _ (rows : List ℕ) (passed : badPattern rows ≡ none) where
   row-size place inside = ap size (pattern-form place inside) ∙ size-form place (getD rows place 0) (all-good rows passed place inside) at
 
   -- each row counts itself and what its children count
-  sizes-sum : (place : ℕ) → place ≤ length rows → sumBelow sizeAt place ≡ place + sumOver sizeAt (named (take place rows))
+  sizes-sum : (place : ℕ) → place ≤ length rows → sumBelow sizeAt place ≡ place + sumOver sizeAt (childrenNamed (take place rows))
   unfolding sumBelow sumOver flatMap
   sizes-sum zero most = refl
   sizes-sum (suc place) most =
       let inside : place < length rows = omega arith in
-      rw (sizes-sum place (omega arith), row-size place inside, named-more rows place inside, sum-append sizeAt (named (take place rows)) (childrenAt rows place)) (omega arith)
+      rw (sizes-sum place (omega arith), row-size place inside, named-more rows place inside, sum-append sizeAt (childrenNamed (take place rows)) (childrenAt rows place)) (omega arith)
 
   -- a row is named at most once, and never the last
-  named-few : (place : ℕ) → place ≤ length rows → (k : ℕ) → times k (named (take place rows)) ≤ 1
+  named-few : (place : ℕ) → place ≤ length rows → (k : ℕ) → times k (childrenNamed (take place rows)) ≤ 1
   unfolding times flatMap
   named-few zero most k = omega arith
   named-few (suc place) most k =
       let inside : place < length rows = omega arith in
-      rw (named-more rows place inside) (fresh-all (named (take place rows)) (childrenAt rows place) (never-again rows passed place inside) (named-few place (omega arith)) k)
+      rw (named-more rows place inside) (fresh-all (childrenNamed (take place rows)) (childrenAt rows place) (never-again rows passed place inside) (named-few place (omega arith)) k)
 
-  named-below : (place : ℕ) → place ≤ length rows → All (λ child. child < length rows - 1) (named (take place rows))
+  named-below : (place : ℕ) → place ≤ length rows → All (λ child. child < length rows - 1) (childrenNamed (take place rows))
   unfolding flatMap
   named-below zero most = tt
   named-below (suc place) most =
       let inside : place < length rows = omega arith in
       rw (named-more rows place inside)
-      (all-append _ (named (take place rows)) (childrenAt rows place) (named-below place (omega arith))
+      (all-append _ (childrenNamed (take place rows)) (childrenAt rows place) (named-below place (omega arith))
       (all-map (childrenAt rows place) (λ child less. omega arith) (all-good rows passed place inside .below)))
 
-  named-once : (row : ℕ) → row < length rows - 1 → times row (named rows) ≡ 1
+  named-once : (row : ℕ) → row < length rows - 1 → times row (childrenNamed rows) ≡ 1
   named-once row inside =
-      let few : times row (named rows) ≤ 1 = rw (take-length rows) at (named-few (length rows) (le-refl _) row) in
-      let some = times-some row (named rows) (all-named rows passed row inside) in
+      let few : times row (childrenNamed rows) ≤ 1 = rw (take-length rows) at (named-few (length rows) (le-refl _) row) in
+      let some = times-some row (childrenNamed rows) (all-named rows passed row inside) in
       omega arith
 
   -- every row is under the root, once
@@ -167,8 +167,8 @@ module _ (rows : List ℕ) (passed : badPattern rows ≡ none) where
   unfolding patternOf sumBelow
   pattern-size some =
       let last : suc (length rows - 1) ≡ length rows = omega arith in
-      let all : sumBelow sizeAt (length rows) ≡ length rows + sumOver sizeAt (named rows) = rw (take-length rows) at (sizes-sum (length rows) (le-refl _)) in
-      let others : sumOver sizeAt (named rows) ≡ sumBelow sizeAt (length rows - 1) = sum-once sizeAt (named rows) (length rows - 1) (rw (take-length rows) at (named-below (length rows) (le-refl _))) named-once in
+      let all : sumBelow sizeAt (length rows) ≡ length rows + sumOver sizeAt (childrenNamed rows) = rw (take-length rows) at (sizes-sum (length rows) (le-refl _)) in
+      let others : sumOver sizeAt (childrenNamed rows) ≡ sumBelow sizeAt (length rows - 1) = sum-once sizeAt (childrenNamed rows) (length rows - 1) (rw (take-length rows) at (named-below (length rows) (le-refl _))) named-once in
       let split : sumBelow sizeAt (length rows) ≡ sumBelow sizeAt (length rows - 1) + sizeAt (length rows - 1) = subst (λ (n : ℕ). sumBelow sizeAt n ≡ sumBelow sizeAt (length rows - 1) + sizeAt (length rows - 1)) last refl in
       omega arith
 

@@ -71,15 +71,15 @@ unfoldable pub repeats : List ℕ → List ℕ → Bool
 repeats taken [] = false
 repeats taken (child ∷ rest) = oneOf taken child || repeats (child ∷ taken) rest
 
-abbrev pub named : List ℕ → List ℕ
-named rows = flatMap childrenOf rows
+abbrev pub childrenNamed : List ℕ → List ℕ
+childrenNamed rows = flatMap childrenOf rows
 
 unfoldable pub badRow : List ℕ → ℕ → ℕ → Bool
-badRow rows place word = not (rowFits place (fieldsOf word)) || repeats (named (take place rows)) (childrenOf word)
+badRow rows place word = not (rowFits place (fieldsOf word)) || repeats (childrenNamed (take place rows)) (childrenOf word)
 
 -- a row that nobody names; the root, which is the last, is exempt
 unfoldable pub unnamed : List ℕ → ℕ → ℕ → Bool
-unnamed rows place word = not (oneOf (named rows) place)
+unnamed rows place word = not (oneOf (childrenNamed rows) place)
 
 abbrev orElse : Option ℕ → Option ℕ → Option ℕ
 orElse (some row) other = some row

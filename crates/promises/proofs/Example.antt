@@ -22,7 +22,7 @@ use Rattle.theory.specs.Meaning.{termAt}
 use Rattle.answers.specs.First.{first}
 use Rattle.calls.specs.Compile.{leaves, compiledCode, compile}
 use Rattle.calls.specs.Run.{Lent, stateOver, leftBy, linesFrom, run}
-use Rattle.calls.specs.Cases.{cells, slice, after, P1-code, P2-code}
+use Rattle.calls.specs.Cases.{cells, slice, sliceWith, P1-code, P2-code}
 use Rattle.calls.proofs.Cases.{worked}
 use Rattle.calls.proofs.CompileLaws.{part-written}
 use Rattle.promises.specs.Answers.{RunAnswers, compileNumber}
@@ -49,7 +49,7 @@ P2-held = let e = worked .0 .P2-run in rw e refl
 
 -- code that was compiled with all cells unset is for a run with all cells unset
 compiled : {create : Bool} {pattern code : List ℕ} {x : Lent} → x .objects ≡ cells [] → x .messages ≡ replicate 256 unset
-    → compile create pattern (x .kinds) (cells []) (cells []) slice ≡ leaves (Compiled.Done (length code)) (after code) → CodeFor create pattern x code
+    → compile create pattern (x .kinds) (cells []) (cells []) slice ≡ leaves (Compiled.Done (length code)) (sliceWith code) → CodeFor create pattern x code
 compiled {code = code} objects messages e = record {
   objects = cells [];
   named = cells [];

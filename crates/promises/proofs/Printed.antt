@@ -20,7 +20,7 @@ use Rattle.patterns.specs.Kinds.{wrongKind}
 use Rattle.theory.specs.Store.{put, puts}
 use Rattle.theory.specs.World.{creatable}
 use Rattle.theory.specs.Machine.{message, setMessage, setMessages, messages}
-use Rattle.theory.specs.Emission.{after, andThen, readable, occupied, addRaw, emit}
+use Rattle.theory.specs.Emission.{behind, andThen, readable, occupied, addRaw, emit}
 use Rattle.answers.specs.First.{first}
 use Rattle.calls.specs.Compile.{usedPart, compile}
 use Rattle.calls.specs.Run.{stateOver, leftBy, linesFrom, run}
@@ -29,5 +29,5 @@ use Rattle.printing.specs.Listing.{codeLines, cellLines, listing}
 use Rattle.promises.specs.Listing.{Printed}
 
 pub printed : Printed
-unfolding flatMap number bytesOf words spelled lowestFrom each oneOf digits decimal spaced line wordLine Code.wordOf Code.instructionOf goodWord badWord Row.wordOf Row.tagOf Row.shapeOf usedRows knownTag unusedZero numberFits partsBelow keyFits earlierEqual badRow badTerm equalRow locate held cellOf storeOf cellsFrom agentOf keyOf spareOf certified pairFits agentsOnce kindsFit eachVariable declared valid count fieldsOf Patterns.repeats Patterns.badRow Patterns.unnamed Patterns.badPattern patternsFrom patternsOf patternOf wrongKind put puts creatable message setMessage setMessages messages after andThen readable occupied addRaw emit first usedPart compile stateOver leftBy linesFrom run headerOf bundleOf readBundle codeLines cellLines listing
+unfolding flatMap number bytesOf words spelled lowestFrom each oneOf digits decimal spaced line wordLine Code.wordOf Code.instructionOf goodWord badWord Row.wordOf Row.tagOf Row.shapeOf usedRows knownTag unusedZero numberFits partsBelow keyFits earlierEqual badRow badTerm equalRow locate held cellOf storeOf cellsFrom agentOf keyOf spareOf certified pairFits agentsOnce kindsFit eachVariable declared valid count fieldsOf Patterns.repeats Patterns.badRow Patterns.unnamed Patterns.badPattern patternsFrom patternsOf patternOf wrongKind put puts creatable message setMessage setMessages messages behind andThen readable occupied addRaw emit first usedPart compile stateOver leftBy linesFrom run headerOf bundleOf readBundle codeLines cellLines listing
 printed = record { example = refl }

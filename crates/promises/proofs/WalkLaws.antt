@@ -11,7 +11,7 @@ use Rattle.code.specs.declared.Instruction.{Instruction}
 use Rattle.code.specs.GoodWords.{AllGoodWords}
 use Rattle.theory.specs.Outcome.{Outcome, done, stuck, room, bind}
 use Rattle.theory.specs.RowModel.{rowWorld}
-use Rattle.theory.specs.Machine.{Line, line, State, step, exec}
+use Rattle.theory.specs.Machine.{Line, lineAt, State, step, exec}
 use Rattle.numbers.specs.Kinds.{kindIn}
 use Rattle.calls.specs.Run.{Lent, stateOf, linesFrom}
 use Rattle.theory.proofs.Models.{calm-rows}
@@ -27,7 +27,7 @@ module _ (x : Lent) (code : List ℕ) where
   abbrev rest : ℕ → List Line
   rest place = linesFrom place (drop place code)
 
-  first-line : (place : ℕ) (i : Instruction) → place < length code → instructionOf (getD code place 0) ≡ some i → rest place ≡ line place i ∷ rest (suc place)
+  first-line : (place : ℕ) (i : Instruction) → place < length code → instructionOf (getD code place 0) ≡ some i → rest place ≡ lineAt place i ∷ rest (suc place)
   unfolding linesFrom
   first-line place i inside says = rw (drop-cons code place 0 inside, says)
 

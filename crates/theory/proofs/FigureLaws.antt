@@ -15,7 +15,7 @@ use Rattle.theory.specs.Outcome.{Outcome, done, stuck, room, bind, Answe
 use Rattle.theory.specs.World.{Op}
 use Rattle.theory.specs.World as Voc
 use Rattle.theory.specs.Model.{goesWith, opened, certified}
-use Rattle.theory.specs.TermModel.{Term, Names, sameTerm, isYes, shapeOf, termModel, termWorld}
+use Rattle.theory.specs.TermModel.{Term, Names, sameTerm, isYes, shapeOfTerm, termModel, termWorld}
 use Rattle.theory.specs.Figure2.{TermStores, _∉_, Gives, Decodes}
 
 module _ {A : Type 0} {a b : A} where
@@ -108,10 +108,10 @@ certified-keeps none x r e = cc
 keeps : (o : Op Term) (x : Names) (r : Term × Names) → Steady o → termWorld .apply o x ≡ got r → x ≡ r .1
 keeps (Voc.byte n) x r s e = got-memory e
 keeps (Voc.create kind) x r s e = absurd s
-keeps (Voc.op a) x r s e = sure-keeps (reasonNumber OtherKind) (eqb (kindOf (shapeOf a)) 5) _ r e
+keeps (Voc.op a) x r s e = sure-keeps (reasonNumber OtherKind) (eqb (kindOf (shapeOfTerm a)) 5) _ r e
 keeps (Voc.keyOf a) x r s e = certified-keeps (x .ν a) x r e
 keeps (Voc.encrypt k b) x r s e = got-memory e
-keeps (Voc.decrypt k c) x r s e = opened-keeps k (shapeOf c) x r e
+keeps (Voc.decrypt k c) x r s e = opened-keeps k (shapeOfTerm c) x r e
 keeps (Voc.sign k b) x r s e = got-memory e
 keeps (Voc.hash b) x r s e = got-memory e
 keeps (Voc.tuple ms) x r s e = got-memory e

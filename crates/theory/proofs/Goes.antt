@@ -7,7 +7,7 @@ use mathlib.Core.List.{[], append-nil}
 use Rattle.theory.specs.Outcome.{Outcome, done, bind, free, isSome}
 use Rattle.theory.specs.World.{World}
 use Rattle.theory.specs.Machine.{State}
-use Rattle.theory.specs.Emission.{Env, Emitted, ok, refuse, after, andThen, writes}
+use Rattle.theory.specs.Emission.{Env, Emitted, ok, refuse, behind, andThen, writes}
 use Rattle.theory.proofs.Reasons.{WorldWithin}
 use Rattle.theory.proofs.Simulation.{both-done, bind-done, Frame, Fit, fits-take, here, fits-here, fits-whole, RunsAlike, Simulates, writes-at, goes-on}
 
@@ -49,7 +49,7 @@ module _ {Allowed : ℕ → Type 0} {W : World} {calm : WorldWithin Allowed W} {
 
   pub lastly : {code : Emitted} {e : Env} {s : State W} {y : Outcome B}
       → Goes calm kind Φ agree e s (andThen code (ok [])) y → Goes calm kind Φ agree e s code y
-  unfolding RunsAlike after andThen
+  unfolding RunsAlike behind andThen
   lastly {code = ok c d} h = goes λ F. record { run = rw append-nil at (h .go F .run) }
   lastly {code = refuse answer} h = goes λ F. record { run = h .go F .run }
 

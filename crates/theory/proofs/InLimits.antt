@@ -22,8 +22,8 @@ use Rattle.patterns.specs.Kinds.{RightKinds, RightParts, privateSide, publicSid
 use Rattle.patterns.proofs.PatternLaws.{size-positive, count-sizes}
 use Rattle.theory.specs.Store.{put}
 use Rattle.theory.specs.World.{creatable}
-use Rattle.theory.specs.Machine.{Line, line, named, scratch}
-use Rattle.theory.specs.Emission.{Env, Emitted, ok, refuse, after, andThen, addObject, readable, occupied, addRaw, writes, one, reading, writing, emit, _then_}
+use Rattle.theory.specs.Machine.{Line, lineAt, named, scratch}
+use Rattle.theory.specs.Emission.{Env, Emitted, ok, refuse, behind, andThen, addObject, readable, occupied, addRaw, writes, one, reading, writing, emit, _then_}
 use Rattle.theory.specs.Uses.{Used, objectAt, messageAt, messagesAt, usesOf}
 use Rattle.theory.specs.Bounds.{InRange, AllInRange, InLimits}
 use Rattle.theory.specs.Compilers.{compile↓, compile↓parts, compile↑, compile↑parts, compile↑K, keyVar, creating, verifying, LOAD, STORE, DECODE, ENCODE, ANALYZE-TUPLE, OPPOSITE, KEY-OF, MATCH, VERIFY}
@@ -56,16 +56,16 @@ module _ (kind : ℕ → ℕ) where
 
   -- a part of w₁ words, and then
   follows : (w₁ n₁ w n : ℕ) (C : Emitted) (K : Env → Emitted) → w₁ ≤ w → Takes w₁ n₁ C → ((e : Env) → e .next ≤ n₁ → Takes (w - w₁) n (K e)) → Takes w n (andThen C K)
-  unfolding TakesT andThen after
+  unfolding TakesT andThen behind
   follows w₁ n₁ w n (refuse answer) K h t k = record { taken = t .taken }
   follows w₁ n₁ w n (ok c e) K h t k = go (K e) (k e (t .taken .1))
     where
-      go : (D : Emitted) → Takes (w - w₁) n D → Takes w n (after c D)
+      go : (D : Emitted) → Takes (w - w₁) n D → Takes w n (behind c D)
       go (refuse answer) u = record { taken = u .taken }
       go (ok d e′) u = record { taken = (simp length-append (omega (arith, t .taken .0, u .taken .0)), u .taken .1, all-append (λ l. InRange kind (l .instruction)) c d (t .taken .2) (u .taken .2)) }
 
   -- an instruction is one word, if any, and takes no scratch
-  one-word : (row : ℕ) (i : Instruction) (e e′ : Env) (n : ℕ) → e′ .next ≡ e .next → e .next ≤ n → InRange kind i → Takes 1 n (ok (line row i ∷ []) e′)
+  one-word : (row : ℕ) (i : Instruction) (e e′ : Env) (n : ℕ) → e′ .next ≡ e .next → e .next ≤ n → InRange kind i → Takes 1 n (ok (lineAt row i ∷ []) e′)
   unfolding TakesT
   one-word row i e e′ n p h f = record { taken = (omega arith, omega arith, (f, tt)) }
 

@@ -19,7 +19,7 @@ pub shape-listed : (parts : List Term) → listed (collected parts) ≡ parts
 shape-listed [] = refl
 shape-listed (t ∷ parts) = ap (t ∷_) (shape-listed parts)
 
-pub shape-term : (shape : Shape Term) → Term.shapeOf (termOf shape) ≡ shape
+pub shape-term : (shape : Shape Term) → Term.shapeOfTerm (termOf shape) ≡ shape
 shape-term (atom tag number) = refl
 shape-term (encrypted key body) = refl
 shape-term (signed key body) = refl
@@ -100,12 +100,12 @@ module _ {rows : List ℕ} {counter : ℕ} (valid : ValidTable rows counter) whe
       ap termOf (reshaped-same (termAt rows row) (meaning rows) (rowShape row)
       (parts-all (λ part. termAt rows row part ≡ meaning rows part) row used λ part l. depth-same row (suc part) part (omega arith) (omega arith) (omega arith)))
 
-  pub meaning-shape : (row : ℕ) → row < usedRows rows → Term.shapeOf (meaning rows row) ≡ reshaped (meaning rows) (shapeOf (getD rows row 0))
-  meaning-shape row used = ap Term.shapeOf (meaning-of row used) ∙ shape-term (reshaped (meaning rows) (rowShape row))
+  pub meaning-shape : (row : ℕ) → row < usedRows rows → Term.shapeOfTerm (meaning rows row) ≡ reshaped (meaning rows) (shapeOf (getD rows row 0))
+  meaning-shape row used = ap Term.shapeOfTerm (meaning-of row used) ∙ shape-term (reshaped (meaning rows) (rowShape row))
 
   -- a row's shape is its term's, over parts that are related to what they mean
   pub shape-related : (R : ℕ → Term → Type 0) (row : ℕ) → row < usedRows rows → ((part : ℕ) → part < row → R part (meaning rows part))
-      → ShapeR R (shapeOf (getD rows row 0)) (Term.shapeOf (meaning rows row))
+      → ShapeR R (shapeOf (getD rows row 0)) (Term.shapeOfTerm (meaning rows row))
   shape-related R row used related =
       rw (meaning-shape row used) (reshaped-related R (meaning rows) (rowShape row) (parts-all (λ part. R part (meaning rows part)) row used related))
 

@@ -7,7 +7,7 @@ use Rattle.code.specs.declared.Instruction.{Instruction}
 use Rattle.code.specs.declared.Instruction.the-variants.{Load, Store, StoreConst, Decode, Encode, Create, AnalyzeTuple, CreateTuple, Opposite, KeyOf, Match, Encrypt, Decrypt, Sign, Verify, Hash}
 use Rattle.theory.specs.Outcome.{Outcome, done, stuck, room, bind, Answer, got, not, full, at, need}
 use Rattle.theory.specs.World.{World}
-use Rattle.theory.specs.Machine.{Line, line, State, messages, step, exec}
+use Rattle.theory.specs.Machine.{Line, lineAt, State, messages, step, exec}
 
 -- an outcome at another place
 module _ {A : Type 0} where
@@ -64,7 +64,7 @@ module _ (W : World) (kind : ℕ → ℕ) (place : ℕ) where
   moved-step other (Verify v r) s = simp moves
   moved-step other (Hash h) s = simp moves
 
-  moved-exec : (c : List Line) (s : State W) → movedTo place (exec W kind c s) ≡ exec W kind (map (λ l. line place (l .instruction)) c) s
+  moved-exec : (c : List Line) (s : State W) → movedTo place (exec W kind c s) ≡ exec W kind (map (λ l. lineAt place (l .instruction)) c) s
   moved-exec [] s = refl
   moved-exec (l ∷ c) s =
       rw (moved-bind, moved-step) (ap (bind (step W kind place (l .instruction) s)) (fun-ext (moved-exec c)))
@@ -75,9 +75,9 @@ pub same-instructions : (W : World) (kind : ℕ → ℕ) (c d : List Line) (s : 
 same-instructions W kind c d s e =
     moved-exec W kind 0 c s ∙ ap (λ x. exec W kind x s) (relabelled c d e) ∙ sym (moved-exec W kind 0 d s)
   where
-    twice : (c : List Line) → map (λ l. line 0 (l .instruction)) c ≡ map (line 0) (map (λ l. l .instruction) c)
+    twice : (c : List Line) → map (λ l. lineAt 0 (l .instruction)) c ≡ map (lineAt 0) (map (λ l. l .instruction) c)
     twice [] = refl
-    twice (l ∷ c) = ap (λ x. line 0 (l .instruction) ∷ x) (twice c)
+    twice (l ∷ c) = ap (λ x. lineAt 0 (l .instruction) ∷ x) (twice c)
 
-    relabelled : (c d : List Line) → map (λ l. l .instruction) c ≡ map (λ l. l .instruction) d → map (λ l. line 0 (l .instruction)) c ≡ map (λ l. line 0 (l .instruction)) d
-    relabelled c d e = twice c ∙ ap (map (line 0)) e ∙ sym (twice d)
+    relabelled : (c d : List Line) → map (λ l. l .instruction) c ≡ map (λ l. l .instruction) d → map (λ l. lineAt 0 (l .instruction)) c ≡ map (λ l. lineAt 0 (l .instruction)) d
+    relabelled c d e = twice c ∙ ap (map (lineAt 0)) e ∙ sym (twice d)

@@ -43,7 +43,7 @@ abbrev pub Means : Table → ℕ → Term → Type 0
 Means x row t = (row < x .used) × (meaning (x .rows) row ≡ t)
 
 abbrev pub kindOfTerm : Term → ℕ
-kindOfTerm t = kindOf (Term.shapeOf t)
+kindOfTerm t = kindOf (Term.shapeOfTerm t)
 
 abbrev pub rowsRead : Reading rowWorld termWorld
 rowsRead = record { Good = λ x c. ValidMemory x × (c ≡ namesOf x); Means = Means; kind = kindOfTerm }
@@ -54,7 +54,7 @@ module _ {x : Table} (v : ValidMemory x) where
   is-used : (row : ℕ) → row < used → row < usedRows rows
   is-used row l = omega arith
 
-  looked : (row : ℕ) (t : Term) → Means x row t → ShapeR (Means x) (shapeOf (getD rows row 0)) (Term.shapeOf t)
+  looked : (row : ℕ) (t : Term) → Means x row t → ShapeR (Means x) (shapeOf (getD rows row 0)) (Term.shapeOfTerm t)
   looked row t m = rw (← (m .1)) (shape-related (v .table) (Means x) row (is-used row (m .0)) λ part l. (omega arith, refl))
 
   -- the tag of a row is the kind of its term
@@ -87,7 +87,7 @@ module _ {x : Table} (v : ValidMemory x) where
       go false later = later
 
   -- numbers of private keys are names
-  named-means : (row : ℕ) (t : Term) → Means x row t → kindOfTerm t ≡ 5 → numberOf (Term.shapeOf t) < counter
+  named-means : (row : ℕ) (t : Term) → Means x row t → kindOfTerm t ≡ 5 → numberOf (Term.shapeOfTerm t) < counter
   named-means row t m private = go (looked row t m) private (v .table .good row (is-used row (m .0)) .number)
     where
       go : {s : Shape ℕ} {u : Shape Term} → ShapeR (Means x) s u → kindOf u ≡ 5 → NumberFits counter s → numberOf u < counter
@@ -181,14 +181,14 @@ module _ {x : Table} (v : ValidMemory x) where
         located-as rows used (wordOf s) (used-inside v) (λ l. AnswerR MadeR (placed x l) (got (termOf u, namesOf x))) (λ row l e. gots (present row l e))
         (λ absent free. gots (added absent free)) (λ absent past. fulls)
 
-  fresh-name : AnswerR (FreshR x) (name counter (withCounter x)) (name counter (Term.withCounter (namesOf x)))
+  fresh-name : AnswerR (FreshR x) (name counter (withCounter x)) (name counter (Term.raisedTo (namesOf x)))
   fresh-name = go (ltb counter mostNames) (is-below counter mostNames .0)
     where
-      taken : counter < mostNames → FreshR x (counter, withCounter x (suc counter)) (counter, Term.withCounter (namesOf x) (suc counter))
+      taken : counter < mostNames → FreshR x (counter, withCounter x (suc counter)) (counter, Term.raisedTo (namesOf x) (suc counter))
       taken below = record { same = refl; good = (name-taken v below, refl); kept = λ a t m. m; taken = omega arith }
 
       go : (b : Bool) → (T b → counter < mostNames)
-          → AnswerR (FreshR x) (cond b (got (counter, withCounter x (suc counter))) full) (cond b (got (counter, Term.withCounter (namesOf x) (suc counter))) full)
+          → AnswerR (FreshR x) (cond b (got (counter, withCounter x (suc counter))) full) (cond b (got (counter, Term.raisedTo (namesOf x) (suc counter))) full)
       go true below = gots (taken (below tt))
       go false below = fulls
 

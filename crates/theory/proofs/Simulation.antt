@@ -11,8 +11,8 @@ use Rattle.code.specs.declared.Instruction.{Instruction}
 use Rattle.theory.specs.Outcome.{Outcome, done, stuck, room, bind, need, free, isSome}
 use Rattle.theory.specs.Store.{put, puts}
 use Rattle.theory.specs.World.{World}
-use Rattle.theory.specs.Machine.{Line, line, State, step, exec}
-use Rattle.theory.specs.Emission.{Env, Emitted, ok, refuse, after, andThen, addObject, reads, writes}
+use Rattle.theory.specs.Machine.{Line, lineAt, State, step, exec}
+use Rattle.theory.specs.Emission.{Env, Emitted, ok, refuse, behind, andThen, addObject, reads, writes}
 use Rattle.theory.proofs.StoreLaws.{put-other, put-known, put-held, puts-below}
 use Rattle.theory.proofs.CellLaws.{withRaw}
 use Rattle.theory.proofs.Ends.{ends, sticks, overflows}
@@ -232,8 +232,8 @@ module _ {Allowed : ℕ → Type 0} {W : World} {calm : WorldWithin Allowed W} {
   pub shares : {A : Type 0} {s : State W} (row : ℕ) (i : Instruction) (code : Emitted) {x : Outcome A} (t : A → State W) (g : A → Outcome B)
       → OutcomeWithin Allowed x → step W kind row i s ≡ bind x (λ a. done (t a))
       → ((a : A) → Simulates calm kind Φ agree (t a) code (g a))
-      → Simulates calm kind Φ agree s (after (line row i ∷ []) code) (bind x g)
-  unfolding RunsAlike after
+      → Simulates calm kind Φ agree s (behind (lineAt row i ∷ []) code) (bind x g)
+  unfolding RunsAlike behind
   shares row i (ok c e) t g within p h = record { run = rw (p, bind-assoc) (alike-same _ _ within λ a. h a .run) }
   shares row i (refuse answer) t g (ends _) p h = record { run = h _ .run }
   shares row i (refuse answer) t g (sticks _ within) p h = record { run = is-stuck }
@@ -241,8 +241,8 @@ module _ {Allowed : ℕ → Type 0} {W : World} {calm : WorldWithin Allowed W} {
 
   -- an instruction of which the rule knows nothing
   pub silent : {s : State W} (t : State W) (row : ℕ) (i : Instruction) (code : Emitted) {y : Outcome B} → step W kind row i s ≡ done t
-      → Simulates calm kind Φ agree t code y → Simulates calm kind Φ agree s (after (line row i ∷ []) code) y
-  unfolding RunsAlike after
+      → Simulates calm kind Φ agree t code y → Simulates calm kind Φ agree s (behind (lineAt row i ∷ []) code) y
+  unfolding RunsAlike behind
   silent t row i (ok c e) p h = record { run = rw p (h .run) }
   silent t row i (refuse answer) p h = record { run = h .run }
 
@@ -252,11 +252,11 @@ module _ {Allowed : ℕ → Type 0} {W : World} {calm : WorldWithin Allowed W} {
       {code : Emitted} (rest : Env → Emitted) {x : Outcome A} (g : A → Outcome B) → Simulates calm kind Ψ agree s code x
       → ((d : Env) (t : State W) (a : A) → Fit W Ψ d t → agree t a → Simulates calm kind Φ agree′ t (rest d) (g a))
       → Simulates calm kind Φ agree′ s (andThen code rest) (bind x g)
-  unfolding RunsAlike after andThen
+  unfolding RunsAlike behind andThen
   goes-on {code = refuse answer} rest {x} g h next = record { run = not-done x g (h .run) }
   goes-on {agree = agree} {agree′} {s} {code = ok c d} rest {x} g h next = go (rest d) (next d)
     where
       go : (then : Emitted) → ((t : State W) (a : _) → Fit W Ψ d t → agree t a → Simulates calm kind Φ agree′ t then (g a))
-          → Simulates calm kind Φ agree′ s (after c then) (bind x g)
+          → Simulates calm kind Φ agree′ s (behind c then) (bind x g)
       go (ok c′ e′) next = record { run = rw exec-append (alike-bind (h .run) λ t a E. next t a (E .fits) (E .agrees) .run) }
       go (refuse answer) next = record { run = alike-not-done (h .run) λ t a E. next t a (E .fits) (E .agrees) .run }

@@ -10,8 +10,8 @@ use Rattle.theory.specs.Outcome.{Outcome, done, stuck, bind, at, need, f
 use Rattle.theory.specs.World.{World, Op, Test}
 use Rattle.theory.specs.World as Voc
 use Rattle.numbers.specs.Limits.{namedCells}
-use Rattle.theory.specs.Machine.{line, named, scratch, State, step, setObject, setRaw, setMemory, withAccumulator, withStores, withScratch, messages, makeObject, makeAccumulator}
-use Rattle.theory.specs.Emission.{Env, Emitted, ok, refuse, after, andThen, addObject, emit}
+use Rattle.theory.specs.Machine.{lineAt, named, scratch, State, step, setObject, setRaw, setMemory, withAccumulator, withStores, withScratch, messages, makeObject, makeAccumulator}
+use Rattle.theory.specs.Emission.{Env, Emitted, ok, refuse, behind, andThen, addObject, emit}
 use Rattle.theory.specs.Compilers.{LOAD, STORE, STORE-CONST, DECODE, ENCODE, CREATE, ANALYZE-TUPLE, CREATE-TUPLE, OPPOSITE, KEY-OF, MATCH, ENCRYPT, DECRYPT, SIGN, VERIFY, HASH}
 use Rattle.theory.proofs.CellLaws.{message-named, message-scratch, setMessage-named, setMessage-scratch, withScratches, setMessages-scratch, readable-named, readable-scratch, occupied-named, occupied-scratch, withRaw, addRaw-named, addRaw-scratch}
 use Rattle.theory.proofs.Ends.{ends-at}
@@ -33,14 +33,14 @@ module _ {Allowed : ℕ → Type 0} {W : World} {calm : WorldWithin Allowed W} {
   reads-accumulator : (row : ℕ) (i : Instruction) (code : Emitted) {s : State W} (g : W .Msg → Outcome B)
       → ReadWithin Allowed (s .accumulator)
       → (s .accumulator ≡ none → step W kind row i s ≡ stuck row (reasonNumber Unset))
-      → ((m : W .Msg) → s .accumulator ≡ some m → Simulates calm kind Φ agree s (after (line row i ∷ []) code) (g m))
-      → Simulates calm kind Φ agree s (after (line row i ∷ []) code) (bind (need row (s .accumulator)) g)
-  unfolding RunsAlike after
+      → ((m : W .Msg) → s .accumulator ≡ some m → Simulates calm kind Φ agree s (behind (lineAt row i ∷ []) code) (g m))
+      → Simulates calm kind Φ agree s (behind (lineAt row i ∷ []) code) (bind (need row (s .accumulator)) g)
+  unfolding RunsAlike behind
   reads-accumulator row i code {s} g ready unset h = go (s .accumulator) refl ready code h
     where
       go : (a : Option (W .Msg)) → s .accumulator ≡ a → ReadWithin Allowed a → (code : Emitted)
-          → ((m : W .Msg) → s .accumulator ≡ some m → Simulates calm kind Φ agree s (after (line row i ∷ []) code) (g m))
-          → Simulates calm kind Φ agree s (after (line row i ∷ []) code) (bind (need row a) g)
+          → ((m : W .Msg) → s .accumulator ≡ some m → Simulates calm kind Φ agree s (behind (lineAt row i ∷ []) code) (g m))
+          → Simulates calm kind Φ agree s (behind (lineAt row i ∷ []) code) (bind (need row a) g)
       go (some m) p ready code h = h m p
       go none p ready (ok c e) h = record { run = rw (unset p) (both-stuck ready) }
       go none p ready (refuse answer) h = record { run = is-stuck }
@@ -49,20 +49,20 @@ module _ {Allowed : ℕ → Type 0} {W : World} {calm : WorldWithin Allowed W} {
   makes-object : (row v : ℕ) (i : Instruction) {code : Emitted} {s : State W} (o : Op (W .Msg)) {g : W .Msg × W .Mem → Outcome B}
       → step W kind row i s ≡ makeObject W kind row s v o
       → ((made : W .Msg × W .Mem) → Simulates calm kind Φ agree (withObject s v made) code (g made))
-      → Simulates calm kind Φ agree s (after (line row i ∷ []) code) (bind (at row (W .apply o (s .stores .memory))) g)
+      → Simulates calm kind Φ agree s (behind (lineAt row i ∷ []) code) (bind (at row (W .apply o (s .stores .memory))) g)
   makes-object row v i {code} o p h = shares row i code _ _ (ends-at row tt (calm .apply o _)) p h
 
   makes-accumulator : (row : ℕ) (i : Instruction) {code : Emitted} {s : State W} (o : Op (W .Msg)) {g : W .Msg × W .Mem → Outcome B}
       → step W kind row i s ≡ makeAccumulator W kind row s o
       → ((made : W .Msg × W .Mem) → Simulates calm kind Φ agree (withMade s made) code (g made))
-      → Simulates calm kind Φ agree s (after (line row i ∷ []) code) (bind (at row (W .apply o (s .stores .memory))) g)
+      → Simulates calm kind Φ agree s (behind (lineAt row i ∷ []) code) (bind (at row (W .apply o (s .stores .memory))) g)
   makes-accumulator row i {code} o p h = shares row i code _ _ (ends-at row tt (calm .apply o _)) p h
 
   -- an instruction that puts a message to a test
   tests : (row : ℕ) (i : Instruction) {code : Emitted} {s t : State W} (c : Test (W .Msg)) {y : Outcome B}
       → step W kind row i s ≡ bind (at row (W .test c (s .stores .memory))) (λ _. done t)
       → Simulates calm kind Φ agree t code y
-      → Simulates calm kind Φ agree s (after (line row i ∷ []) code) (bind (at row (W .test c (s .stores .memory))) λ _. y)
+      → Simulates calm kind Φ agree s (behind (lineAt row i ∷ []) code) (bind (at row (W .test c (s .stores .memory))) λ _. y)
   tests row i {code} {t = t} c p h = shares row i code (λ _. t) _ (ends-at row tt (calm .test c _)) p λ _. h
 
   -- the message becomes the value of a variable: the rule reads it, or it is known

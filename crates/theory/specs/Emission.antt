@@ -8,7 +8,7 @@ use Rattle.answers.specs.declared.Compiled.the-variants.{WrittenWhileSet, ReadW
 use Rattle.numbers.specs.declared.Raw.{Raw}
 use Rattle.code.specs.declared.Instruction.{Instruction}
 use Rattle.theory.specs.Store.{put}
-use Rattle.theory.specs.Machine.{Line, line, named}
+use Rattle.theory.specs.Machine.{Line, lineAt, named}
 use Rattle.theory.specs.Uses.{Used, objectAt, messageAt, messagesAt, Uses, usesOf}
 use Rattle.numbers.specs.Limits.{namedCells}
 
@@ -27,12 +27,12 @@ pub data Emitted : Type 0 where
   ok : List Line → Env → Emitted
   refuse : Compiled → Emitted
 
-unfoldable pub after : List Line → Emitted → Emitted
-after c (ok d e) = ok (c ++ d) e
-after c (refuse answer) = refuse answer
+unfoldable pub behind : List Line → Emitted → Emitted
+behind c (ok d e) = ok (c ++ d) e
+behind c (refuse answer) = refuse answer
 
 unfoldable pub andThen : Emitted → (Env → Emitted) → Emitted
-andThen (ok c e) f = after c (f e)
+andThen (ok c e) f = behind c (f e)
 andThen (refuse answer) f = refuse answer
 
 infixr 20 _then_
@@ -60,7 +60,7 @@ abbrev pub writes : ℕ → Bool → Emitted → Emitted
 writes row known c = cond known (refuse (WrittenWhileSet row)) c
 
 abbrev pub one : ℕ → Instruction → Env → Emitted
-one row i e = ok (line row i ∷ []) e
+one row i e = ok (lineAt row i ∷ []) e
 
 -- what is read is looked at, then what is written, which is set from then on; a tuple's slots are scratch
 abbrev pub reading : ℕ → List Used → (Env → Emitted) → Env → Emitted

@@ -25,8 +25,8 @@ pub record Line : Type 0 where
   pub place : ℕ
   pub instruction : Instruction
 
-abbrev pub line : ℕ → Instruction → Line
-line place instruction = record { place = place; instruction = instruction }
+abbrev pub lineAt : ℕ → Instruction → Line
+lineAt place instruction = record { place = place; instruction = instruction }
 
 module _ (W : World) where
   -- what the rules speak of: the object store σ, the named message store ρ, and the memory

@@ -41,12 +41,12 @@ abbrev pub collected : List Term → Terms
 collected [] = nil
 collected (t ∷ ts) = cons t (collected ts)
 
-abbrev pub shapeOf : Term → Shape Term
-shapeOf (atom tag number) = Shape.atom tag number
-shapeOf (encrypted key body) = Shape.encrypted key body
-shapeOf (signed key body) = Shape.signed key body
-shapeOf (hashed body) = Shape.hashed body
-shapeOf (tupled ts) = Shape.tupled (listed ts)
+abbrev pub shapeOfTerm : Term → Shape Term
+shapeOfTerm (atom tag number) = Shape.atom tag number
+shapeOfTerm (encrypted key body) = Shape.encrypted key body
+shapeOfTerm (signed key body) = Shape.signed key body
+shapeOfTerm (hashed body) = Shape.hashed body
+shapeOfTerm (tupled ts) = Shape.tupled (listed ts)
 
 abbrev pub termOf : Shape Term → Term
 termOf (Shape.atom tag number) = atom tag number
@@ -59,17 +59,17 @@ pub record Names : Type 0 where
   pub counter : ℕ
   pub ν : Term → Option Term
 
-abbrev pub withCounter : Names → ℕ → Names
-withCounter x counter = record { counter = counter; ν = x .ν }
+abbrev pub raisedTo : Names → ℕ → Names
+raisedTo x counter = record { counter = counter; ν = x .ν }
 
 -- every term can be made; there is always room
 abbrev pub termModel : Model
 termModel = record {
   Msg = Term;
   Mem = Names;
-  look = λ t x. shapeOf t;
+  look = λ t x. shapeOfTerm t;
   make = λ shape x. got (termOf shape, x);
-  fresh = λ x. name (x .counter) (withCounter x);
+  fresh = λ x. name (x .counter) (raisedTo x);
   certificate = λ agent x. x .ν agent;
   equal = λ t u x. isYes (sameTerm t u);
 }
