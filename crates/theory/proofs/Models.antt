@@ -8,7 +8,7 @@ use lib.Dec.{eqb, ltb}
 use Rattle.answers.specs.Numbers.{reasonNumber}
 use Rattle.answers.specs.declared.Reason.the-variants.{OtherKind, Differs, PartCount, NotOpened, NotVerified}
 use Rattle.terms.specs.Shape.{Shape, atom, encrypted, signed, hashed, tupled, kindOf}
-use Rattle.terms.specs.Row.{wordOf}
+use Rattle.terms.specs.Row.{rowOf}
 use Rattle.terms.specs.Finder.{locate}
 use Rattle.terms.specs.declared.Found.{Found}
 use Rattle.terms.specs.declared.Found.the-variants.{At, Full}
@@ -94,7 +94,7 @@ calm-placed x rows Full = full-within
 
 pub calm-rows : Calm rowWorld
 calm-rows =
-    calm-model rowModel (λ shape x. let l = locate (x .rows) (x .used) (wordOf shape) in calm-placed x (l .rows) (l .found))
+    calm-model rowModel (λ shape x. let l = locate (x .rows) (x .used) (rowOf shape) in calm-placed x (l .rows) (l .found))
     λ x. calm-name (x .counter) (Rows.withCounter x)
 
 pub calm-terms : Calm termWorld
