@@ -5,7 +5,7 @@ use Rattle.word.specs.Lowest.{lowestFrom, each, oneOf}
 use Rattle.code.specs.Instruction as Code
 use Rattle.code.specs.Words.{goodWord, badWord}
 use Rattle.terms.specs.Row as Row
-use Rattle.terms.specs.Rules.{usedRows, knownTag, unusedZero, numberFits, partsBelow, keyFits, earlierEqual, badRow, badTerm}
+use Rattle.terms.specs.Rules.{usedRows, knownTag, isPacked, numberFits, partsBelow, keyKindFits, earlierEqual, badTermRow, badTerm}
 use Rattle.terms.specs.Finder.{equalRow, locate}
 use Rattle.stores.specs.Cells.{held, cellOf, storeOf, cellsFrom}
 use Rattle.stores.specs.Certificates.{agentOf, keyOf, spareOf, certified, pairFits, agentsOnce}
@@ -26,7 +26,7 @@ use Rattle.calls.specs.Cases.{Cases}
 use Rattle.calls.specs.Orders.{Orders, Corners}
 
 pub worked : Cases × Orders × Corners
-unfolding flatMap lowestFrom each oneOf Code.wordOf Code.instructionOf goodWord badWord Row.wordOf Row.tagOf Row.shapeOf usedRows knownTag unusedZero numberFits partsBelow keyFits earlierEqual badRow badTerm equalRow locate held cellOf storeOf cellsFrom agentOf keyOf spareOf certified pairFits agentsOnce kindsFit eachVariable declared valid count fieldsOf Patterns.repeats Patterns.badRow Patterns.unnamed Patterns.badPattern patternsFrom patternsOf patternOf wrongKind put puts creatable message setMessage setMessages messages behind andThen readable occupied addRaw emit first usedPart compile stateOver leftBy linesFrom run
+unfolding flatMap lowestFrom each oneOf Code.wordOf Code.instructionOf goodWord badWord Row.rowOf Row.tagOf Row.shapeOf usedRows knownTag isPacked numberFits partsBelow keyKindFits earlierEqual badTermRow badTerm equalRow locate held cellOf storeOf cellsFrom agentOf keyOf spareOf certified pairFits agentsOnce kindsFit eachVariable declared valid count fieldsOf Patterns.repeats Patterns.badRow Patterns.unnamed Patterns.badPattern patternsFrom patternsOf patternOf wrongKind put puts creatable message setMessage setMessages messages behind andThen readable occupied addRaw emit first usedPart compile stateOver leftBy linesFrom run
 worked = (
   record {
     P1 = refl;

@@ -9,7 +9,7 @@ use Rattle.answers.specs.declared.Reason.the-variants.{PartCount, NoCertificate
 use Rattle.answers.specs.declared.Compiled.the-variants as Compiled
 use Rattle.answers.specs.declared.Ran.the-variants as Ran
 use Rattle.terms.specs.Shape.{atom, encrypted, tupled}
-use Rattle.terms.specs.Row.{wordOf}
+use Rattle.terms.specs.Row.{rowOf}
 use Rattle.stores.specs.Cells.{unset}
 use Rattle.patterns.specs.Row.{rowWidths}
 use Rattle.calls.specs.Compile.{leaves, compile}
@@ -85,7 +85,7 @@ pub record Cases : Type 0 where
         objects = cells (2 ∷ 3 ∷ 1 ∷ 0 ∷ []);
         messages = replicate 256 unset;
         accumulator = 3;
-        terms = wordOf (atom 5 0) ∷ wordOf (atom 4 0) ∷ wordOf (atom 2 1) ∷ wordOf (encrypted 1 2) ∷ replicate 2 0;
+        terms = rowOf (atom 5 0) ∷ rowOf (atom 4 0) ∷ rowOf (atom 2 1) ∷ rowOf (encrypted 1 2) ∷ replicate 2 0;
         counter = 2;
       }
   pub P3 : compile false (rawRow 0 ∷ rawRow 1 ∷ tupleRow 1 (0 ∷ 1 ∷ []) ∷ rawRow 2 ∷ tupleRow 0 (2 ∷ 3 ∷ []) ∷ []) (kinds (10 ∷ 10 ∷ [])) (cells []) (cells []) slice
@@ -105,18 +105,18 @@ pub record Cases : Type 0 where
       ≡ leaves (Compiled.ReadWhileUnset 2) slice
   pub P8 : compile false (objectRow 0 ∷ []) (kinds (10 ∷ [])) (cells []) (cells []) slice ≡ leaves (Compiled.WrongKind 0) slice
   pub P9 : compile false (tupleRow 0 [] ∷ []) (kinds (10 ∷ [])) (cells []) (cells []) slice ≡ leaves (Compiled.Done 2) (sliceWith P9-code)
-  pub P9-run : run (lent (10 ∷ []) [] 0 (wordOf (tupled []) ∷ []) 0) P9-code
+  pub P9-run : run (lent (10 ∷ []) [] 0 (rowOf (tupled []) ∷ []) 0) P9-code
       ≡ record {
         answer = Ran.Done 2;
         objects = cells (0 ∷ []);
         messages = replicate 256 unset;
         accumulator = 0;
-        terms = wordOf (tupled []) ∷ [];
+        terms = rowOf (tupled []) ∷ [];
         counter = 0;
       }
-  pub P9-stuck : run (lent (10 ∷ []) [] 1 (wordOf (atom 3 0) ∷ wordOf (tupled (0 ∷ [])) ∷ []) 0) P9-code
-      ≡ unchanged (Ran.Stuck 1 PartCount) (lent (10 ∷ []) [] 1 (wordOf (atom 3 0) ∷ wordOf (tupled (0 ∷ [])) ∷ []) 0)
+  pub P9-stuck : run (lent (10 ∷ []) [] 1 (rowOf (atom 3 0) ∷ rowOf (tupled (0 ∷ [])) ∷ []) 0) P9-code
+      ≡ unchanged (Ran.Stuck 1 PartCount) (lent (10 ∷ []) [] 1 (rowOf (atom 3 0) ∷ rowOf (tupled (0 ∷ [])) ∷ []) 0)
   pub P10 : compile false (row (4 ∷ 0 ∷ 0 ∷ 0 ∷ 1 ∷ []) ∷ []) (kinds (4 ∷ 3 ∷ [])) (cells (unset ∷ 0 ∷ [])) (cells []) slice
       ≡ leaves (Compiled.Done 5) (sliceWith P10-code)
-  pub P10-run : run (lent (4 ∷ 3 ∷ []) (unset ∷ 0 ∷ []) 1 (wordOf (atom 3 1) ∷ wordOf (atom 4 0) ∷ []) 1) P10-code
-      ≡ unchanged (Ran.Stuck 3 NoCertificate) (lent (4 ∷ 3 ∷ []) (unset ∷ 0 ∷ []) 1 (wordOf (atom 3 1) ∷ wordOf (atom 4 0) ∷ []) 1)
+  pub P10-run : run (lent (4 ∷ 3 ∷ []) (unset ∷ 0 ∷ []) 1 (rowOf (atom 3 1) ∷ rowOf (atom 4 0) ∷ []) 1) P10-code
+      ≡ unchanged (Ran.Stuck 3 NoCertificate) (lent (4 ∷ 3 ∷ []) (unset ∷ 0 ∷ []) 1 (rowOf (atom 3 1) ∷ rowOf (atom 4 0) ∷ []) 1)

@@ -10,7 +10,7 @@ use Rattle.answers.specs.declared.Compiled.{Compiled}
 use Rattle.answers.specs.declared.Compiled.the-variants.{Done, BadPattern, WrittenWhileSet, ReadWhileUnset}
 use Rattle.answers.specs.declared.Ran.the-variants as Ran
 use Rattle.terms.specs.Shape.{atom, hashed, tupled}
-use Rattle.terms.specs.Row.{wordOf}
+use Rattle.terms.specs.Row.{rowOf}
 use Rattle.stores.specs.Cells.{unset}
 use Rattle.patterns.specs.Pattern.{plainKey, opKey, certifiedKey, Pattern, object, raw, constant, opposite, keyOf, encryption, signature, hash, tuple, letIn, Parts, end, part}
 use Rattle.theory.specs.Emission.{Emitted, ok, refuse}
@@ -93,26 +93,26 @@ pub record Corners : Type 0 where
   pub child-taken : compile false (objectRow 0 ∷ tupleRow 1 (0 ∷ []) ∷ tupleRow 1 (1 ∷ 0 ∷ []) ∷ []) (kinds (2 ∷ 10 ∷ [])) (cells []) (cells []) slice ≡ leaves (BadPattern 2) slice
   pub child-missing : compile false (objectRow 0 ∷ objectRow 0 ∷ tupleRow 1 (1 ∷ []) ∷ []) (kinds (2 ∷ 10 ∷ [])) (cells []) (cells []) slice ≡ leaves (BadPattern 0) slice
   -- the used rows end before the first zero row, and a row behind it is bad
-  pub hole : run (lent [] [] unset (wordOf (atom 3 1) ∷ 0 ∷ wordOf (atom 3 2) ∷ []) 0) [] ≡ unchanged (Ran.BadTerm 2) (lent [] [] unset (wordOf (atom 3 1) ∷ 0 ∷ wordOf (atom 3 2) ∷ []) 0)
+  pub hole : run (lent [] [] unset (rowOf (atom 3 1) ∷ 0 ∷ rowOf (atom 3 2) ∷ []) 0) [] ≡ unchanged (Ran.BadTerm 2) (lent [] [] unset (rowOf (atom 3 1) ∷ 0 ∷ rowOf (atom 3 2) ∷ []) 0)
   -- of equal rows the later is bad
-  pub equal-rows : run (lent [] [] unset (replicate 3 (wordOf (atom 3 1))) 0) [] ≡ unchanged (Ran.BadTerm 1) (lent [] [] unset (replicate 3 (wordOf (atom 3 1))) 0)
+  pub equal-rows : run (lent [] [] unset (replicate 3 (rowOf (atom 3 1))) 0) [] ≡ unchanged (Ran.BadTerm 1) (lent [] [] unset (replicate 3 (rowOf (atom 3 1))) 0)
   -- a full table has room for a term that is already there: HASH, which does not read its h
-  pub full-table : run (lent (0 ∷ 9 ∷ []) [] 0 (wordOf (atom 3 1) ∷ wordOf (hashed 0) ∷ []) 0) (word 17 1 0 0 ∷ [])
+  pub full-table : run (lent (0 ∷ 9 ∷ []) [] 0 (rowOf (atom 3 1) ∷ rowOf (hashed 0) ∷ []) 0) (word 17 1 0 0 ∷ [])
       ≡ record {
         answer = Ran.Done 1;
         objects = cells [];
         messages = replicate 256 unset;
         accumulator = 1;
-        terms = wordOf (atom 3 1) ∷ wordOf (hashed 0) ∷ [];
+        terms = rowOf (atom 3 1) ∷ rowOf (hashed 0) ∷ [];
         counter = 0;
       }
   -- ANALYZE TUPLE may be told to write over the border of named cells and scratch
-  pub border : run (lent (10 ∷ []) (1 ∷ []) unset (wordOf (atom 3 1) ∷ wordOf (tupled (0 ∷ 0 ∷ [])) ∷ []) 0) (word 8 0 63 2 ∷ [])
+  pub border : run (lent (10 ∷ []) (1 ∷ []) unset (rowOf (atom 3 1) ∷ rowOf (tupled (0 ∷ 0 ∷ [])) ∷ []) 0) (word 8 0 63 2 ∷ [])
       ≡ record {
         answer = Ran.Done 1;
         objects = cells (1 ∷ []);
         messages = replicate 63 unset ++ (0 ∷ 0 ∷ replicate 191 unset);
         accumulator = unset;
-        terms = wordOf (atom 3 1) ∷ wordOf (tupled (0 ∷ 0 ∷ [])) ∷ [];
+        terms = rowOf (atom 3 1) ∷ rowOf (tupled (0 ∷ 0 ∷ [])) ∷ [];
         counter = 0;
       }

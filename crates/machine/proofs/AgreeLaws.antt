@@ -1,7 +1,6 @@
 -- How an answer comes to agree with an outcome: a read, then what an operation answers.
 use Prim.Native.Nat.{ℕ, _<_}
 use mathlib.Core.Path.{_≡_, refl, ap}
-use mathlib.Core.Bool.{Bool, true, false}
 use mathlib.Core.Option.{Option, none, some}
 use mathlib.Core.List.{List}
 use lib.ListN.{length, set, length-set}
@@ -11,27 +10,22 @@ use Rattle.answers.specs.declared.Reason.the-variants.{Unset}
 use Rattle.numbers.specs.declared.TermRow.{TermRow}
 use Rattle.terms.specs.declared.Found.{Found}
 use Rattle.terms.specs.declared.Found.the-variants.{At, Full}
-use Rattle.theory.specs.Outcome.{Outcome, done, bind, at, need, Answer, got, not, full, sure}
+use Rattle.theory.specs.Outcome.{Outcome, done, bind, at, need, Answer, got, not, full}
 use Rattle.theory.specs.RowModel.{Table, rowWorld}
 use Rattle.theory.specs.Machine.{State, withAccumulator, withStores, setObject, setMemory}
-use Rattle.machine.specs.Machine.{Slices, withObjects, withMessages, withRows, stateAt, holding, usingRows, SameLengths, Agrees, next, stuck, no-room}
+use Rattle.machine.specs.Machine.{Slices, withObjects, withMessages, withTermRows, stateAt, holding, usingRows, SameLengths, Agrees, next, stuck, no-room}
 use Rattle.machine.specs.declared.Registers.{Registers}
 use Rattle.machine.specs.declared.Step.{Step}
 use Rattle.machine.specs.declared.Step.the-variants.{Next, Stuck, NoRoom}
 use Rattle.machine.proofs.FoundLaws.{Finds, found-length, found-row, full-kept}
 use Rattle.machine.proofs.StateLaws.{accumulator-made, object-made}
-use Rattle.machine.proofs.WorldLaws.{Placing, placed-at, placed-full}
+use Rattle.machine.proofs.AskLaws.{Placing, placed-at, placed-full}
 
 module _ {before after : Slices} {answer : Step} (place : ℕ) where
   -- a cell that is set
   pub reads : {o : Option ℕ} {row : ℕ} (f : ℕ → Outcome (State rowWorld))
       → o ≡ some row → Agrees before (f row) answer after → Agrees before (bind (need place o) f) answer after
   reads f e h = rw e h
-
-  -- a test that holds
-  pub passes : {b : Bool} (why : ℕ) (f : Unit {0} → Outcome (State rowWorld))
-      → b ≡ true → Agrees before (f tt) answer after → Agrees before (bind (at place (sure why b)) f) answer after
-  passes why f e h = rw e h
 
   -- an operation that gives a value
   pub gets : {A : Type 0} {result : Answer A} {a : A} (f : A → Outcome (State rowWorld))
@@ -45,10 +39,6 @@ module _ {before after : Slices} {answer : Step} (place : ℕ) where
 module _ {before : Slices} (place : ℕ) where
   pub unset-stops : {o : Option ℕ} (f : ℕ → Outcome (State rowWorld)) → o ≡ none → Agrees before (bind (need place o) f) (Stuck Unset) before
   unset-stops f e = rw e (stuck refl refl)
-
-  pub fails : {b : Bool} {reason : Reason} (f : Unit {0} → Outcome (State rowWorld))
-      → b ≡ false → Agrees before (bind (at place (sure (reasonNumber reason) b)) f) (Stuck reason) before
-  fails f e = rw e (stuck refl refl)
 
   pub stops : {A : Type 0} {result : Answer A} {reason : Reason} (f : A → Outcome (State rowWorld))
       → result ≡ not (reasonNumber reason) → Agrees before (bind (at place result) f) (Stuck reason) before
@@ -73,20 +63,20 @@ abbrev placing : Registers → Slices → ℕ → Answer (ℕ × Table)
 placing g x term = Placing (g .accumulator .0) (x .objects) (x .messages) (record { rows = x .rows; used = g .used; counter = g .counter; certificates = x .certificates }) term
 
 module _ (g : Registers) (x : Slices) {term : ℕ} {found : Found} {rows′ : List ℕ} (answer : Finds (x .rows) (g .used) term found rows′) (place : ℕ) where
-  pub finds-no-room : (f : ℕ × Table → Outcome (State rowWorld)) → found ≡ Full → Agrees x (bind (at place (placing g x term)) f) NoRoom (withRows x rows′)
-  finds-no-room f e = fills place f (placed-full _ _ _ _ answer e) (ap (withRows x) (full-kept answer e))
+  pub finds-no-room : (f : ℕ × Table → Outcome (State rowWorld)) → found ≡ Full → Agrees x (bind (at place (placing g x term)) f) NoRoom (withTermRows x rows′)
+  finds-no-room f e = fills place f (placed-full _ _ _ _ answer e) (ap (withTermRows x) (full-kept answer e))
 
   module _ {row : TermRow} {used : ℕ} (e : found ≡ At row used) where
     pub makes-accumulator : Agrees x
         (bind (at place (placing g x term)) λ r. done (withAccumulator rowWorld (withStores rowWorld (stateAt g x) (setMemory rowWorld (stateAt g x .stores) (r .1))) (r .0)))
-        (Next (holding (usingRows g used) row)) (withRows x rows′)
+        (Next (holding (usingRows g used) row)) (withTermRows x rows′)
     makes-accumulator =
         gets place _ (placed-at _ _ _ _ answer e)
         (next (accumulator-made _ _ _ _ (row .0) (found-row answer e) _) (record { objects-length = refl; messages-length = refl; rows-length = found-length answer }))
 
     pub makes-object : (v : ℕ) → v < length (x .objects) → Agrees x
         (bind (at place (placing g x term)) λ r. done (withStores rowWorld (stateAt g x) (setObject rowWorld (setMemory rowWorld (stateAt g x .stores) (r .1)) v (r .0))))
-        (Next (usingRows g used)) (withRows (withObjects x (set (x .objects) v (row .0))) rows′)
+        (Next (usingRows g used)) (withTermRows (withObjects x (set (x .objects) v (row .0))) rows′)
     makes-object v inside =
         gets place _ (placed-at _ _ _ _ answer e)
         (next (object-made _ _ _ _ (row .0) (found-row answer e) _ v inside)

@@ -16,9 +16,8 @@ pub record Finds (rows : List ℕ) (used term : ℕ) (found : Found) (rows′ : 
   pub within : Within rows used
   pub says : located found rows′ ≡ locate rows used term
 
-pub finds : {rows rows′ : List ℕ} {used word term : ℕ} {found : Found} → Within rows used → word ≡ term → located found rows′ ≡ locate rows used word
-    → Finds rows used term found rows′
-finds within packs says = record { within = within; says = rw (← packs) says }
+pub finds : {rows rows′ : List ℕ} {used word : ℕ} {found : Found} → Within rows used → located found rows′ ≡ locate rows used word → Finds rows used word found rows′
+finds within says = record { within = within; says = says }
 
 -- the length is kept, the row is no cell's unset, and without room nothing is written
 record Says (rows : List ℕ) (l : Located) : Type 0 where

@@ -1,8 +1,7 @@
 -- Laws of the machine over the lent slices.
-pub mod KeyLaws
 pub mod FoundLaws
 pub mod StateLaws
-pub mod WorldLaws
+pub mod AskLaws
 pub mod AgreeLaws
 pub mod MovingLaws
 pub mod MakingLaws

@@ -9,14 +9,16 @@ use borrow.Author.Count.{below-more}
 use lib.ListN.{length, getD, take, drop, set, length-set}
 use lib.Seq.{getD-drop, getD-set-same, getD-set-other}
 use Rattle.answers.specs.Numbers.{reasonNumber}
-use Rattle.answers.specs.declared.Reason.the-variants.{Unset, PartCount}
+use Rattle.answers.specs.declared.Reason.{Reason}
+use Rattle.answers.specs.declared.Reason.the-variants.{Unset}
 use Rattle.numbers.specs.declared.Object.{Object}
 use Rattle.numbers.specs.declared.Raw.{Raw}
 use Rattle.numbers.specs.declared.TermRow.{TermRow}
 use Rattle.code.specs.declared.Instruction.the-variants.{AnalyzeTuple, CreateTuple}
+use Rattle.numbers.specs.Limits.{mostParts}
 use Rattle.word.specs.Fields.{split, at}
-use Rattle.terms.specs.Shape.{tupled, partsOf}
-use Rattle.terms.specs.Row.{rowWidths, wordOf, tagOf, shapeOf}
+use Rattle.terms.specs.Shape.{partsOf}
+use Rattle.terms.specs.Row.{termWidths, shapeOf}
 use Rattle.terms.specs.declared.Found.{Found}
 use Rattle.terms.specs.declared.Found.the-variants.{At, Full}
 use Rattle.terms.proofs.FieldLaws.{slot-below}
@@ -24,17 +26,25 @@ use Rattle.terms.proofs.ShapeLaws.{parts-at}
 use Rattle.stores.specs.Cells.{unset}
 use Rattle.theory.specs.Outcome.{Outcome, done}
 use Rattle.theory.specs.Outcome as Outcome
+use Rattle.theory.specs.World.{tuple}
+use Rattle.world.specs.Operations.{Makes, PartsOver}
+use Rattle.world.specs.declared.Parted.{Parted}
+use Rattle.world.specs.declared.Parted.the-variants.{Tuple, Not}
 use Rattle.theory.specs.RowModel.{Table, rowWorld}
 use Rattle.theory.specs.Machine.{messages as reading}
 use Rattle.calls.specs.Run.{stateOver}
-use Rattle.machine.specs.Machine.{Slices, withObjects, withMessages, withRows, stateAt, usingRows, spread, next, stuck, Does}
+use Rattle.machine.specs.Machine.{Slices, withObjects, withMessages, withTermRows, stateAt, usingRows, spread, next, stuck, DoesStep}
 use Rattle.machine.specs.declared.Registers.{Registers}
 use Rattle.machine.specs.declared.Step.{Step}
 use Rattle.machine.specs.declared.Step.the-variants.{Next, Stuck, NoRoom}
 use Rattle.machine.proofs.FoundLaws.{Finds, finds}
 use Rattle.machine.proofs.StateLaws.{inside, spread-length, spread-same, object-unset, object-row, message-unset, message-row, messages-set}
-use Rattle.machine.proofs.WorldLaws.{not-tuple, tuple-other, tuple-taken}
-use Rattle.machine.proofs.AgreeLaws.{reads, gets, unset-stops, stops, finds-no-room, makes-object}
+use Rattle.machine.proofs.AskLaws.{makes, parted-tuple, parted-not}
+use Rattle.machine.proofs.AgreeLaws.{reads, gets, answers-as, unset-stops, stops, finds-no-room, makes-object}
+
+-- a tuple that was taken apart has few parts
+pub few-parts : {rows : List ℕ} {row n word : ℕ} {answer : Parted} → PartsOver rows row n answer → answer ≡ Tuple word → n ≤ mostParts
+few-parts parts taken = parts .few _ taken
 
 -- one part more is written
 pub spread-none : (cells : List ℕ) (b : ℕ) (row : ℕ → ℕ) → cells ≡ spread cells b 0 row
@@ -46,44 +56,40 @@ unfolding spread
 spread-more cells after b i part row e p = rw (add-one, e, p)
 
 -- a part of a row is a field of its word, and a row's number
-part-field : (word row i : ℕ) → i < length (partsOf (shapeOf word)) → getD (partsOf (shapeOf word)) i row ≡ at (3 + i) (split rowWidths word)
+part-field : (word row i : ℕ) → i < length (partsOf (shapeOf word)) → getD (partsOf (shapeOf word)) i row ≡ at (3 + i) (split termWidths word)
 part-field word row i l = inside (partsOf (shapeOf word)) i row 0 l ∙ parts-at word i l
 
 part-row : (word row i : ℕ) → i < length (partsOf (shapeOf word)) → getD (partsOf (shapeOf word)) i row ≡ unset → ⊥
 part-row word row i l e =
-    let same : getD (drop 3 (split rowWidths word)) i 0 ≡ unset = getD-drop 3 (split rowWidths word) i 0 ∙ sym (part-field word row i l) ∙ e in
+    let same : getD (drop 3 (split termWidths word)) i 0 ≡ unset = getD-drop 3 (split termWidths word) i 0 ∙ sym (part-field word row i l) ∙ e in
     omega (arith, slot-below word i)
 
 module _ (g : Registers) (rows objects messages : List ℕ) (t : Object) (b : Raw) (n : ℕ) (kind : ℕ → ℕ) (row : ℕ) (read : row ≡ getD objects (t .0) unset) where
   abbrev Analyzes : Step → List ℕ → Type 0
   Analyzes answer messages′ =
-      Does kind (AnalyzeTuple t b n) g (λ x. withRows (withMessages (withObjects x objects) messages) rows) answer
-      (λ x. withRows (withMessages (withObjects x objects) messages′) rows)
+      DoesStep kind (AnalyzeTuple t b n) g (λ x. withTermRows (withMessages (withObjects x objects) messages) rows) answer
+      (λ x. withTermRows (withMessages (withObjects x objects) messages′) rows)
 
   pub analyze-unset : row ≡ unset → Analyzes (Stuck Unset) messages
   analyze-unset e x = unset-stops _ _ (object-unset _ _ _ _ (t .0) read e)
 
-  module _ (isRow : row ≡ unset → ⊥) (word tag : ℕ) (looked : word ≡ getD rows row 0) (tagged : tag ≡ tagOf word) where
-    pub analyze-other : (tag ≡ 10 → ⊥) → Analyzes (Stuck PartCount) messages
-    analyze-other other x = reads _ _ (object-row _ _ _ _ (t .0) read isRow) (stops _ _ (not-tuple _ _ _ _ row looked tagged n other))
+  module _ (isRow : row ≡ unset → ⊥) (answer : Parted) (parts : PartsOver rows row n answer) where
+    pub analyze-not : (reason : Reason) → answer ≡ Not reason → Analyzes (Stuck reason) messages
+    analyze-not reason e x = reads _ _ (object-row _ _ _ _ (t .0) read isRow) (stops _ _ (parted-not _ _ _ _ parts e))
 
-    module _ (tuple : tag ≡ 10) (size : ℕ) (sized : size ≡ length (partsOf (shapeOf word))) where
-      pub analyze-count : (size ≡ n → ⊥) → Analyzes (Stuck PartCount) messages
-      analyze-count differs x =
-          reads _ _ (object-row _ _ _ _ (t .0) read isRow) (stops _ _ (tuple-other _ _ _ _ row looked tagged n tuple sized differs))
+    pub analyze-next : (word : ℕ) (messages′ : List ℕ) → answer ≡ Tuple word → b .0 + n ≤ length messages
+        → messages′ ≡ spread messages (b .0) n (λ i. at (3 + i) (split termWidths word)) → Analyzes (Next g) messages′
+    analyze-next word messages′ taken fits e x =
+        let exact : length (partsOf (shapeOf word)) ≡ n = parts .exactly word taken in
+        let short : (i : ℕ) → i < n → i < length (partsOf (shapeOf word)) = λ i l. omega arith in
+        let written : messages′ ≡ spread messages (b .0) n (λ i. getD (partsOf (shapeOf word)) i row) =
+        e ∙ spread-same messages (b .0) n _ _ (λ i l. sym (part-field word row i (short i l))) in
+        rw written (reads _ _ (object-row _ _ _ _ (t .0) read isRow)
+        (gets _ _ (parted-tuple _ _ _ _ parts taken)
+        (next (messages-set _ _ _ _ (b .0) n _ fits (λ i l. part-row word row i (short i l)))
+        (record { objects-length = refl; messages-length = spread-length messages (b .0) n _; rows-length = refl }))))
 
-      pub analyze-next : (messages′ : List ℕ) → size ≡ n → b .0 + n ≤ length messages → messages′ ≡ spread messages (b .0) n (λ i. at (3 + i) (split rowWidths word))
-          → Analyzes (Next g) messages′
-      analyze-next messages′ same fits e x =
-          let short : (i : ℕ) → i < n → i < length (partsOf (shapeOf word)) = λ i l. omega arith in
-          let parts : messages′ ≡ spread messages (b .0) n (λ i. getD (partsOf (shapeOf word)) i row) =
-          e ∙ spread-same messages (b .0) n _ _ (λ i l. sym (part-field word row i (short i l))) in
-          rw parts (reads _ _ (object-row _ _ _ _ (t .0) read isRow)
-          (gets _ _ (tuple-taken _ _ _ _ row looked tagged n tuple sized same)
-          (next (messages-set _ _ _ _ (b .0) n _ fits (λ i l. part-row word row i (short i l)))
-          (record { objects-length = refl; messages-length = spread-length messages (b .0) n _; rows-length = refl }))))
-
-pub ruleset analyze-ways = (analyze-unset, analyze-other, analyze-count, analyze-next)
+pub ruleset analyze-ways = (analyze-unset, analyze-not, analyze-next)
 
 -- the first i of n cells are set, and are gathered among four
 pub record Gathered (messages : List ℕ) (b : ℕ) (parts : List ℕ) (i : ℕ) : Type 0 where
@@ -141,25 +147,25 @@ module _ (accumulator : ℕ) (objects messages : List ℕ) (table : Table) (plac
 
 module _ (g : Registers) (rows objects messages : List ℕ) (t : Object) (b : Raw) (n : ℕ) (kind : ℕ → ℕ) (i : ℕ) (parts : List ℕ) (gathered : Gathered messages (b .0) parts i) where
   abbrev over : List ℕ → List ℕ → Slices → Slices
-  over objects rows x = withRows (withMessages (withObjects x objects) messages) rows
+  over objects rows x = withTermRows (withMessages (withObjects x objects) messages) rows
 
   abbrev Creates : Step → List ℕ → List ℕ → Type 0
-  Creates answer objects′ rows′ = Does kind (CreateTuple t b n) g (λ x. over objects rows x) answer (λ x. over objects′ rows′ x)
+  Creates answer objects′ rows′ = DoesStep kind (CreateTuple t b n) g (λ x. over objects rows x) answer (λ x. over objects′ rows′ x)
 
   pub create-tuple-unset : (cell : ℕ) → i < n → cell ≡ getD messages (b .0 + i) unset → cell ≡ unset → Creates (Stuck Unset) objects rows
   create-tuple-unset cell l read e x =
       rw (reads-unset _ _ _ _ (g .place) (b .0) i n l (λ k h q. gathered .areRows k h (gathered .each k h ∙ q)) (sym read ∙ e)) (stuck refl refl)
 
-  module _ (past : n ≤ i) (small : n ≤ 4) (rows′ : List ℕ) (found : Found) (answer : Finds rows (g .used) (wordOf (tupled (take n parts))) found rows′) where
+  module _ (past : n ≤ i) (small : n ≤ 4) (word : ℕ) (made : Makes (tuple (take n parts)) word) (rows′ : List ℕ) (found : Found) (answer : Finds rows (g .used) word found rows′) where
     all-read : (x : Slices) → reading rowWorld (g .place) (stateAt g (over objects rows x)) (b .0) n ≡ done (take n parts)
     all-read x =
         reads-all _ _ _ _ (g .place) parts (b .0) n (omega (arith, gathered .four)) (λ k l. gathered .each k (omega arith)) (λ k l. gathered .areRows k (omega arith))
 
     pub create-tuple-full : found ≡ Full → Creates NoRoom objects rows′
-    create-tuple-full e x = rw (all-read x) (finds-no-room g _ answer _ _ e)
+    create-tuple-full e x = rw (all-read x) (answers-as _ _ (makes _ _ _ _ made) (finds-no-room g _ answer _ _ e))
 
     pub create-tuple-next : (row : TermRow) (used : ℕ) (objects′ : List ℕ) (g₁ : Registers) → t .0 < length objects → found ≡ At row used → objects′ ≡ set objects (t .0) (row .0)
         → g₁ ≡ usingRows g used → Creates (Next g₁) objects′ rows′
-    create-tuple-next row used objects′ g₁ inside e w p x = rw (w, p, all-read x) (makes-object g _ answer _ e (t .0) inside)
+    create-tuple-next row used objects′ g₁ inside e w p x = rw (w, p, all-read x) (answers-as _ _ (makes _ _ _ _ made) (makes-object g _ answer _ e (t .0) inside))
 
 pub ruleset create-tuple-ways = (create-tuple-unset, create-tuple-full, create-tuple-next, finds)

@@ -1,17 +1,16 @@
 -- What a method of the machine does is a step of figure 4 at rows, on the slices that are lent.
 use Prim.Native.Nat.{ℕ, zero, suc, _+_, _≤_}
 use mathlib.Core.Path.{_≡_}
-use mathlib.Core.Bool.{Bool}
-use mathlib.Core.List.{List, []}
+use mathlib.Core.List.{List}
 use lib.ListN.{length, set}
 use Rattle.answers.specs.Numbers.{reasonNumber}
 use Rattle.answers.specs.declared.Reason.{Reason}
+use Rattle.numbers.specs.Limits.{mostTermRows}
 use Rattle.numbers.specs.declared.TermRow.{TermRow}
 use Rattle.code.specs.declared.Instruction.{Instruction}
 use Rattle.theory.specs.Outcome.{Outcome, done}
 use Rattle.theory.specs.Outcome as Outcome
-use Rattle.theory.specs.Model.{goesWith}
-use Rattle.theory.specs.RowModel.{rowModel, rowWorld}
+use Rattle.theory.specs.RowModel.{rowWorld}
 use Rattle.theory.specs.Machine.{State, step}
 use Rattle.calls.specs.Run.{stateOver}
 use Rattle.machine.specs.declared.Registers.{Registers}
@@ -33,8 +32,8 @@ withObjects x objects = record { objects = objects; messages = x .messages; rows
 abbrev pub withMessages : Slices → List ℕ → Slices
 withMessages x messages = record { objects = x .objects; messages = messages; rows = x .rows; certificates = x .certificates }
 
-abbrev pub withRows : Slices → List ℕ → Slices
-withRows x rows = record { objects = x .objects; messages = x .messages; rows = rows; certificates = x .certificates }
+abbrev pub withTermRows : Slices → List ℕ → Slices
+withTermRows x rows = record { objects = x .objects; messages = x .messages; rows = rows; certificates = x .certificates }
 
 abbrev pub withCertificates : Slices → List ℕ → Slices
 withCertificates x certificates = record { objects = x .objects; messages = x .messages; rows = x .rows; certificates = certificates }
@@ -55,10 +54,6 @@ usingRows g used = record { place = g .place; accumulator = g .accumulator; used
 abbrev pub naming : Registers → ℕ → ℕ → Registers
 naming g used counter = record { place = g .place; accumulator = g .accumulator; used = used; counter = counter }
 
--- a key goes with another: `goesWith`, which looks at their two rows alone
-unfoldable pub keysPair : List ℕ → ℕ → ℕ → Bool
-keysPair rows key other = goesWith rowModel key other (record { rows = rows; used = 0; counter = 0; certificates = [] })
-
 -- n rows written to the cells from b on, one after another as in `setMessages`
 unfoldable pub spread : List ℕ → ℕ → ℕ → (ℕ → ℕ) → List ℕ
 spread cells b zero row = cells
@@ -67,7 +62,7 @@ spread cells b (suc n) row = set (spread cells b n row) (b + n) (row n)
 -- the used rows are within the slice, and row numbers are below 65,535
 pub record Within (rows : List ℕ) (used : ℕ) : Type 0 where
   pub used-rows : used ≤ length rows
-  pub few-rows : length rows ≤ 4096
+  pub few-rows : length rows ≤ mostTermRows
 
 pub record SameLengths (x y : Slices) : Type 0 where
   pub objects-length : length (y .objects) ≡ length (x .objects)
@@ -81,6 +76,6 @@ pub data Agrees (before : Slices) : Outcome (State rowWorld) → Step → Slices
   no-room : {place : ℕ} {after : Slices} → after ≡ before → Agrees before (Outcome.room place) NoRoom after
 
 -- a method that sees some of the slices does a step, whatever the others are
-abbrev pub Does : (ℕ → ℕ) → Instruction → Registers → (Slices → Slices) → Step → (Slices → Slices) → Type 0
-Does kind instruction g before answer after =
+abbrev pub DoesStep : (ℕ → ℕ) → Instruction → Registers → (Slices → Slices) → Step → (Slices → Slices) → Type 0
+DoesStep kind instruction g before answer after =
     (x : Slices) → Agrees (before x) (step rowWorld kind (g .place) instruction (stateAt g (before x))) answer (after x)

@@ -1,29 +1,41 @@
-// Cells hold rows. A cell past the lent ones is unset.
+// Kinds of variables, and cells, which hold rows. A cell past the lent ones is unset.
 ghost use mathlib.Core.Path.{_≡_};
 ghost use Prim.Native.Nat.{_<_};
 ghost use lib.ListN.{length, getD, set};
+ghost use Rattle.numbers.specs.Kinds.{kindIn};
 ghost use Rattle.stores.specs.Cells.{unset};
 use numbers::Object;
 use numbers::Raw;
 use numbers::TermRow;
+use stores::cells::UNSET;
 
-pub const UNSET: u16 = 65535;
-
-pub fn cell_at(cells: &[u16], at: usize) -> u16
-    ensures { λ r. ⌜ r ≡ getD (now (cells .entry)) at unset ⌝ }
+// A variable past the kinds is undeclared.
+pub fn kind_at(kinds: &[u8], v: Object) -> u8
+    ensures { λ r. ⌜ r ≡ kindIn (now (kinds .entry)) (v .0) ⌝ }
 {
-    if at < cells.len() { cells[at] } else { UNSET }
+    let at = v.0 as usize;
+    if at < kinds.len() { kinds[at] } else { 0 }
 }
 
-pub fn object_at(objects: &[u16], v: Object) -> u16
-    ensures { λ r. ⌜ r ≡ getD (now (objects .entry)) (v .0) unset ⌝ }
+pub fn cell_at(cells: &[u16], at: usize) -> TermRow
+    ensures { λ r. ⌜ r .0 ≡ getD (now (cells .entry)) at unset ⌝ }
+{
+    if at < cells.len() {
+        TermRow(cells[at])
+    } else {
+        TermRow(UNSET)
+    }
+}
+
+pub fn object_at(objects: &[u16], v: Object) -> TermRow
+    ensures { λ r. ⌜ r .0 ≡ getD (now (objects .entry)) (v .0) unset ⌝ }
 {
     let at = v.0 as usize;
     cell_at(objects, at)
 }
 
-pub fn message_at(messages: &[u16], r: Raw) -> u16
-    ensures { λ s. ⌜ s ≡ getD (now (messages .entry)) (r .0) unset ⌝ }
+pub fn message_at(messages: &[u16], r: Raw) -> TermRow
+    ensures { λ s. ⌜ s .0 ≡ getD (now (messages .entry)) (r .0) unset ⌝ }
 {
     let at = r.0 as usize;
     cell_at(messages, at)

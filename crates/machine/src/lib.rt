@@ -8,7 +8,6 @@ pub mod cells;
 pub mod making;
 pub mod moving;
 pub mod opening;
-pub mod rows;
 pub mod tuples;
 
 pub struct Registers {

@@ -1,86 +1,76 @@
 // Instructions that look a key up, or into a term.
 ghost use Prim.Native.Nat.{ℕ};
 ghost use Rattle.code.specs.declared.Instruction.the-variants.{KeyOf, Decrypt, Verify};
-ghost use Rattle.machine.specs.Machine.{withObjects, withMessages, withRows, withCertificates, Does};
+ghost use Rattle.machine.specs.Machine.{withObjects, withMessages, withTermRows, withCertificates, DoesStep};
 use super::Registers;
 use super::Step;
-use super::cells::UNSET;
 use super::cells::message_at;
 use super::cells::object_at;
-use super::rows::goes_with;
 use answers::Reason;
 use numbers::Object;
 use numbers::Raw;
-use numbers::TermRow;
-use stores::Certificate;
+use stores::cells::UNSET;
+use world::Opened;
+use world::Tested;
 
 impl Registers {
     pub fn key_of(self, certificates: &[u64]) -> Step
-        ensures { λ s. ⌜ ((kind : ℕ → ℕ) → Does kind KeyOf self
+        ensures { λ s. ⌜ ((kind : ℕ → ℕ) → DoesStep kind KeyOf self
             (λ x. withCertificates x (now (certificates .entry))) s
             (λ x. withCertificates x (now (certificates .entry)))) ⌝ }
     {
-        let agent = self.accumulator.0;
-        if agent == UNSET {
+        let agent = self.accumulator;
+        if agent.0 == UNSET {
             return Step::Stuck(Reason::Unset);
         }
-        let Certificate::Key(key) = stores::certified(certificates, agent) else {
-            return Step::Stuck(Reason::NoCertificate);
-        };
-        Step::Next(self.holding(key))
+        let opened = world::key_of(certificates, agent);
+        match opened {
+            Opened::Not(reason) => Step::Stuck(reason),
+            Opened::Row(key) => Step::Next(self.holding(key)),
+        }
     }
 
     pub fn decrypt(self, rows: &[u64], objects: &[u16], v: Object) -> Step
-        ensures { λ s. ⌜ ((kind : ℕ → ℕ) → Does kind (Decrypt v) self
-            (λ x. withRows (withObjects x (now (objects .entry))) (now (rows .entry))) s
-            (λ x. withRows (withObjects x (now (objects .entry))) (now (rows .entry)))) ⌝ }
+        ensures { λ s. ⌜ ((kind : ℕ → ℕ) → DoesStep kind (Decrypt v) self
+            (λ x. withTermRows (withObjects x (now (objects .entry))) (now (rows .entry))) s
+            (λ x. withTermRows (withObjects x (now (objects .entry))) (now (rows .entry)))) ⌝ }
     {
         let key = object_at(objects, v);
-        if key == UNSET {
+        if key.0 == UNSET {
             return Step::Stuck(Reason::Unset);
         }
-        let sealed = self.accumulator.0;
-        if sealed == UNSET {
+        let sealed = self.accumulator;
+        if sealed.0 == UNSET {
             return Step::Stuck(Reason::Unset);
         }
-        let word = terms::row_at(rows, sealed);
-        if terms::tag(word) != 7 {
-            return Step::Stuck(Reason::NotOpened);
+        let opened = world::decrypt(rows, key, sealed);
+        match opened {
+            Opened::Not(reason) => Step::Stuck(reason),
+            Opened::Row(body) => Step::Next(self.holding(body)),
         }
-        if !goes_with(rows, key, terms::part(word, 0)) {
-            return Step::Stuck(Reason::NotOpened);
-        }
-        Step::Next(self.holding(TermRow(terms::part(word, 1))))
     }
 
-    // A signature is verified only for its own body.
     pub fn verify(self, rows: &[u64], objects: &[u16], messages: &[u16], v: Object, r: Raw) -> Step
-        ensures { λ s. ⌜ ((kind : ℕ → ℕ) → Does kind (Verify v r) self
-            (λ x. withRows (withMessages (withObjects x (now (objects .entry))) (now (messages .entry))) (now (rows .entry))) s
-            (λ x. withRows (withMessages (withObjects x (now (objects .entry))) (now (messages .entry))) (now (rows .entry)))) ⌝ }
+        ensures { λ s. ⌜ ((kind : ℕ → ℕ) → DoesStep kind (Verify v r) self
+            (λ x. withTermRows (withMessages (withObjects x (now (objects .entry))) (now (messages .entry))) (now (rows .entry))) s
+            (λ x. withTermRows (withMessages (withObjects x (now (objects .entry))) (now (messages .entry))) (now (rows .entry)))) ⌝ }
     {
         let key = object_at(objects, v);
-        if key == UNSET {
+        if key.0 == UNSET {
             return Step::Stuck(Reason::Unset);
         }
         let body = message_at(messages, r);
-        if body == UNSET {
+        if body.0 == UNSET {
             return Step::Stuck(Reason::Unset);
         }
-        let signature = self.accumulator.0;
-        if signature == UNSET {
+        let signature = self.accumulator;
+        if signature.0 == UNSET {
             return Step::Stuck(Reason::Unset);
         }
-        let word = terms::row_at(rows, signature);
-        if terms::tag(word) != 8 {
-            return Step::Stuck(Reason::NotVerified);
+        let tested = world::verify(rows, key, body, signature);
+        match tested {
+            Tested::Not(reason) => Step::Stuck(reason),
+            Tested::Holds => Step::Next(self),
         }
-        if !goes_with(rows, terms::part(word, 0), key) {
-            return Step::Stuck(Reason::NotVerified);
-        }
-        if terms::part(word, 1) == body {
-            return Step::Next(self);
-        }
-        Step::Stuck(Reason::NotVerified)
     }
 }

@@ -11,7 +11,7 @@ use Rattle.answers.specs.declared.Compiled.the-variants as Compiled
 use Rattle.code.specs.Instruction as Code
 use Rattle.code.specs.Words.{goodWord, badWord}
 use Rattle.terms.specs.Row as Row
-use Rattle.terms.specs.Rules.{usedRows, knownTag, unusedZero, numberFits, partsBelow, keyFits, earlierEqual, badRow, badTerm}
+use Rattle.terms.specs.Rules.{usedRows, knownTag, isPacked, numberFits, partsBelow, keyKindFits, earlierEqual, badTermRow, badTerm}
 use Rattle.terms.specs.Finder.{equalRow, locate}
 use Rattle.stores.specs.Cells.{unset, held, cellOf, storeOf, cellsFrom}
 use Rattle.stores.specs.Certificates.{agentOf, keyOf, spareOf, certified, pairFits, agentsOnce}
@@ -33,18 +33,18 @@ use Rattle.promises.proofs.NumberLaws.{run-table}
 use Rattle.promises.proofs.DecisionLaws.{decided-match, decided-creation}
 
 P1-run : RunAnswers (run P1-lent P1-code) 0 6 0
-unfolding lowestFrom each oneOf Code.wordOf Code.instructionOf goodWord badWord Row.wordOf Row.tagOf Row.shapeOf usedRows knownTag unusedZero numberFits partsBelow keyFits earlierEqual badRow badTerm equalRow locate held cellOf storeOf cellsFrom agentOf keyOf spareOf certified pairFits agentsOnce kindsFit eachVariable valid put message setMessage setMessages messages first stateOver leftBy linesFrom run
+unfolding lowestFrom each oneOf Code.wordOf Code.instructionOf goodWord badWord Row.rowOf Row.tagOf Row.shapeOf usedRows knownTag isPacked numberFits partsBelow keyKindFits earlierEqual badTermRow badTerm equalRow locate held cellOf storeOf cellsFrom agentOf keyOf spareOf certified pairFits agentsOnce kindsFit eachVariable valid put message setMessage setMessages messages first stateOver leftBy linesFrom run
 P1-run = (refl, refl, refl)
 
 P2-run : RunAnswers (run P2-lent P2-code) 0 6 0
 P2-run = let e = worked .0 .P2-run in rw e (refl, refl, refl)
 
 P1-held : messageBefore P1-lent ≡ some P1-message
-unfolding termAt held Row.wordOf Row.tagOf Row.shapeOf
+unfolding termAt held Row.rowOf Row.tagOf Row.shapeOf
 P1-held = refl
 
 P2-held : messageAfter (run P2-lent P2-code) ≡ some P2-message
-unfolding termAt held Row.wordOf Row.tagOf Row.shapeOf
+unfolding termAt held Row.rowOf Row.tagOf Row.shapeOf
 P2-held = let e = worked .0 .P2-run in rw e refl
 
 -- code that was compiled with all cells unset is for a run with all cells unset
@@ -61,7 +61,7 @@ compiled {code = code} objects messages e = record {
 }
 
 P1-prepared : Prepared false P1-pattern P1-lent P1-code
-unfolding usedRows Row.wordOf
+unfolding usedRows Row.rowOf
 P1-prepared = record {
   compiled = compiled refl refl (worked .0 .P1);
   valid = run-table P1-lent P1-code .done 6 .0 P1-run .0 .valid;

@@ -7,7 +7,7 @@ use Rattle.text.specs.Lines.{digits, decimal, spaced, line, wordLine}
 use Rattle.code.specs.Instruction as Code
 use Rattle.code.specs.Words.{goodWord, badWord}
 use Rattle.terms.specs.Row as Row
-use Rattle.terms.specs.Rules.{usedRows, knownTag, unusedZero, numberFits, partsBelow, keyFits, earlierEqual, badRow, badTerm}
+use Rattle.terms.specs.Rules.{usedRows, knownTag, isPacked, numberFits, partsBelow, keyKindFits, earlierEqual, badTermRow, badTerm}
 use Rattle.terms.specs.Finder.{equalRow, locate}
 use Rattle.stores.specs.Cells.{held, cellOf, storeOf, cellsFrom}
 use Rattle.stores.specs.Certificates.{agentOf, keyOf, spareOf, certified, pairFits, agentsOnce}
@@ -29,5 +29,5 @@ use Rattle.printing.specs.Listing.{codeLines, cellLines, listing}
 use Rattle.promises.specs.Listing.{Printed}
 
 pub printed : Printed
-unfolding flatMap number bytesOf words spelled lowestFrom each oneOf digits decimal spaced line wordLine Code.wordOf Code.instructionOf goodWord badWord Row.wordOf Row.tagOf Row.shapeOf usedRows knownTag unusedZero numberFits partsBelow keyFits earlierEqual badRow badTerm equalRow locate held cellOf storeOf cellsFrom agentOf keyOf spareOf certified pairFits agentsOnce kindsFit eachVariable declared valid count fieldsOf Patterns.repeats Patterns.badRow Patterns.unnamed Patterns.badPattern patternsFrom patternsOf patternOf wrongKind put puts creatable message setMessage setMessages messages behind andThen readable occupied addRaw emit first usedPart compile stateOver leftBy linesFrom run headerOf bundleOf readBundle codeLines cellLines listing
+unfolding flatMap number bytesOf words spelled lowestFrom each oneOf digits decimal spaced line wordLine Code.wordOf Code.instructionOf goodWord badWord Row.rowOf Row.tagOf Row.shapeOf usedRows knownTag isPacked numberFits partsBelow keyKindFits earlierEqual badTermRow badTerm equalRow locate held cellOf storeOf cellsFrom agentOf keyOf spareOf certified pairFits agentsOnce kindsFit eachVariable declared valid count fieldsOf Patterns.repeats Patterns.badRow Patterns.unnamed Patterns.badPattern patternsFrom patternsOf patternOf wrongKind put puts creatable message setMessage setMessages messages behind andThen readable occupied addRaw emit first usedPart compile stateOver leftBy linesFrom run headerOf bundleOf readBundle codeLines cellLines listing
 printed = record { example = refl }

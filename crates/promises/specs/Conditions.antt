@@ -7,6 +7,7 @@ use mathlib.Core.List.{List}
 use lib.ListN.{length, getD}
 use Rattle.word.specs.Lowest.{LowestWith, NoneWith, LowestBad, AllGood}
 use Rattle.code.specs.GoodWords.{LowestBadWord, AllGoodWords}
+use Rattle.terms.specs.Row.{rowAt}
 use Rattle.terms.specs.Rules.{usedRows}
 use Rattle.terms.specs.Table.{Sound}
 use Rattle.stores.specs.Cells.{unset}
@@ -74,7 +75,7 @@ RunWithin x code = LentWithin x × (length code ≤ mostCodeWords)
 
 -- 2: the lowest row that breaks a rule
 abbrev pub BadTermAt : Lent → ℕ → Type 0
-BadTermAt x row = LowestBad (λ row. Sound (x .terms) (x .counter) row (getD (x .terms) row 0)) (length (x .terms)) row
+BadTermAt x row = LowestBad (λ row. Sound (x .terms) (x .counter) row (rowAt (x .terms) row)) (length (x .terms)) row
 
 -- 9: the lowest bad word
 abbrev pub BadWordAt : Lent → List ℕ → ℕ → Type 0

@@ -6,7 +6,7 @@ use mathlib.Core.Option.{some}
 use mathlib.Core.List.{List, [], _∷_}
 use lib.ListN.{replicate}
 use Rattle.terms.specs.Shape as Shape
-use Rattle.terms.specs.Row.{wordOf}
+use Rattle.terms.specs.Row.{rowOf}
 use Rattle.stores.specs.Cells.{unset}
 use Rattle.theory.specs.TermModel.{Term, atom, encrypted, tupled, cons, nil}
 use Rattle.calls.specs.Run.{Lent, run}
@@ -19,7 +19,7 @@ abbrev pub P1-pattern : List ℕ
 P1-pattern = objectRow 0 ∷ rawRow 0 ∷ tupleRow 1 (0 ∷ 1 ∷ []) ∷ []
 
 abbrev pub P1-lent : Lent
-P1-lent = lent (2 ∷ 10 ∷ []) [] 2 (wordOf (Shape.atom 2 3) ∷ wordOf (Shape.atom 3 1) ∷ wordOf (Shape.tupled (0 ∷ 1 ∷ [])) ∷ replicate 6 0) 4
+P1-lent = lent (2 ∷ 10 ∷ []) [] 2 (rowOf (Shape.atom 2 3) ∷ rowOf (Shape.atom 3 1) ∷ rowOf (Shape.tupled (0 ∷ 1 ∷ [])) ∷ replicate 6 0) 4
 
 -- the tuple of nonce 3 and agent 1
 abbrev pub P1-message : Term

@@ -16,7 +16,7 @@ use Rattle.code.specs.declared.Instruction.{Instruction}
 use Rattle.code.specs.declared.Instruction.the-variants.{StoreConst, Decode, Create, AnalyzeTuple, CreateTuple, Opposite}
 use Rattle.theory.specs.RowModel.{rowWorld}
 use Rattle.theory.specs.Machine.{step}
-use Rattle.machine.specs.Machine.{Slices, stateAt, Agrees, Does}
+use Rattle.machine.specs.Machine.{Slices, stateAt, Agrees, DoesStep}
 use Rattle.machine.specs.declared.Registers.{Registers}
 use Rattle.machine.specs.declared.Step.{Step}
 
@@ -53,10 +53,10 @@ module _ (kind : ℕ → ℕ) (instruction : Instruction) (fits : T (operandsFit
 
 -- a method that does the step of the instruction at hand
 pub stepped : (kind : ℕ → ℕ) (g : Registers) (before after : Slices → Slices) {answer : Step} (x y : Slices) {i i′ : Instruction} → i ≡ i′
-    → Does kind i′ g before answer after → before x ≡ x → after x ≡ y → Agrees x (step rowWorld kind (g .place) i (stateAt g x)) answer y
+    → DoesStep kind i′ g before answer after → before x ≡ x → after x ≡ y → Agrees x (step rowWorld kind (g .place) i (stateAt g x)) answer y
 stepped kind g before after x y e does b a = rw (e, ← a) (rw b at (does x))
 
 -- the same of a method that looks at no kind
 pub stepped-alike : (kind : ℕ → ℕ) (g : Registers) (before after : Slices → Slices) {answer : Step} (x y : Slices) {i i′ : Instruction} → i ≡ i′
-    → ((kind : ℕ → ℕ) → Does kind i′ g before answer after) → before x ≡ x → after x ≡ y → Agrees x (step rowWorld kind (g .place) i (stateAt g x)) answer y
+    → ((kind : ℕ → ℕ) → DoesStep kind i′ g before answer after) → before x ≡ x → after x ≡ y → Agrees x (step rowWorld kind (g .place) i (stateAt g x)) answer y
 stepped-alike kind g before after x y e does b a = stepped kind g before after x y e (does kind) b a

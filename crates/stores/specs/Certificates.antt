@@ -3,11 +3,11 @@ use Prim.Native.Nat.{ℕ}
 use mathlib.Core.Bool.{Bool, true, false, not, _&&_}
 use mathlib.Core.Option.{Option, none, some}
 use mathlib.Core.List.{List, [], _∷_}
-use lib.ListN.{getD}
 use lib.Dec.{eqb, ltb}
+use Rattle.numbers.specs.Kinds.{agentKind, publicKey}
 use Rattle.word.specs.Fields.{split, at}
 use Rattle.word.specs.Lowest.{each}
-use Rattle.terms.specs.Row.{tagOf}
+use Rattle.terms.specs.Row.{tagOf, rowAt}
 
 abbrev pub certificateWidths : List ℕ
 certificateWidths = 12 ∷ 12 ∷ 40 ∷ []
@@ -29,8 +29,8 @@ certified (word ∷ rest) agent = elim (eqb (agentOf word) agent) [ true ↦ som
 -- a pair of an agent row and a public key row, both used
 unfoldable pub pairFits : List ℕ → ℕ → ℕ → Bool
 pairFits rows used word =
-    eqb (spareOf word) 0 && ltb (agentOf word) used && eqb (tagOf (getD rows (agentOf word) 0)) 3 && ltb (keyOf word) used
-    && eqb (tagOf (getD rows (keyOf word) 0)) 4
+    eqb (spareOf word) 0 && ltb (agentOf word) used && eqb (tagOf (rowAt rows (agentOf word))) agentKind && ltb (keyOf word) used
+    && eqb (tagOf (rowAt rows (keyOf word))) publicKey
 
 -- no agent twice
 unfoldable pub agentsOnce : List ℕ → Bool

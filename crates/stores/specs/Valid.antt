@@ -2,16 +2,16 @@
 use Prim.Native.Nat.{ℕ}
 use mathlib.Core.Bool.{Bool, true, not, _&&_, _||_}
 use mathlib.Core.List.{List, [], _∷_}
-use lib.ListN.{getD}
 use lib.Dec.{eqb, leb, ltb}
+use Rattle.numbers.specs.Kinds.{tupleKind}
 use Rattle.word.specs.Lowest.{each}
-use Rattle.terms.specs.Row.{tagOf}
+use Rattle.terms.specs.Row.{tagOf, rowAt}
 use Rattle.stores.specs.Cells.{isSet}
 use Rattle.stores.specs.Certificates.{pairFits, agentsOnce}
 
--- a kind is at most 10; 0 means undeclared
+-- a kind is at most that of a tuple; 0 means undeclared
 unfoldable pub kindsFit : List ℕ → Bool
-kindsFit kinds = each (λ kind. leb kind 10) kinds
+kindsFit kinds = each (λ kind. leb kind tupleKind) kinds
 
 -- a test of each variable's kind and cell
 unfoldable pub eachVariable : (ℕ → ℕ → Bool) → List ℕ → List ℕ → Bool
@@ -29,7 +29,7 @@ cellFits used cell = not (isSet cell) || ltb cell used
 
 -- a set object cell's row has the variable's kind
 abbrev pub objectFits : List ℕ → ℕ → ℕ → ℕ → Bool
-objectFits rows used kind cell = undeclaredUnset kind cell && cellFits used cell && (not (isSet cell) || eqb (tagOf (getD rows cell 0)) kind)
+objectFits rows used kind cell = undeclaredUnset kind cell && cellFits used cell && (not (isSet cell) || eqb (tagOf (rowAt rows cell)) kind)
 
 -- 3, as compile sees it: which cells are set, and no more
 unfoldable pub declared : List ℕ → List ℕ → Bool

@@ -4,16 +4,17 @@ use mathlib.Core.Path.{_≡_}
 use mathlib.Core.Logic.{_⊎_, _≢_}
 use mathlib.Core.List.{List, [], _∷_}
 use lib.ListN.{length, getD}
+use Rattle.numbers.specs.Kinds.{agentKind, publicKey, tupleKind, kindIn}
 use Rattle.word.specs.All.{All}
-use Rattle.terms.specs.Row.{tagOf}
+use Rattle.terms.specs.Row.{tagOf, rowAt}
 use Rattle.stores.specs.Cells.{unset}
 use Rattle.stores.specs.Certificates.{agentOf, keyOf, spareOf}
 
 -- a pair of an agent row and a public key row, both used
 pub record GoodPair (rows : List ℕ) (used word : ℕ) : Type 0 where
   pub spare : spareOf word ≡ 0
-  pub agent : (agentOf word < used) × (tagOf (getD rows (agentOf word) 0) ≡ 3)
-  pub key : (keyOf word < used) × (tagOf (getD rows (keyOf word) 0) ≡ 4)
+  pub agent : (agentOf word < used) × (tagOf (rowAt rows (agentOf word)) ≡ agentKind)
+  pub key : (keyOf word < used) × (tagOf (rowAt rows (keyOf word)) ≡ publicKey)
 
 -- no agent twice
 abbrev pub AgentsOnce : List ℕ → Type 0
@@ -26,7 +27,7 @@ pub record ValidCertificates (rows : List ℕ) (used : ℕ) (certificates : List
 
 -- what is asked of each variable's kind and cell
 abbrev pub EachVariable : (ℕ → ℕ → Type 0) → List ℕ → List ℕ → Type 0
-EachVariable P kinds cells = (v : ℕ) → v < length kinds → v < length cells → P (getD kinds v 0) (getD cells v unset)
+EachVariable P kinds cells = (v : ℕ) → v < length kinds → v < length cells → P (kindIn kinds v) (getD cells v unset)
 
 -- the cell of an undeclared variable is unset
 abbrev pub UndeclaredUnset : ℕ → ℕ → Type 0
@@ -34,15 +35,15 @@ UndeclaredUnset kind cell = kind ≡ 0 → cell ≡ unset
 
 -- a set object cell holds a used row of the variable's kind
 abbrev pub HoldsKind : List ℕ → ℕ → ℕ → ℕ → Type 0
-HoldsKind rows used kind cell = cell ≢ unset → (cell < used) × (tagOf (getD rows cell 0) ≡ kind)
+HoldsKind rows used kind cell = cell ≢ unset → (cell < used) × (tagOf (rowAt rows cell) ≡ kind)
 
 -- a cell is unset or a used row
 abbrev pub UnsetOrUsed : ℕ → ℕ → Type 0
 UnsetOrUsed used cell = (cell ≡ unset) ⊎ (cell < used)
 
--- each kind is at most 10
+-- each kind is at most that of a tuple
 abbrev pub KnownKinds : List ℕ → Type 0
-KnownKinds kinds = All (λ kind. kind ≤ 10) kinds
+KnownKinds kinds = All (λ kind. kind ≤ tupleKind) kinds
 
 -- not 3, as compile sees it
 pub record Declared (kinds objects : List ℕ) : Type 0 where

@@ -5,11 +5,15 @@ ghost use lib.ListN.{length};
 ghost use Rattle.word.specs.Lowest.{each};
 ghost use Rattle.stores.specs.Cells.{isSet};
 ghost use Rattle.stores.specs.Valid.{kindsFit, eachVariable, undeclaredUnset, cellFits, declared};
+use numbers::kinds::TUPLE;
+
+// What stands in a cell that holds no row.
+pub const UNSET: u16 = 65535;
 
 pub fn is_set(cell: u32) -> bool
     ensures { λ r. ⌜ r ≡ isSet cell ⌝ }
 {
-    cell != 65535
+    cell != UNSET as u32
 }
 
 // A cell is unset or a used row.
@@ -30,13 +34,13 @@ pub fn cells_fit(used: u16, cells: &[u16]) -> bool
     fit
 }
 
-// A kind is at most 10.
+// A kind is at most that of a tuple.
 pub fn kinds_fit(kinds: &[u8]) -> bool
     ensures { λ r. ⌜ r ≡ kindsFit (now (kinds .entry)) ⌝ }
 {
     let mut fit = true;
     for i in 0..kinds.len() {
-        fit = fit & (kinds[i] <= 10);
+        fit = fit & (kinds[i] <= TUPLE);
     }
     fit
 }

@@ -9,16 +9,16 @@ ghost use Rattle.stores.specs.Answer.{certificateOf};
 use super::Certificate;
 use numbers::TermRow;
 
-pub fn agent(word: u64) -> u16
-    ensures { λ r. ⌜ r ≡ agentOf word ⌝ }
+pub fn agent(word: u64) -> TermRow
+    ensures { λ r. ⌜ r .0 ≡ agentOf word ⌝ }
 {
-    ((word >> 52) % 4096) as u16
+    TermRow(((word >> 52) % 4096) as u16)
 }
 
-pub fn key(word: u64) -> u16
-    ensures { λ r. ⌜ r ≡ keyOf word ⌝ }
+pub fn key(word: u64) -> TermRow
+    ensures { λ r. ⌜ r .0 ≡ keyOf word ⌝ }
 {
-    ((word >> 40) % 4096) as u16
+    TermRow(((word >> 40) % 4096) as u16)
 }
 
 pub fn spare(word: u64) -> u64
@@ -28,14 +28,14 @@ pub fn spare(word: u64) -> u64
 }
 
 // The public key row of an agent row.
-pub fn certified(certificates: &[u64], agent: u16) -> Certificate
-    ensures { λ r. ⌜ r ≡ certificateOf (certified (now (certificates .entry)) agent) ⌝ }
+pub fn certified(certificates: &[u64], agent: TermRow) -> Certificate
+    ensures { λ r. ⌜ r ≡ certificateOf (certified (now (certificates .entry)) (agent .0)) ⌝ }
 {
     let mut i = 0;
     while i < certificates.len() {
         let word = certificates[i];
-        if self::agent(word) == agent {
-            return Certificate::Key(TermRow(key(word)));
+        if self::agent(word).0 == agent.0 {
+            return Certificate::Key(key(word));
         }
         i += 1;
     }
@@ -43,12 +43,12 @@ pub fn certified(certificates: &[u64], agent: u16) -> Certificate
 }
 
 // An agent stands nowhere among the certificates from a place on.
-fn stands_nowhere(certificates: &[u64], from: usize, agent: u16) -> bool
-    ensures { λ r. ⌜ r ≡ each (λ other. not (eqb (agentOf other) agent)) (drop from (now (certificates .entry))) ⌝ }
+fn stands_nowhere(certificates: &[u64], from: usize, agent: TermRow) -> bool
+    ensures { λ r. ⌜ r ≡ each (λ other. not (eqb (agentOf other) (agent .0))) (drop from (now (certificates .entry))) ⌝ }
 {
     let mut i = from;
     while i < certificates.len() {
-        if self::agent(certificates[i]) == agent {
+        if self::agent(certificates[i]).0 == agent.0 {
             return false;
         }
         i += 1;

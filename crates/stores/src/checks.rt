@@ -1,15 +1,17 @@
 // Valid stores: refusal 3.
 ghost use mathlib.Core.Path.{_≡_};
-ghost use lib.ListN.{getD};
 ghost use Rattle.word.specs.Lowest.{each};
-ghost use Rattle.terms.specs.Row.{tagOf};
+ghost use Rattle.terms.specs.Row.{tagOf, rowAt};
 ghost use Rattle.stores.specs.Certificates.{pairFits};
 ghost use Rattle.stores.specs.Valid.{eachVariable, objectFits, valid};
 use crate::cells;
 use crate::certificates;
+use numbers::TermRow;
+use numbers::kinds::AGENT;
+use numbers::kinds::PUBLIC_KEY;
 
-fn tag_at(rows: &[u64], row: u16) -> u64
-    ensures { λ r. ⌜ r ≡ tagOf (getD (now (rows .entry)) row 0) ⌝ }
+fn tag_at(rows: &[u64], row: TermRow) -> u8
+    ensures { λ r. ⌜ r ≡ tagOf (rowAt (now (rows .entry)) (row .0)) ⌝ }
 {
     terms::tag(terms::row_at(rows, row))
 }
@@ -21,7 +23,7 @@ fn object_fits(rows: &[u64], used: u16, kind: u8, cell: u16) -> bool
     let row = cell as u32;
     cells::undeclared_unset(kind, row)
         & cells::cell_fits(used, row)
-        & (!cells::is_set(row) | (tag_at(rows, cell) == kind as u64))
+        & (!cells::is_set(row) | (tag_at(rows, TermRow(cell)) == kind))
 }
 
 fn objects_fit(rows: &[u64], used: u16, kinds: &[u8], objects: &[u16]) -> bool
@@ -45,10 +47,10 @@ fn pair_fits(rows: &[u64], used: u16, word: u64) -> bool
     let agent = certificates::agent(word);
     let key = certificates::key(word);
     (certificates::spare(word) == 0)
-        & (agent < used)
-        & (tag_at(rows, agent) == 3)
-        & (key < used)
-        & (tag_at(rows, key) == 4)
+        & (agent.0 < used)
+        & (tag_at(rows, agent) == AGENT)
+        & (key.0 < used)
+        & (tag_at(rows, key) == PUBLIC_KEY)
 }
 
 fn pairs_fit(rows: &[u64], used: u16, certificates: &[u64]) -> bool

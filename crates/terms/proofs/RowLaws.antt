@@ -12,8 +12,8 @@ use Rattle.word.specs.Fields.{split, join, at}
 use Rattle.word.proofs.FieldLaws.{Fit, fit-equal, padded, padded-front, split-join-padded, join-below}
 use Rattle.word.proofs.All.{All}
 use Rattle.terms.specs.Shape.{Shape, atom, encrypted, signed, hashed, tupled, kindOf}
-use Rattle.terms.specs.Row.{rowWidths, atomWidths, wordOf, tagOf, shapeBy, shapeOf}
-use Rattle.terms.specs.Rules.{unusedZero}
+use Rattle.terms.specs.Row.{termWidths, atomWidths, rowOf, tagOf, shapeBy, shapeOf}
+use Rattle.terms.specs.Rules.{isPacked}
 
 -- a row can hold the shape: at most four parts, row numbers of 12 bits, and numbers of 16
 abbrev pub Packs : Shape ℕ → Type 0
@@ -46,10 +46,10 @@ shape-atom tag word small =
 -- the fields that are packed
 abbrev widthsOf : Shape ℕ → List ℕ
 widthsOf (atom tag number) = atomWidths
-widthsOf (encrypted key body) = rowWidths
-widthsOf (signed key body) = rowWidths
-widthsOf (hashed body) = rowWidths
-widthsOf (tupled parts) = rowWidths
+widthsOf (encrypted key body) = termWidths
+widthsOf (signed key body) = termWidths
+widthsOf (hashed body) = termWidths
+widthsOf (tupled parts) = termWidths
 
 abbrev fieldsOf : Shape ℕ → List ℕ
 fieldsOf (atom tag number) = tag ∷ 0 ∷ number ∷ []
@@ -68,34 +68,34 @@ fields-fit (tupled parts) packs = (omega arith, (omega arith, (omega arith, fit-
 fields-back : (shape : Shape ℕ) → Packs shape → split (widthsOf shape) (join (widthsOf shape) (fieldsOf shape)) ≡ padded (widthsOf shape) (fieldsOf shape)
 fields-back shape packs = split-join-padded (widthsOf shape) (fieldsOf shape) (fields-fit shape packs)
 
-pub tag-word : (shape : Shape ℕ) → Packs shape → tagOf (wordOf shape) ≡ kindOf shape
-unfolding tagOf wordOf
+pub tag-word : (shape : Shape ℕ) → Packs shape → tagOf (rowOf shape) ≡ kindOf shape
+unfolding tagOf rowOf
 tag-word (atom tag number) packs = ap (at 0) (fields-back (atom tag number) packs)
 tag-word (encrypted key body) packs = ap (at 0) (fields-back (encrypted key body) packs)
 tag-word (signed key body) packs = ap (at 0) (fields-back (signed key body) packs)
 tag-word (hashed body) packs = ap (at 0) (fields-back (hashed body) packs)
 tag-word (tupled parts) packs = ap (at 0) (fields-back (tupled parts) packs)
 
-shape-fields : (shape : Shape ℕ) → Packs shape → shapeBy (kindOf shape) (wordOf shape) ≡ shape
-unfolding wordOf
+shape-fields : (shape : Shape ℕ) → Packs shape → shapeBy (kindOf shape) (rowOf shape) ≡ shape
+unfolding rowOf
 shape-fields (atom tag number) packs =
-    shape-atom tag (wordOf (atom tag number)) (packs .1) ∙ ap (λ f. atom tag (at 2 f)) (fields-back (atom tag number) packs)
+    shape-atom tag (rowOf (atom tag number)) (packs .1) ∙ ap (λ f. atom tag (at 2 f)) (fields-back (atom tag number) packs)
 shape-fields (encrypted key body) packs = ap (λ f. encrypted (at 3 f) (at 4 f)) (fields-back (encrypted key body) packs)
 shape-fields (signed key body) packs = ap (λ f. signed (at 3 f) (at 4 f)) (fields-back (signed key body) packs)
 shape-fields (hashed body) packs = ap (λ f. hashed (at 3 f)) (fields-back (hashed body) packs)
 shape-fields (tupled parts) packs =
     ap (λ f. tupled (take (at 1 f) (drop 3 f))) (fields-back (tupled parts) packs) ∙ ap tupled (padded-front (replicate 4 12) parts (packs .0))
 
-pub shape-word : (shape : Shape ℕ) → Packs shape → shapeOf (wordOf shape) ≡ shape
+pub shape-word : (shape : Shape ℕ) → Packs shape → shapeOf (rowOf shape) ≡ shape
 unfolding shapeOf
-shape-word shape packs = ap (λ tag. shapeBy tag (wordOf shape)) (tag-word shape packs) ∙ shape-fields shape packs
+shape-word shape packs = ap (λ tag. shapeBy tag (rowOf shape)) (tag-word shape packs) ∙ shape-fields shape packs
 
 -- a good row is the word of its shape
-pub word-shape : (word : ℕ) → T (unusedZero word) → wordOf (shapeOf word) ≡ word
-unfolding unusedZero
-word-shape word same = eqb→eq (wordOf (shapeOf word)) word same
+pub word-shape : (word : ℕ) → T (isPacked word) → rowOf (shapeOf word) ≡ word
+unfolding isPacked
+word-shape word same = eqb→eq (rowOf (shapeOf word)) word same
 
-pub word-injective : (shape other : Shape ℕ) → Packs shape → Packs other → wordOf shape ≡ wordOf other → shape ≡ other
+pub word-injective : (shape other : Shape ℕ) → Packs shape → Packs other → rowOf shape ≡ rowOf other → shape ≡ other
 word-injective shape other packs fits same = sym (shape-word shape packs) ∙ ap shapeOf same ∙ shape-word other fits
 
 pub kind-known : (shape : Shape ℕ) → Packs shape → (1 ≤ kindOf shape) × (kindOf shape ≤ 10)
@@ -110,13 +110,13 @@ pub tag-nonzero : (word : ℕ) → 1 ≤ tagOf word → word ≢ 0
 unfolding tagOf
 tag-nonzero word known zeros = omega (arith, ap tagOf zeros)
 
-pub word-nonzero : (shape : Shape ℕ) → Packs shape → wordOf shape ≢ 0
-word-nonzero shape packs = tag-nonzero (wordOf shape) (rw tag-word (kind-known shape packs .0))
+pub word-nonzero : (shape : Shape ℕ) → Packs shape → rowOf shape ≢ 0
+word-nonzero shape packs = tag-nonzero (rowOf shape) (rw tag-word (kind-known shape packs .0))
 
-pub word-below : (shape : Shape ℕ) → Packs shape → wordOf shape < 2 ^ 64
-unfolding wordOf
+pub word-below : (shape : Shape ℕ) → Packs shape → rowOf shape < 2 ^ 64
+unfolding rowOf
 word-below (atom tag number) packs = join-below atomWidths (tag ∷ 0 ∷ number ∷ []) (fields-fit (atom tag number) packs)
-word-below (encrypted key body) packs = join-below rowWidths (7 ∷ 0 ∷ 0 ∷ key ∷ body ∷ []) (fields-fit (encrypted key body) packs)
-word-below (signed key body) packs = join-below rowWidths (8 ∷ 0 ∷ 0 ∷ key ∷ body ∷ []) (fields-fit (signed key body) packs)
-word-below (hashed body) packs = join-below rowWidths (9 ∷ 0 ∷ 0 ∷ body ∷ []) (fields-fit (hashed body) packs)
-word-below (tupled parts) packs = join-below rowWidths (10 ∷ length parts ∷ 0 ∷ parts) (fields-fit (tupled parts) packs)
+word-below (encrypted key body) packs = join-below termWidths (7 ∷ 0 ∷ 0 ∷ key ∷ body ∷ []) (fields-fit (encrypted key body) packs)
+word-below (signed key body) packs = join-below termWidths (8 ∷ 0 ∷ 0 ∷ key ∷ body ∷ []) (fields-fit (signed key body) packs)
+word-below (hashed body) packs = join-below termWidths (9 ∷ 0 ∷ 0 ∷ body ∷ []) (fields-fit (hashed body) packs)
+word-below (tupled parts) packs = join-below termWidths (10 ∷ length parts ∷ 0 ∷ parts) (fields-fit (tupled parts) packs)

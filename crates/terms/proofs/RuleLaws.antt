@@ -17,9 +17,9 @@ use Rattle.word.proofs.OneOfLaws.{one-here, one-later, one-last}
 use Rattle.word.proofs.ScanLaws.{placed-at, placed-nowhere, Left, scan-hit, scan-miss, each-stop, each-next, each-end}
 use Rattle.terms.specs.declared.Checked.the-variants.{Bad, Used}
 use Rattle.terms.specs.Shape.{Shape, atom, encrypted, signed, hashed, tupled, partsOf}
-use Rattle.terms.specs.Row.{wordOf, tagOf, shapeOf}
+use Rattle.terms.specs.Row.{rowOf, tagOf, shapeOf}
 use Rattle.terms.specs.Finder.{equalRow}
-use Rattle.terms.specs.Rules.{knownTag, unusedZero, numberFits, partsBelow, keyFits, earlierEqual, usedRows, fits, badRow, nonzeroRow, badTerm, checkedBy, checked}
+use Rattle.terms.specs.Rules.{knownTag, isPacked, numberFits, partsBelow, keyKindFits, earlierEqual, usedRows, fits, badTermRow, nonzeroRow, badTerm, checkedBy, checked}
 use Rattle.terms.proofs.TableLaws.{used-rows}
 use Rattle.terms.proofs.ShapeLaws.{field, slotsOf, numberOf, Plain, shape-encrypted, shape-signed, shape-hashed, shape-tupled, shape-atom, by-tag, parts-taken, parts-at}
 
@@ -63,34 +63,34 @@ pub ruleset slots-ways = (slots-encrypted, slots-signed, slots-hashed, slots-tup
 
 -- the word that was made of a row's fields is compared with the row
 module _ (word : ℕ) where
-  unused : (made : ℕ) (shape : Shape ℕ) → shapeOf word ≡ shape → made ≡ wordOf shape → eqb made word ≡ unusedZero word
-  unfolding unusedZero
-  unused made shape e q = rw (e, q)
+  packed : (made : ℕ) (shape : Shape ℕ) → shapeOf word ≡ shape → made ≡ rowOf shape → eqb made word ≡ isPacked word
+  unfolding isPacked
+  packed made shape e q = rw (e, q)
 
 module _ (word tag : ℕ) (is : tag ≡ tagOf word) where
-  pub unused-encrypted : (key body made : ℕ) → tag ≡ 7 → key ≡ field 3 word → body ≡ field 4 word
-      → made ≡ wordOf (encrypted key body) → eqb made word ≡ unusedZero word
-  unused-encrypted key body made e k b q = unused word made _ (shape-encrypted word (sym is ∙ e)) (rw (k, b) at q)
+  pub packed-encrypted : (key body made : ℕ) → tag ≡ 7 → key ≡ field 3 word → body ≡ field 4 word
+      → made ≡ rowOf (encrypted key body) → eqb made word ≡ isPacked word
+  packed-encrypted key body made e k b q = packed word made _ (shape-encrypted word (sym is ∙ e)) (rw (k, b) at q)
 
-  pub unused-signed : (key body made : ℕ) → tag ≡ 8 → key ≡ field 3 word → body ≡ field 4 word
-      → made ≡ wordOf (signed key body) → eqb made word ≡ unusedZero word
-  unused-signed key body made e k b q = unused word made _ (shape-signed word (sym is ∙ e)) (rw (k, b) at q)
+  pub packed-signed : (key body made : ℕ) → tag ≡ 8 → key ≡ field 3 word → body ≡ field 4 word
+      → made ≡ rowOf (signed key body) → eqb made word ≡ isPacked word
+  packed-signed key body made e k b q = packed word made _ (shape-signed word (sym is ∙ e)) (rw (k, b) at q)
 
-  pub unused-hashed : (body made : ℕ) → tag ≡ 9 → body ≡ field 3 word → made ≡ wordOf (hashed body) → eqb made word ≡ unusedZero word
-  unused-hashed body made e b q = unused word made _ (shape-hashed word (sym is ∙ e)) (rw b at q)
+  pub packed-hashed : (body made : ℕ) → tag ≡ 9 → body ≡ field 3 word → made ≡ rowOf (hashed body) → eqb made word ≡ isPacked word
+  packed-hashed body made e b q = packed word made _ (shape-hashed word (sym is ∙ e)) (rw b at q)
 
-  pub unused-tupled : (slots : List ℕ) (n made : ℕ) → tag ≡ 10 → slots ≡ slotsOf word → n ≡ length (partsOf (shapeOf word))
-      → made ≡ wordOf (tupled (take n slots)) → eqb made word ≡ unusedZero word
-  unused-tupled slots n made e s k q =
+  pub packed-tupled : (slots : List ℕ) (n made : ℕ) → tag ≡ 10 → slots ≡ slotsOf word → n ≡ length (partsOf (shapeOf word))
+      → made ≡ rowOf (tupled (take n slots)) → eqb made word ≡ isPacked word
+  packed-tupled slots n made e s k q =
       let shape = shape-tupled word (sym is ∙ e) in
       let parts : take n slots ≡ partsOf (shapeOf word) = rw (s, k) (sym (parts-taken word)) in
-      unused word made (tupled (partsOf (shapeOf word))) (shape ∙ ap (λ (s : Shape ℕ). tupled (partsOf s)) (sym shape)) (rw parts at q)
+      packed word made (tupled (partsOf (shapeOf word))) (shape ∙ ap (λ (s : Shape ℕ). tupled (partsOf s)) (sym shape)) (rw parts at q)
 
-  pub unused-atom : (number made : ℕ) → (tag ≡ 7 → ⊥) → (tag ≡ 8 → ⊥) → (tag ≡ 9 → ⊥) → (tag ≡ 10 → ⊥)
-      → number ≡ numberOf word → made ≡ wordOf (atom tag number) → eqb made word ≡ unusedZero word
-  unused-atom number made a b c d n q = unused word made _ (shape-atom word (λ low high. omega arith)) (rw (is, n) at q)
+  pub packed-atom : (number made : ℕ) → (tag ≡ 7 → ⊥) → (tag ≡ 8 → ⊥) → (tag ≡ 9 → ⊥) → (tag ≡ 10 → ⊥)
+      → number ≡ numberOf word → made ≡ rowOf (atom tag number) → eqb made word ≡ isPacked word
+  packed-atom number made a b c d n q = packed word made _ (shape-atom word (λ low high. omega arith)) (rw (is, n) at q)
 
-pub ruleset unused-ways = (unused-encrypted, unused-signed, unused-hashed, unused-tupled, unused-atom)
+pub ruleset packed-ways = (packed-encrypted, packed-signed, packed-hashed, packed-tupled, packed-atom)
 
 -- the rule of a number
 module _ (word tag : ℕ) (is : tag ≡ tagOf word) (counter : ℕ) where
@@ -136,19 +136,19 @@ below-end row word slot h below = sym (each-end _ _ (partsOf (shapeOf word)) 0 s
 -- the rule of a key
 module _ (rows : List ℕ) (word tag : ℕ) (is : tag ≡ tagOf word) where
   pub key-encrypted : (key : ℕ) (fit : Bool) → tag ≡ 7 → key ≡ field 3 word → fit ≡ oneOf (4 ∷ 6 ∷ []) (tagOf (getD rows key 0))
-      → fit ≡ keyFits rows (shapeOf word)
-  unfolding keyFits
+      → fit ≡ keyKindFits rows (shapeOf word)
+  unfolding keyKindFits
   key-encrypted key fit e k f = rw (shape-encrypted word (sym is ∙ e), ← k) f
 
   pub key-signed : (key : ℕ) (fit : Bool) → tag ≡ 8 → key ≡ field 3 word → fit ≡ oneOf (5 ∷ 6 ∷ []) (tagOf (getD rows key 0))
-      → fit ≡ keyFits rows (shapeOf word)
-  unfolding keyFits
+      → fit ≡ keyKindFits rows (shapeOf word)
+  unfolding keyKindFits
   key-signed key fit e k f = rw (shape-signed word (sym is ∙ e), ← k) f
 
-  pub key-none : (tag ≡ 7 → ⊥) → (tag ≡ 8 → ⊥) → true ≡ keyFits rows (shapeOf word)
-  unfolding keyFits
+  pub key-none : (tag ≡ 7 → ⊥) → (tag ≡ 8 → ⊥) → true ≡ keyKindFits rows (shapeOf word)
+  unfolding keyKindFits
   key-none a b =
-      by-tag word (λ (shape : Shape ℕ). true ≡ keyFits rows shape) (λ e. absurd (a (is ∙ e))) (λ e. absurd (b (is ∙ e)))
+      by-tag word (λ (shape : Shape ℕ). true ≡ keyKindFits rows shape) (λ e. absurd (a (is ∙ e))) (λ e. absurd (b (is ∙ e)))
       (λ e. refl) (λ e. refl) (λ plain. refl)
 
 pub ruleset key-ways = (key-encrypted, key-signed, key-none)
@@ -196,10 +196,10 @@ pub ruleset earlier-ways = (earlier-there, earlier-nowhere)
 
 -- the check of a table: a loop over its used rows
 module _ (rows : List ℕ) (counter used : ℕ) (is : used ≡ usedRows rows) where
-  module _ (row : ℕ) (passed : Left (badRow rows counter) rows row) (inside : row < used)
+  module _ (row : ℕ) (passed : Left (badTermRow rows counter) rows row) (inside : row < used)
       (fit : Bool) (fitting : fit ≡ fits rows counter row (getD rows row 0)) where
-    bad-used : not fit ≡ badRow rows counter row (getD rows row 0)
-    unfolding badRow
+    bad-used : not fit ≡ badTermRow rows counter row (getD rows row 0)
+    unfolding badTermRow
     bad-used = rw (← is, lt-ltb row used inside, ← fitting)
 
     within : row < length rows
@@ -207,24 +207,24 @@ module _ (rows : List ℕ) (counter used : ℕ) (is : used ≡ usedRows rows) wh
 
     pub checked-bad : not fit ≡ true → Bad row ≡ checked rows counter
     unfolding badTerm
-    checked-bad e = ap (λ (answer : Option ℕ). checkedBy answer rows) (sym (scan-hit (badRow rows counter) rows 0 row passed within (sym bad-used ∙ e)))
+    checked-bad e = ap (λ (answer : Option ℕ). checkedBy answer rows) (sym (scan-hit (badTermRow rows counter) rows 0 row passed within (sym bad-used ∙ e)))
 
-    pub checked-more : not fit ≡ false → Left (badRow rows counter) rows (row + 1)
-    checked-more e = scan-miss (badRow rows counter) rows 0 row passed within (sym bad-used ∙ e)
+    pub checked-more : not fit ≡ false → Left (badTermRow rows counter) rows (row + 1)
+    checked-more e = scan-miss (badTermRow rows counter) rows 0 row passed within (sym bad-used ∙ e)
 
-  bad-unused : (row word : ℕ) → used ≤ row → badRow rows counter row word ≡ not (eqb word 0)
-  unfolding badRow
+  bad-unused : (row word : ℕ) → used ≤ row → badTermRow rows counter row word ≡ not (eqb word 0)
+  unfolding badTermRow
   bad-unused row word h = rw (← is, le-ltb row used h)
 
-  bad-behind : (row : ℕ) (rest : List ℕ) → used ≤ row → lowestFrom row (badRow rows counter) rest ≡ lowestFrom row (λ row word. not (eqb word 0)) rest
+  bad-behind : (row : ℕ) (rest : List ℕ) → used ≤ row → lowestFrom row (badTermRow rows counter) rest ≡ lowestFrom row (λ row word. not (eqb word 0)) rest
   unfolding lowestFrom
   bad-behind row [] h = refl
   bad-behind row (word ∷ rest) h =
-      ap (λ (bad : Bool). elim bad [ true ↦ some row | false ↦ lowestFrom (suc row) (badRow rows counter) rest ]) (bad-unused row word h)
+      ap (λ (bad : Bool). elim bad [ true ↦ some row | false ↦ lowestFrom (suc row) (badTermRow rows counter) rest ]) (bad-unused row word h)
       ∙ ap (λ (later : Option ℕ). elim (not (eqb word 0)) [ true ↦ some row | false ↦ later ]) (bad-behind (suc row) rest (omega arith))
 
   -- and the rows behind them
-  module _ (row : ℕ) (passed : Left (badRow rows counter) rows row) (end : row ≡ used)
+  module _ (row : ℕ) (passed : Left (badTermRow rows counter) rows row) (end : row ≡ used)
       (behind : Place) (says : behind ≡ placeOf (nonzeroRow rows used)) where
     bad-term : badTerm rows counter ≡ nonzeroRow rows used
     unfolding badTerm nonzeroRow

@@ -9,14 +9,14 @@ use lib.Seq.{getD-take, getD-drop}
 use borrow.Author.Tests.{ne-eqb}
 use Rattle.word.specs.Fields.{split, at}
 use Rattle.terms.specs.Shape.{Shape, atom, encrypted, signed, hashed, tupled, partsOf}
-use Rattle.terms.specs.Row.{rowWidths, atomWidths, tagOf, shapeOf}
+use Rattle.terms.specs.Row.{termWidths, atomWidths, tagOf, shapeOf}
 
 -- short names for what a row's word holds
 abbrev pub field : ℕ → ℕ → ℕ
-field place word = at place (split rowWidths word)
+field place word = at place (split termWidths word)
 
 abbrev pub slotsOf : ℕ → List ℕ
-slotsOf word = drop 3 (split rowWidths word)
+slotsOf word = drop 3 (split termWidths word)
 
 abbrev pub numberOf : ℕ → ℕ
 numberOf word = at 2 (split atomWidths word)
@@ -84,4 +84,4 @@ module _ (word : ℕ) where
 
   pub parts-at : (slot : ℕ) → slot < length (partsOf (shapeOf word)) → getD (partsOf (shapeOf word)) slot 0 ≡ field (3 + slot) word
   parts-at slot h =
-      ap (λ (parts : List ℕ). getD parts slot 0) parts-taken ∙ getD-take _ (slotsOf word) slot 0 h ∙ getD-drop 3 (split rowWidths word) slot 0
+      ap (λ (parts : List ℕ). getD parts slot 0) parts-taken ∙ getD-take _ (slotsOf word) slot 0 h ∙ getD-drop 3 (split termWidths word) slot 0

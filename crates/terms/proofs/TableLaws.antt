@@ -14,9 +14,9 @@ use Rattle.word.specs.Lowest.{LowestBad, AllGood}
 use Rattle.word.proofs.TestLaws.{both, chosen, fails, equals, is-below, not-below, at-most}
 use Rattle.word.proofs.LowestLaws.{each-all, one-of, one-of-two, none-bad, lowest-bad}
 use Rattle.terms.specs.Shape.{Shape, atom, encrypted, signed, hashed, tupled, partsOf}
-use Rattle.terms.specs.Row.{wordOf, tagOf, shapeOf}
-use Rattle.terms.specs.Rules.{usedRows, knownTag, unusedZero, numberFits, partsBelow, keyFits, earlierEqual, fits, badRow, badTerm}
-use Rattle.terms.specs.Table.{NumberFits, PartsBelow, KeyFits, GoodRow, ValidTable, Sound}
+use Rattle.terms.specs.Row.{rowOf, tagOf, shapeOf}
+use Rattle.terms.specs.Rules.{usedRows, knownTag, isPacked, numberFits, partsBelow, keyKindFits, earlierEqual, fits, badTermRow, badTerm}
+use Rattle.terms.specs.Table.{NumberFits, PartsBelow, KeyKindFits, GoodTerm, ValidTable, Sound}
 use Rattle.terms.proofs.RowLaws.{Packs, kind-known, tag-word, shape-word, tag-nonzero}
 
 -- each rule, as a test and as a proposition
@@ -24,9 +24,9 @@ known-tag : (word : ℕ) → T (knownTag word) ↔ ((1 ≤ tagOf word) × (tagOf
 unfolding knownTag
 known-tag word = simp (both, at-most) Iff·rfl
 
-unused-zero : (word : ℕ) → T (unusedZero word) ↔ (wordOf (shapeOf word) ≡ word)
-unfolding unusedZero
-unused-zero word = equals (wordOf (shapeOf word)) word
+unused-zero : (word : ℕ) → T (isPacked word) ↔ (rowOf (shapeOf word) ≡ word)
+unfolding isPacked
+unused-zero word = equals (rowOf (shapeOf word)) word
 
 number-fits : (counter : ℕ) (shape : Shape ℕ) → T (numberFits counter shape) ↔ NumberFits counter shape
 unfolding numberFits
@@ -41,8 +41,8 @@ parts-below : (row : ℕ) (shape : Shape ℕ) → T (partsBelow row shape) ↔ P
 unfolding partsBelow
 parts-below row shape = each-all (λ part. ltb part row) (λ part. part < row) (λ part. is-below part row) (partsOf shape)
 
-key-fits : (rows : List ℕ) (shape : Shape ℕ) → T (keyFits rows shape) ↔ KeyFits rows shape
-unfolding keyFits
+key-fits : (rows : List ℕ) (shape : Shape ℕ) → T (keyKindFits rows shape) ↔ KeyKindFits rows shape
+unfolding keyKindFits
 key-fits rows (atom tag number) = Iff·rfl
 key-fits rows (encrypted key body) = one-of-two 4 6 (tagOf (getD rows key 0))
 key-fits rows (signed key body) = one-of-two 5 6 (tagOf (getD rows key 0))
@@ -56,7 +56,7 @@ no-earlier rows row word inside =
     simp (fails, one-of, length-take-le row rows inside)
     (λ h i l e. h (i, l, getD-take row rows i 0 l ∙ e), λ h p. h (p .0) (p .1) (sym (getD-take row rows (p .0) 0 (p .1)) ∙ p .2))
 
-good-row : (rows : List ℕ) (counter row word : ℕ) → row ≤ length rows → T (fits rows counter row word) ↔ GoodRow rows counter row word
+good-row : (rows : List ℕ) (counter row word : ℕ) → row ≤ length rows → T (fits rows counter row word) ↔ GoodTerm rows counter row word
 good-row rows counter row word inside =
     simp (both, known-tag, unused-zero, number-fits, parts-below, key-fits, no-earlier) (
       λ h. record { known = h .0 .0 .0 .0 .0; packed = h .0 .0 .0 .0 .1; number = h .0 .0 .0 .1; below = h .0 .0 .1; key = h .0 .1; new = h .1 },
@@ -94,18 +94,18 @@ not-chosen true false c = refl
 not-chosen false b true = refl
 not-chosen false b false = refl
 
-sound-row : (rows : List ℕ) (counter row word : ℕ) → row ≤ length rows → T (not (badRow rows counter row word)) ↔ Sound rows counter row word
-unfolding badRow
+sound-row : (rows : List ℕ) (counter row word : ℕ) → row ≤ length rows → T (not (badTermRow rows counter row word)) ↔ Sound rows counter row word
+unfolding badTermRow
 sound-row rows counter row word inside = simp (not-chosen, chosen, is-below, not-below, equals, good-row) Iff·rfl
 
-sound-at : (rows : List ℕ) (counter row : ℕ) → row < length rows → T (not (badRow rows counter row (getD rows row 0))) ↔ Sound rows counter row (getD rows row 0)
+sound-at : (rows : List ℕ) (counter row : ℕ) → row < length rows → T (not (badTermRow rows counter row (getD rows row 0))) ↔ Sound rows counter row (getD rows row 0)
 sound-at rows counter row inside = sound-row rows counter row (getD rows row 0) (omega arith)
 
 -- 2 is given exactly where the table is not valid
 pub valid-table : (rows : List ℕ) (counter : ℕ) → (badTerm rows counter ≡ none) ↔ ValidTable rows counter
 unfolding badTerm
 valid-table rows counter =
-    Iff·trans (none-bad (badRow rows counter) (λ row. Sound rows counter row (getD rows row 0)) rows 0 (sound-at rows counter)) (
+    Iff·trans (none-bad (badTermRow rows counter) (λ row. Sound rows counter row (getD rows row 0)) rows 0 (sound-at rows counter)) (
       λ h. record { good = λ row. sound h row (decLt row (length rows)) .0; zeros = λ row. sound h row (decLt row (length rows)) .1 },
       λ valid row inside. (valid .good row, valid .zeros row),
     )
@@ -117,18 +117,18 @@ valid-table rows counter =
 -- 2, exactly: the lowest row that breaks a rule
 pub bad-term-at : (rows : List ℕ) (counter row : ℕ) → (badTerm rows counter ≡ some row) ↔ LowestBad (λ row. Sound rows counter row (getD rows row 0)) (length rows) row
 unfolding badTerm
-bad-term-at rows counter = lowest-bad (badRow rows counter) (λ row. Sound rows counter row (getD rows row 0)) rows 0 (sound-at rows counter)
+bad-term-at rows counter = lowest-bad (badTermRow rows counter) (λ row. Sound rows counter row (getD rows row 0)) rows 0 (sound-at rows counter)
 
 -- a rule of a row looks at earlier rows only
 module _ (rows other : List ℕ) (row : ℕ) (same : (i : ℕ) → i < row → getD other i 0 ≡ getD rows i 0) where
-  key-same : (shape : Shape ℕ) → PartsBelow row shape → KeyFits rows shape → KeyFits other shape
+  key-same : (shape : Shape ℕ) → PartsBelow row shape → KeyKindFits rows shape → KeyKindFits other shape
   key-same (atom tag number) below key = tt
   key-same (encrypted k body) below key = rw (same k (below .0)) key
   key-same (signed k body) below key = rw (same k (below .0)) key
   key-same (hashed body) below key = tt
   key-same (tupled parts) below key = tt
 
-  good-same : {counter word : ℕ} → GoodRow rows counter row word → GoodRow other counter row word
+  good-same : {counter word : ℕ} → GoodTerm rows counter row word → GoodTerm other counter row word
   good-same {word = word} g =
       record {
         known = g .known;
@@ -149,7 +149,7 @@ below-next P n old new i l = go (ℕ-discrete i n)
 
 -- a good row in the place of the first unused one
 module _ {rows : List ℕ} {counter word : ℕ} (valid : ValidTable rows counter) (free : usedRows rows < length rows)
-    (good : GoodRow rows counter (usedRows rows) word) where
+    (good : GoodTerm rows counter (usedRows rows) word) where
   abbrev count : ℕ
   count = usedRows rows
 
@@ -179,9 +179,9 @@ module _ {rows : List ℕ} {counter word : ℕ} (valid : ValidTable rows counter
       kept : (row : ℕ) → row ≤ count → (i : ℕ) → i < row → getD longer i 0 ≡ getD rows i 0
       kept row l i h = old-row i λ e. omega arith
 
-      goods : (row : ℕ) → row < suc count → GoodRow longer counter row (getD longer row 0)
+      goods : (row : ℕ) → row < suc count → GoodTerm longer counter row (getD longer row 0)
       goods =
-          below-next (λ row. GoodRow longer counter row (getD longer row 0)) count
+          below-next (λ row. GoodTerm longer counter row (getD longer row 0)) count
           (λ row l. rw (old-row row λ e. omega arith) (good-same rows longer row (kept row (omega arith)) (valid .good row l)))
           (rw new-row (good-same rows longer count (kept count (omega arith)) good))
 
@@ -194,7 +194,7 @@ module _ {counter higher : ℕ} (up : counter ≤ higher) where
   number-raised (hashed body) fits = tt
   number-raised (tupled parts) fits = tt
 
-  good-raised : {rows : List ℕ} {row word : ℕ} → GoodRow rows counter row word → GoodRow rows higher row word
+  good-raised : {rows : List ℕ} {row word : ℕ} → GoodTerm rows counter row word → GoodTerm rows higher row word
   good-raised {word = word} g =
       record { known = g .known; packed = g .packed; number = number-raised (shapeOf word) (g .number); below = g .below; key = g .key; new = g .new }
 
@@ -206,15 +206,15 @@ pub record GoodShape (rows : List ℕ) (counter row : ℕ) (shape : Shape ℕ) :
   pub packs : Packs shape
   pub number : NumberFits counter shape
   pub below : PartsBelow row shape
-  pub key : KeyFits rows shape
+  pub key : KeyKindFits rows shape
 
 pub good-word : {rows : List ℕ} {counter row : ℕ} {shape : Shape ℕ} → GoodShape rows counter row shape
-    → ((earlier : ℕ) → earlier < row → getD rows earlier 0 ≢ wordOf shape) → GoodRow rows counter row (wordOf shape)
+    → ((earlier : ℕ) → earlier < row → getD rows earlier 0 ≢ rowOf shape) → GoodTerm rows counter row (rowOf shape)
 good-word {shape = shape} g new =
     let back = shape-word shape (g .packs) in
     record {
       known = rw (tag-word shape (g .packs)) (kind-known shape (g .packs));
-      packed = ap wordOf back;
+      packed = ap rowOf back;
       number = rw back (g .number);
       below = rw back (g .below);
       key = rw back (g .key);

@@ -3,11 +3,12 @@ use Prim.Native.Nat.{ℕ, zero, suc}
 use mathlib.Core.Bool.{Bool, true, false, cond, not, _&&_}
 use mathlib.Core.Option.{Option, none, some}
 use mathlib.Core.List.{List, [], _∷_}
-use lib.ListN.{getD, take, drop}
+use lib.ListN.{take, drop}
 use lib.Dec.{eqb, leb, ltb}
+use Rattle.numbers.specs.Kinds.{byteKind, agentKind, publicKey, privateKey, sharedKey, tupleKind}
 use Rattle.word.specs.Lowest.{lowestFrom, lowest, each, oneOf}
 use Rattle.terms.specs.Shape.{Shape, atom, encrypted, signed, hashed, tupled, partsOf}
-use Rattle.terms.specs.Row.{wordOf, tagOf, shapeOf}
+use Rattle.terms.specs.Row.{rowOf, tagOf, shapeOf, rowAt}
 use Rattle.terms.specs.declared.Checked.{Checked}
 use Rattle.terms.specs.declared.Checked.the-variants.{Bad, Used}
 
@@ -17,15 +18,15 @@ usedRows [] = zero
 usedRows (word ∷ rows) = elim (eqb word 0) [ true ↦ zero | false ↦ suc (usedRows rows) ]
 
 unfoldable pub knownTag : ℕ → Bool
-knownTag word = leb 1 (tagOf word) && leb (tagOf word) 10
+knownTag word = leb byteKind (tagOf word) && leb (tagOf word) tupleKind
 
 -- a row is the word of its shape
-unfoldable pub unusedZero : ℕ → Bool
-unusedZero word = eqb (wordOf (shapeOf word)) word
+unfoldable pub isPacked : ℕ → Bool
+isPacked word = eqb (rowOf (shapeOf word)) word
 
 -- a byte is at most 255; nonces and keys are below the name counter; agents are any
 unfoldable pub numberFits : ℕ → Shape ℕ → Bool
-numberFits counter (atom tag number) = cond (eqb tag 1) (ltb number 256) (cond (eqb tag 3) true (ltb number counter))
+numberFits counter (atom tag number) = cond (eqb tag byteKind) (ltb number 256) (cond (eqb tag agentKind) true (ltb number counter))
 numberFits counter (encrypted key body) = true
 numberFits counter (signed key body) = true
 numberFits counter (hashed body) = true
@@ -36,12 +37,12 @@ unfoldable pub partsBelow : ℕ → Shape ℕ → Bool
 partsBelow row shape = each (λ part. ltb part row) (partsOf shape)
 
 -- what encrypts is a public or a shared key, what signs a private or a shared one
-unfoldable pub keyFits : List ℕ → Shape ℕ → Bool
-keyFits rows (atom tag number) = true
-keyFits rows (encrypted key body) = oneOf (4 ∷ 6 ∷ []) (tagOf (getD rows key 0))
-keyFits rows (signed key body) = oneOf (5 ∷ 6 ∷ []) (tagOf (getD rows key 0))
-keyFits rows (hashed body) = true
-keyFits rows (tupled parts) = true
+unfoldable pub keyKindFits : List ℕ → Shape ℕ → Bool
+keyKindFits rows (atom tag number) = true
+keyKindFits rows (encrypted key body) = oneOf (publicKey ∷ sharedKey ∷ []) (tagOf (rowAt rows key))
+keyKindFits rows (signed key body) = oneOf (privateKey ∷ sharedKey ∷ []) (tagOf (rowAt rows key))
+keyKindFits rows (hashed body) = true
+keyKindFits rows (tupled parts) = true
 
 -- of two equal rows the later is the bad one
 unfoldable pub earlierEqual : List ℕ → ℕ → ℕ → Bool
@@ -50,12 +51,12 @@ earlierEqual rows row word = oneOf (take row rows) word
 -- the rules of a used row
 abbrev pub fits : List ℕ → ℕ → ℕ → ℕ → Bool
 fits rows counter row word =
-    knownTag word && unusedZero word && numberFits counter (shapeOf word) && partsBelow row (shapeOf word)
-    && keyFits rows (shapeOf word) && not (earlierEqual rows row word)
+    knownTag word && isPacked word && numberFits counter (shapeOf word) && partsBelow row (shapeOf word)
+    && keyKindFits rows (shapeOf word) && not (earlierEqual rows row word)
 
 -- a nonzero row after the first zero row is bad
-unfoldable pub badRow : List ℕ → ℕ → ℕ → ℕ → Bool
-badRow rows counter row word = cond (ltb row (usedRows rows)) (not (fits rows counter row word)) (not (eqb word 0))
+unfoldable pub badTermRow : List ℕ → ℕ → ℕ → ℕ → Bool
+badTermRow rows counter row word = cond (ltb row (usedRows rows)) (not (fits rows counter row word)) (not (eqb word 0))
 
 -- the first row from a place on that is not zero
 unfoldable pub nonzeroRow : List ℕ → ℕ → Option ℕ
@@ -63,7 +64,7 @@ nonzeroRow rows from = lowestFrom from (λ row word. not (eqb word 0)) (drop fro
 
 -- 2: the lowest bad row
 unfoldable pub badTerm : List ℕ → ℕ → Option ℕ
-badTerm rows counter = lowest (badRow rows counter) rows
+badTerm rows counter = lowest (badTermRow rows counter) rows
 
 -- the answer of the check
 abbrev pub checkedBy : Option ℕ → List ℕ → Checked

@@ -3,6 +3,7 @@ ghost use mathlib.Core.Path.{_≡_};
 ghost use mathlib.Core.Option.{none};
 ghost use Prim.Native.Nat.{_≤_};
 ghost use lib.ListN.{length};
+ghost use Rattle.numbers.specs.Limits.{mostTermRows};
 ghost use Rattle.word.specs.Lowest.{oneOf, placeOf};
 ghost use Rattle.terms.specs.Finder.{equalRow, located, locate};
 use super::Found;
@@ -42,7 +43,7 @@ pub fn rows_passed(rows: &[u64], used: usize, word: u64) -> usize
 
 // The row that equals a term, among the first so many.
 pub fn equal_row(rows: &[u64], used: usize, word: u64) -> Place
-    requires { ⌜ (used ≤ length (now rows)) × (length (now rows) ≤ 4096) ⌝ }
+    requires { ⌜ (used ≤ length (now rows)) × (length (now rows) ≤ mostTermRows) ⌝ }
     ensures { λ r. ⌜ r ≡ placeOf (equalRow (now (rows .entry)) used word) ⌝ }
 {
     let mut i = rows_passed(rows, used, word);
@@ -56,7 +57,7 @@ pub fn equal_row(rows: &[u64], used: usize, word: u64) -> Place
 }
 
 pub fn find(rows: &mut [u64], used: u16, word: u64) -> Found
-    requires { ⌜ (used ≤ length (now rows)) × (length (now rows) ≤ 4096) ⌝ }
+    requires { ⌜ (used ≤ length (now rows)) × (length (now rows) ≤ mostTermRows) ⌝ }
     ensures { λ r. ⌜ located r (now (rows .exit)) ≡ locate (now (rows .entry)) used word ⌝ }
 {
     let unused = used as usize;

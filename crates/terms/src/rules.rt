@@ -2,13 +2,15 @@
 ghost use mathlib.Core.Path.{_≡_};
 ghost use mathlib.Core.List.{[], _∷_};
 ghost use Prim.Native.Nat.{_≤_, _<_};
-ghost use lib.ListN.{length, getD, drop};
+ghost use lib.ListN.{length, drop};
 ghost use lib.Dec.{eqb};
+ghost use Rattle.numbers.specs.Kinds.{sharedKey};
+ghost use Rattle.numbers.specs.Limits.{mostParts, mostTermRows};
 ghost use Rattle.word.specs.Fields.{split};
 ghost use Rattle.word.specs.Lowest.{each, oneOf, placeOf};
 ghost use Rattle.terms.specs.Shape.{partsOf};
-ghost use Rattle.terms.specs.Row.{rowWidths, tagOf, shapeOf};
-ghost use Rattle.terms.specs.Rules.{usedRows, knownTag, unusedZero, numberFits, partsBelow, keyFits, earlierEqual, fits, nonzeroRow, checked};
+ghost use Rattle.terms.specs.Row.{termWidths, tagOf, shapeOf, rowAt};
+ghost use Rattle.terms.specs.Rules.{usedRows, knownTag, isPacked, numberFits, partsBelow, keyKindFits, earlierEqual, fits, nonzeroRow, checked};
 use super::Checked;
 use super::finder::equal_row;
 use super::finder::rows_passed;
@@ -22,6 +24,9 @@ use super::row::row_at;
 use super::row::signed_word;
 use super::row::tag;
 use super::row::tuple_word;
+use numbers::TermRow;
+use numbers::kinds;
+use numbers::limits::MOST_PARTS;
 use word::Place;
 
 // The used rows are those before the first zero row.
@@ -42,21 +47,21 @@ fn known_tag(word: u64) -> bool
     ensures { λ r. ⌜ r ≡ knownTag word ⌝ }
 {
     let t = tag(word);
-    1 <= t && t <= 10
+    kinds::BYTE <= t && t <= kinds::TUPLE
 }
 
 // How many of its four slots a row uses, the key counted.
 pub fn used_slots(word: u64) -> usize
-    ensures { λ r. ⌜ (r ≡ length (partsOf (shapeOf word))) × (r ≤ 4) ⌝ }
+    ensures { λ r. ⌜ (r ≡ length (partsOf (shapeOf word))) × (r ≤ mostParts) ⌝ }
 {
     let t = tag(word);
     match t {
-        7 => 2,
-        8 => 2,
-        9 => 1,
-        10 => {
-            let n = part_count(word);
-            if n < 4 { n as usize } else { 4 }
+        kinds::ENCRYPTION => 2,
+        kinds::SIGNATURE => 2,
+        kinds::HASH => 1,
+        kinds::TUPLE => {
+            let n = part_count(word) as usize;
+            if n < MOST_PARTS { n } else { MOST_PARTS }
         }
         _ => 0,
     }
@@ -64,21 +69,26 @@ pub fn used_slots(word: u64) -> usize
 
 // The four slots of parts, used or not.
 fn slots(word: u64) -> [u16; 4]
-    ensures { λ r. ⌜ r ≡ drop 3 (split rowWidths word) ⌝ }
+    ensures { λ r. ⌜ r ≡ drop 3 (split termWidths word) ⌝ }
 {
-    [part(word, 0), part(word, 1), part(word, 2), part(word, 3)]
+    [
+        part(word, 0).0,
+        part(word, 1).0,
+        part(word, 2).0,
+        part(word, 3).0,
+    ]
 }
 
 // A row is the word of its shape.
-fn unused_zero(word: u64) -> bool
-    ensures { λ r. ⌜ r ≡ unusedZero word ⌝ }
+fn is_packed(word: u64) -> bool
+    ensures { λ r. ⌜ r ≡ isPacked word ⌝ }
 {
     let t = tag(word);
     match t {
-        7 => encrypted_word(part(word, 0), part(word, 1)) == word,
-        8 => signed_word(part(word, 0), part(word, 1)) == word,
-        9 => hashed_word(part(word, 0)) == word,
-        10 => tuple_word(slots(word), used_slots(word)) == word,
+        kinds::ENCRYPTION => encrypted_word(part(word, 0), part(word, 1)) == word,
+        kinds::SIGNATURE => signed_word(part(word, 0), part(word, 1)) == word,
+        kinds::HASH => hashed_word(part(word, 0)) == word,
+        kinds::TUPLE => tuple_word(slots(word), used_slots(word)) == word,
         _ => atom_word(t, number(word)) == word,
     }
 }
@@ -89,9 +99,9 @@ fn number_fits(word: u64, counter: u32) -> bool
 {
     let t = tag(word);
     match t {
-        1 => number(word) < 256,
-        3 | 7 | 8 | 9 | 10 => true,
-        _ => number(word) < counter as u64,
+        kinds::BYTE => number(word) < 256,
+        kinds::AGENT | kinds::ENCRYPTION | kinds::SIGNATURE | kinds::HASH | kinds::TUPLE => true,
+        _ => (number(word) as u32) < counter,
     }
 }
 
@@ -102,7 +112,7 @@ fn parts_below(word: u64, row: usize) -> bool
     let n = used_slots(word);
     let mut slot: usize = 0;
     while slot < n {
-        let other = part(word, slot) as usize;
+        let other = part(word, slot).0 as usize;
         if row <= other {
             return false;
         }
@@ -112,28 +122,28 @@ fn parts_below(word: u64, row: usize) -> bool
 }
 
 // A key has one kind, or is a shared key.
-fn key_is(rows: &[u64], key: u16, kind: u64) -> bool
-    ensures { λ r. ⌜ r ≡ oneOf (kind ∷ 6 ∷ []) (tagOf (getD (now (rows .entry)) key 0)) ⌝ }
+fn key_is(rows: &[u64], key: TermRow, kind: u8) -> bool
+    ensures { λ r. ⌜ r ≡ oneOf (kind ∷ sharedKey ∷ []) (tagOf (rowAt (now (rows .entry)) (key .0))) ⌝ }
 {
     let t = tag(row_at(rows, key));
-    t == kind || t == 6
+    t == kind || t == kinds::SHARED_KEY
 }
 
 // What encrypts is a public or a shared key, what signs a private or a shared one.
-fn key_fits(rows: &[u64], word: u64) -> bool
-    ensures { λ r. ⌜ r ≡ keyFits (now (rows .entry)) (shapeOf word) ⌝ }
+fn key_kind_fits(rows: &[u64], word: u64) -> bool
+    ensures { λ r. ⌜ r ≡ keyKindFits (now (rows .entry)) (shapeOf word) ⌝ }
 {
     let t = tag(word);
     match t {
-        7 => key_is(rows, part(word, 0), 4),
-        8 => key_is(rows, part(word, 0), 5),
+        kinds::ENCRYPTION => key_is(rows, part(word, 0), kinds::PUBLIC_KEY),
+        kinds::SIGNATURE => key_is(rows, part(word, 0), kinds::PRIVATE_KEY),
         _ => true,
     }
 }
 
 // Of two equal rows the later is the bad one.
 fn earlier_equal(rows: &[u64], row: usize, word: u64) -> bool
-    requires { ⌜ (row ≤ length (now rows)) × (length (now rows) ≤ 4096) ⌝ }
+    requires { ⌜ (row ≤ length (now rows)) × (length (now rows) ≤ mostTermRows) ⌝ }
     ensures { λ r. ⌜ r ≡ earlierEqual (now (rows .entry)) row word ⌝ }
 {
     let place = equal_row(rows, row, word);
@@ -144,15 +154,15 @@ fn earlier_equal(rows: &[u64], row: usize, word: u64) -> bool
 }
 
 pub fn row_fits(rows: &[u64], counter: u32, row: usize) -> bool
-    requires { ⌜ (row < length (now rows)) × (length (now rows) ≤ 4096) ⌝ }
-    ensures { λ r. ⌜ r ≡ fits (now (rows .entry)) counter row (getD (now (rows .entry)) row 0) ⌝ }
+    requires { ⌜ (row < length (now rows)) × (length (now rows) ≤ mostTermRows) ⌝ }
+    ensures { λ r. ⌜ r ≡ fits (now (rows .entry)) counter row (rowAt (now (rows .entry)) row) ⌝ }
 {
     let word = rows[row];
     known_tag(word)
-        && unused_zero(word)
+        && is_packed(word)
         && number_fits(word, counter)
         && parts_below(word, row)
-        && key_fits(rows, word)
+        && key_kind_fits(rows, word)
         && !earlier_equal(rows, row, word)
 }
 
@@ -188,7 +198,7 @@ fn zeros_passed(rows: &[u64], from: usize) -> usize
 }
 
 fn nonzero_row(rows: &[u64], from: usize) -> Place
-    requires { ⌜ (from ≤ length (now rows)) × (length (now rows) ≤ 4096) ⌝ }
+    requires { ⌜ (from ≤ length (now rows)) × (length (now rows) ≤ mostTermRows) ⌝ }
     ensures { λ r. ⌜ r ≡ placeOf (nonzeroRow (now (rows .entry)) from) ⌝ }
 {
     let mut i = zeros_passed(rows, from);
@@ -203,7 +213,7 @@ fn nonzero_row(rows: &[u64], from: usize) -> Place
 
 // A used row is bad where it breaks a rule, any other where it is not zero.
 pub fn first_bad_row(rows: &[u64], counter: u32) -> Checked
-    requires { ⌜ length (now rows) ≤ 4096 ⌝ }
+    requires { ⌜ length (now rows) ≤ mostTermRows ⌝ }
     ensures { λ r. ⌜ r ≡ checked (now (rows .entry)) counter ⌝ }
 {
     let used = used_rows(rows);

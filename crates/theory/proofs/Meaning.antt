@@ -6,7 +6,7 @@ use native.Mathlib.Omega.{arith}
 use lib.ListN.{getD}
 use Rattle.word.proofs.All.{All, all-map}
 use Rattle.terms.specs.Shape.{Shape, atom, encrypted, signed, hashed, tupled, partsOf}
-use Rattle.terms.specs.Row.{wordOf, shapeOf}
+use Rattle.terms.specs.Row.{rowOf, shapeOf}
 use Rattle.terms.specs.Rules.{usedRows}
 use Rattle.terms.specs.Table.{ValidTable}
 use Rattle.theory.specs.TermModel.{Term, listed, collected, termOf}
@@ -128,7 +128,7 @@ module _ {rows : List ℕ} {counter : ℕ} (valid : ValidTable rows counter) whe
       let image = shape-related (Smaller bound) row used λ part h. (omega arith, omega arith, refl) in
       let its = shape-related (Smaller bound) other also λ part h. (omega arith, omega arith, refl) in
       let shapes = shape-once (Smaller bound) once image (rw (← same) at its) in
-      same-word row other used also (sym (valid .good row used .packed) ∙ ap wordOf shapes ∙ valid .good other also .packed)
+      same-word row other used also (sym (valid .good row used .packed) ∙ ap rowOf shapes ∙ valid .good other also .packed)
 
   pub meaning-once : (row other : ℕ) → row < usedRows rows → other < usedRows rows → meaning rows row ≡ meaning rows other → row ≡ other
   meaning-once row other used also = same-below (usedRows rows) row other used also used also

@@ -9,7 +9,7 @@ use lib.Dec.{eqb, ltb}
 use Rattle.answers.specs.Numbers.{reasonNumber}
 use Rattle.answers.specs.declared.Reason.the-variants.{OtherKind, Differs, PartCount, NoCertificate, NotOpened, NotVerified}
 use Rattle.terms.specs.Shape.{Shape, atom, encrypted, signed, hashed, tupled, kindOf}
-use Rattle.terms.specs.Row.{wordOf}
+use Rattle.terms.specs.Row.{rowOf}
 use Rattle.terms.specs.Finder.{locate}
 use Rattle.terms.specs.declared.Found.{Found}
 use Rattle.terms.specs.declared.Found.the-variants.{At, Full}
@@ -98,7 +98,7 @@ calm-placed x rows (At row used) = gets tt
 calm-placed x rows Full = fills tt
 
 calm-make : (x : Table) (shape : Shape ℕ) → AnswerWithin OwnReason (rowModel .make shape x)
-calm-make x shape = let l = locate (x .rows) (x .used) (wordOf shape) in calm-placed x (l .rows) (l .found)
+calm-make x shape = let l = locate (x .rows) (x .used) (rowOf shape) in calm-placed x (l .rows) (l .found)
 
 pub calm-rows : Calm rowWorld
 calm-rows = calm-model rowModel λ x.

@@ -9,7 +9,7 @@ use borrow.Author.Tests.{lt-ltb}
 use Rattle.word.proofs.All.{All}
 use Rattle.code.specs.Words.{operandsFit}
 use Rattle.terms.specs.Shape.{atom}
-use Rattle.terms.specs.Row.{wordOf}
+use Rattle.terms.specs.Row.{rowOf}
 use Rattle.terms.specs.Finder.{locate}
 use Rattle.terms.proofs.FinderLaws.{located-as}
 use Rattle.theory.specs.Outcome.{room}
@@ -44,8 +44,8 @@ moves-free : (n : ℕ) (x : Table) → Free (suc n) (suc n) x → Moves Any ⊥ 
 moves-free n x free = making-moves rowModel (λ why own. tt)
     (record {
       left = omega arith;
-      makes = λ shape. placed-free n n x (wordOf shape) (omega arith);
-      creates = λ kind. answers-then _ (fresh-free (suc n) n x free) λ r h. placed-free n n (r .1) (wordOf (atom kind (r .0))) h;
+      makes = λ shape. placed-free n n x (rowOf shape) (omega arith);
+      creates = λ kind. answers-then _ (fresh-free (suc n) n x free) λ r h. placed-free n n (r .1) (rowOf (atom kind (r .0))) h;
     })
 
 module _ (kind : ℕ → ℕ) where

@@ -12,7 +12,7 @@ use lib.Seq.{getD-set-same}
 use Rattle.word.proofs.TestLaws.{equals, is-below}
 use Rattle.word.proofs.All.{All, all-map}
 use Rattle.terms.specs.Shape.{Shape, atom, kindOf}
-use Rattle.terms.specs.Row.{wordOf, tagOf, shapeOf}
+use Rattle.terms.specs.Row.{rowOf, tagOf, shapeOf}
 use Rattle.terms.specs.Rules.{usedRows}
 use Rattle.terms.specs.Finder.{locate}
 use Rattle.terms.proofs.RowLaws.{tag-kind, shape-word}
@@ -157,18 +157,18 @@ module _ {x : Table} (v : ValidMemory x) where
     kind-made : kindOfTerm (termOf u) ≡ kindOf u
     kind-made = ap kindOf (shape-term u)
 
-    present : (row : ℕ) → row < used → getD rows row 0 ≡ wordOf s → MadeR (row, x) (termOf u, namesOf x)
+    present : (row : ℕ) → row < used → getD rows row 0 ≡ rowOf s → MadeR (row, x) (termOf u, namesOf x)
     present row l e =
         record { means = row-means v row l (ap shapeOf e ∙ shape-word s (fits .packs)) m; good = (v, refl); kept = λ a t n. n; kind = kind-made }
 
-    added : ((row : ℕ) → row < used → getD rows row 0 ≢ wordOf s) → used < length rows
-        → MadeR (used, withRows x (set rows used (wordOf s)) (used + 1)) (termOf u, namesOf x)
+    added : ((row : ℕ) → row < used → getD rows row 0 ≢ rowOf s) → used < length rows
+        → MadeR (used, withRows x (set rows used (rowOf s)) (used + 1)) (termOf u, namesOf x)
     added absent free =
         let good = good-word fits absent in
         let valid = row-added v free good in
         let same = row-kept v free good in
-        let kept : Kept rowsRead x (withRows x (set rows used (wordOf s)) (used + 1)) = λ row t n. (omega arith, means-kept v _ same row (n .0) ∙ n .1) in
-        let shape = ap shapeOf (getD-set-same rows used (wordOf s) 0 free) ∙ shape-word s (fits .packs) in
+        let kept : Kept rowsRead x (withRows x (set rows used (rowOf s)) (used + 1)) = λ row t n. (omega arith, means-kept v _ same row (n .0) ∙ n .1) in
+        let shape = ap shapeOf (getD-set-same rows used (rowOf s) 0 free) ∙ shape-word s (fits .packs) in
         record {
           means = row-means valid used (omega arith) shape (shape-map kept m);
           good = (valid, ap (λ ν. record { counter = counter; ν = ν }) (fun-ext λ t. sym (certified-kept v _ same certificates (v .certificates .pairs) t)));
@@ -176,9 +176,9 @@ module _ {x : Table} (v : ValidMemory x) where
           kind = kind-made;
         }
 
-    made : AnswerR MadeR (placed x (locate rows used (wordOf s))) (got (termOf u, namesOf x))
+    made : AnswerR MadeR (placed x (locate rows used (rowOf s))) (got (termOf u, namesOf x))
     made =
-        located-as rows used (wordOf s) (used-inside v) (λ l. AnswerR MadeR (placed x l) (got (termOf u, namesOf x))) (λ row l e. gots (present row l e))
+        located-as rows used (rowOf s) (used-inside v) (λ l. AnswerR MadeR (placed x l) (got (termOf u, namesOf x))) (λ row l e. gots (present row l e))
         (λ absent free. gots (added absent free)) (λ absent past. fulls)
 
   fresh-name : AnswerR (FreshR x) (name counter (withCounter x)) (name counter (Term.raisedTo (namesOf x)))

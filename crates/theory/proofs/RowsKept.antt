@@ -8,7 +8,7 @@ use lib.Seq.{getD-set-other}
 use lib.Dec.{ltb}
 use mathlib.Core.Bool.{Bool, true, false, cond}
 use Rattle.terms.specs.Shape.{atom}
-use Rattle.terms.specs.Row.{wordOf}
+use Rattle.terms.specs.Row.{rowOf}
 use Rattle.terms.specs.Finder.{locate}
 use Rattle.terms.proofs.FinderLaws.{located-as}
 use Rattle.theory.specs.Outcome.{done, got, full}
@@ -66,8 +66,8 @@ module _ (x : Table) where
   moves-append y a = making-moves rowModel (λ why own. tt)
       (record {
         left = a;
-        makes = λ shape. placed-appends y (wordOf shape) a;
-        creates = λ kind. answers-then _ (named-appends y a) λ r h. placed-appends (r .1) (wordOf (atom kind (r .0))) h;
+        makes = λ shape. placed-appends y (rowOf shape) a;
+        creates = λ kind. answers-then _ (named-appends y a) λ r h. placed-appends (r .1) (rowOf (atom kind (r .0))) h;
       })
 
 pub appended-none : (x : Table) → x .used ≤ length (x .rows) → Appended x x

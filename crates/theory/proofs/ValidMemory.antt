@@ -6,7 +6,7 @@ use native.Mathlib.Omega.{arith}
 use lib.ListN.{length, getD, set, length-set}
 use lib.Seq.{getD-set-other}
 use Rattle.terms.specs.Rules.{usedRows}
-use Rattle.terms.specs.Table.{GoodRow, ValidTable}
+use Rattle.terms.specs.Table.{GoodTerm, ValidTable}
 use Rattle.terms.proofs.TableLaws.{used-rows, used-added, valid-added, valid-raised}
 use Rattle.stores.specs.ValidStores.{ValidCertificates}
 use Rattle.stores.proofs.CertificateLaws.{certificates-kept}
@@ -36,7 +36,7 @@ module _ {x : Table} (v : ValidMemory x) where
       record { table = valid-raised (omega arith) (v .table); counted = v .counted; rowsFew = v .rowsFew; namesFew = below; certificates = v .certificates }
 
   -- a good row in the place of the first unused one
-  module _ {word : ℕ} (free : used < length rows) (good : GoodRow rows counter used word) where
+  module _ {word : ℕ} (free : used < length rows) (good : GoodTerm rows counter used word) where
     pub row-kept : (row : ℕ) → row < used → getD (set rows used word) row 0 ≡ getD rows row 0
     row-kept row l = getD-set-other rows used row word 0 (λ e. omega arith)
 

@@ -3,9 +3,8 @@ use Prim.Native.Nat.{ℕ, zero, suc}
 use mathlib.Core.Bool.{cond}
 use mathlib.Core.Option.{Option, none, some}
 use mathlib.Core.List.{List, [], _∷_, map}
-use lib.ListN.{getD}
 use Rattle.terms.specs.Shape.{Shape, atom, encrypted, signed, hashed, tupled}
-use Rattle.terms.specs.Row.{shapeOf}
+use Rattle.terms.specs.Row.{shapeOf, rowAt}
 use Rattle.stores.specs.Certificates.{agentOf, keyOf}
 use Rattle.theory.specs.TermModel.{Term, sameTerm, isYes, termOf}
 use Rattle.theory.specs.TermModel as Term
@@ -22,7 +21,7 @@ module _ {A B : Type 0} (g : A → B) where
 -- the term of a row, to a depth; the parts of a row have smaller numbers, so its own is deep enough
 unfoldable pub termAt : List ℕ → ℕ → ℕ → Term
 termAt rows zero row = Term.atom 0 0
-termAt rows (suc depth) row = termOf (reshaped (termAt rows depth) (shapeOf (getD rows row 0)))
+termAt rows (suc depth) row = termOf (reshaped (termAt rows depth) (shapeOf (rowAt rows row)))
 
 abbrev pub meaning : List ℕ → ℕ → Term
 meaning rows row = termAt rows (suc row) row

@@ -2,10 +2,9 @@
 use Prim.Native.Nat.{ℕ, suc}
 use mathlib.Core.Bool.{cond}
 use mathlib.Core.List.{List}
-use lib.ListN.{getD}
 use lib.Dec.{eqb, ltb}
 use Rattle.numbers.specs.Limits.{mostNames}
-use Rattle.terms.specs.Row.{wordOf, shapeOf}
+use Rattle.terms.specs.Row.{rowOf, shapeOf, rowAt}
 use Rattle.terms.specs.Finder.{Located, locate}
 use Rattle.terms.specs.declared.Found.{Found}
 use Rattle.terms.specs.declared.Found.the-variants.{At, Full}
@@ -42,8 +41,8 @@ abbrev pub rowModel : Model
 rowModel = record {
   Msg = ℕ;
   Mem = Table;
-  look = λ row x. shapeOf (getD (x .rows) row 0);
-  make = λ shape x. placed x (locate (x .rows) (x .used) (wordOf shape));
+  look = λ row x. shapeOf (rowAt (x .rows) row);
+  make = λ shape x. placed x (locate (x .rows) (x .used) (rowOf shape));
   fresh = λ x. name (x .counter) (withCounter x);
   certificate = λ agent x. Certificates.certified (x .certificates) agent;
   equal = λ row other x. eqb row other;

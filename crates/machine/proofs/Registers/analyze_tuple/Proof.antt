@@ -1,5 +1,5 @@
 -- `machine::Registers::analyze_tuple` meets its contract: each way out is a step of the table.
-use Rattle.machine.proofs.TupleLaws.{analyze-ways}
+use Rattle.machine.proofs.TupleLaws.{few-parts, analyze-ways}
 use borrow.Author.Needs.{needs}
 use Rattle.machine.proofs.Registers.analyze_tuple.Statement.{statement}
 use Rattle.machine.proofs.Registers.analyze_tuple.Tie as tie
@@ -10,29 +10,26 @@ object-at-requires c κs = search needs
 returns : tie.Need-returns
 returns c = search analyze-ways
 
-row-at-requires : tie.Need-row-at-requires
-row-at-requires c κs = search needs
+parts-requires : tie.Need-parts-requires
+parts-requires c κs = search needs
 
-tag-requires : tie.Need-tag-requires
-tag-requires c κs = search needs
+enum-known-parted : tie.Need-enum-known-parted
+enum-known-parted c = search needs
+
+enum-known-parted-2 : tie.Need-enum-known-parted-2
+enum-known-parted-2 c = search needs
+
+spread-requires : tie.Need-spread-requires
+spread-requires c κs = (search few-parts, search needs)
 
 returns-2 : tie.Need-returns-2
 returns-2 c = search analyze-ways
 
-used-slots-requires : tie.Need-used-slots-requires
-used-slots-requires c κs = search needs
-
-returns-3 : tie.Need-returns-3
-returns-3 c = search analyze-ways
-
-spread-requires : tie.Need-spread-requires
-spread-requires c κs = search needs
-
 same-length : tie.Need-same-length
 same-length c = search needs
 
-returns-4 : tie.Need-returns-4
-returns-4 c = search analyze-ways
+returns-3 : tie.Need-returns-3
+returns-3 c = search analyze-ways
 
 pub analyze-tuple-spec : {M : Type 1} → statement M
 analyze-tuple-spec =
@@ -40,11 +37,10 @@ analyze-tuple-spec =
     (tie.spec
     object-at-requires
     returns
-    row-at-requires
-    tag-requires
-    returns-2
-    used-slots-requires
-    returns-3
+    parts-requires
+    enum-known-parted
+    enum-known-parted-2
     spread-requires
+    returns-2
     same-length
-    returns-4)
+    returns-3)

@@ -4,17 +4,20 @@ use borrow.Author.Needs.{needs}
 use Rattle.machine.proofs.Registers.create.Statement.{statement}
 use Rattle.machine.proofs.Registers.create.Tie as tie
 
-returns : tie.Need-returns
-returns c = search create-ways
-
 kind-at-requires : tie.Need-kind-at-requires
 kind-at-requires c κs = search needs
 
-cast-atom-word : tie.Need-cast-atom-word
-cast-atom-word c = search needs
+create-requires : tie.Need-create-requires
+create-requires c κs = search needs
 
-atom-word-requires : tie.Need-atom-word-requires
-atom-word-requires c κs = search needs
+enum-known-word : tie.Need-enum-known-word
+enum-known-word c = search needs
+
+enum-told : tie.Need-enum-told
+enum-told c = search needs
+
+returns : tie.Need-returns
+returns c = search create-ways
 
 find-requires : tie.Need-find-requires
 find-requires c κs = search needs
@@ -22,8 +25,8 @@ find-requires c κs = search needs
 enum-known-row : tie.Need-enum-known-row
 enum-known-row c = search needs
 
-enum-told : tie.Need-enum-told
-enum-told c = search needs
+enum-told-2 : tie.Need-enum-told-2
+enum-told-2 c = search needs
 
 same-length : tie.Need-same-length
 same-length c = search needs
@@ -33,9 +36,6 @@ returns-2 c = search create-ways
 
 set-object-requires : tie.Need-set-object-requires
 set-object-requires c κs = search needs
-
-add-naming : tie.Need-add-naming
-add-naming c = search needs
 
 naming-requires : tie.Need-naming-requires
 naming-requires c κs = search needs
@@ -53,17 +53,17 @@ pub create-spec : {M : Type 1} → statement M
 create-spec =
     tie.close
     (tie.spec
-    returns
     kind-at-requires
-    cast-atom-word
-    atom-word-requires
+    create-requires
+    enum-known-word
+    enum-told
+    returns
     find-requires
     enum-known-row
-    enum-told
+    enum-told-2
     same-length
     returns-2
     set-object-requires
-    add-naming
     naming-requires
     same-length-2
     same-length-3

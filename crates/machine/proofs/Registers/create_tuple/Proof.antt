@@ -40,10 +40,10 @@ loop-less : tie.Need-loop-less Inv-loop μ-loop
 loop-less c = omega arith
 
 loop-again : tie.Need-loop-again Inv-loop μ-loop
-loop-again c = (omega arith, gathered-more _ _ _ _ _ (omega arith) (c .before .before .before .loop .inv .1) (c .before .cell-at .ensures) (c .if1 .left))
+loop-again c = (omega arith, gathered-more _ _ _ _ _ (omega arith) (c .before .before .before .before .loop .inv .1) (c .before .before .cell-at .ensures) (c .if1 .left))
 
-tuple-word-requires : tie.Need-tuple-word-requires Inv-loop μ-loop
-tuple-word-requires c κs = search needs
+tuple-requires : tie.Need-tuple-requires Inv-loop μ-loop
+tuple-requires c κs = search needs
 
 find-requires : tie.Need-find-requires Inv-loop μ-loop
 find-requires c κs = search needs
@@ -91,7 +91,7 @@ create-tuple-spec =
     add-i
     loop-less
     loop-again
-    tuple-word-requires
+    tuple-requires
     find-requires
     enum-known-row
     enum-told

@@ -7,20 +7,23 @@ use Rattle.machine.proofs.Registers.decode.Tie as tie
 returns : tie.Need-returns
 returns c = search decode-ways
 
-row-at-requires : tie.Need-row-at-requires
-row-at-requires c κs = search needs
-
-tag-requires : tie.Need-tag-requires
-tag-requires c κs = search needs
-
 kind-at-requires : tie.Need-kind-at-requires
 kind-at-requires c κs = search needs
 
-returns-2 : tie.Need-returns-2
-returns-2 c = search decode-ways
+is-kind-requires : tie.Need-is-kind-requires
+is-kind-requires c κs = search needs
+
+enum-known-tested : tie.Need-enum-known-tested
+enum-known-tested c = search needs
+
+enum-told : tie.Need-enum-told
+enum-told c = search needs
 
 set-object-requires : tie.Need-set-object-requires
 set-object-requires c κs = search needs
+
+returns-2 : tie.Need-returns-2
+returns-2 c = search decode-ways
 
 same-length : tie.Need-same-length
 same-length c = search needs
@@ -33,10 +36,11 @@ decode-spec =
     tie.close
     (tie.spec
     returns
-    row-at-requires
-    tag-requires
     kind-at-requires
-    returns-2
+    is-kind-requires
+    enum-known-tested
+    enum-told
     set-object-requires
+    returns-2
     same-length
     returns-3)

@@ -13,32 +13,23 @@ returns c = search decrypt-ways
 returns-2 : tie.Need-returns-2
 returns-2 c = search decrypt-ways
 
-row-at-requires : tie.Need-row-at-requires
-row-at-requires c κs = search needs
+decrypt-requires : tie.Need-decrypt-requires
+decrypt-requires c κs = search needs
 
-tag-requires : tie.Need-tag-requires
-tag-requires c κs = search needs
+enum-known-opened : tie.Need-enum-known-opened
+enum-known-opened c = search needs
 
-returns-3 : tie.Need-returns-3
-returns-3 c = search decrypt-ways
-
-part-requires : tie.Need-part-requires
-part-requires c κs = search needs
-
-goes-with-requires : tie.Need-goes-with-requires
-goes-with-requires c κs = search needs
-
-returns-4 : tie.Need-returns-4
-returns-4 c = search decrypt-ways
-
-part-requires-2 : tie.Need-part-requires-2
-part-requires-2 c κs = search needs
+enum-known-opened-2 : tie.Need-enum-known-opened-2
+enum-known-opened-2 c = search needs
 
 holding-requires : tie.Need-holding-requires
 holding-requires c κs = search needs
 
-returns-5 : tie.Need-returns-5
-returns-5 c = search decrypt-ways
+returns-3 : tie.Need-returns-3
+returns-3 c = search decrypt-ways
+
+returns-4 : tie.Need-returns-4
+returns-4 c = search decrypt-ways
 
 pub decrypt-spec : {M : Type 1} → statement M
 decrypt-spec =
@@ -47,12 +38,9 @@ decrypt-spec =
     object-at-requires
     returns
     returns-2
-    row-at-requires
-    tag-requires
-    returns-3
-    part-requires
-    goes-with-requires
-    returns-4
-    part-requires-2
+    decrypt-requires
+    enum-known-opened
+    enum-known-opened-2
     holding-requires
-    returns-5)
+    returns-3
+    returns-4)

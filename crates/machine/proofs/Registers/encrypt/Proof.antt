@@ -13,8 +13,8 @@ returns c = search encrypt-ways
 returns-2 : tie.Need-returns-2
 returns-2 c = search encrypt-ways
 
-encrypted-word-requires : tie.Need-encrypted-word-requires
-encrypted-word-requires c κs = search needs
+encrypt-requires : tie.Need-encrypt-requires
+encrypt-requires c κs = search needs
 
 find-requires : tie.Need-find-requires
 find-requires c κs = search needs
@@ -50,7 +50,7 @@ encrypt-spec =
     object-at-requires
     returns
     returns-2
-    encrypted-word-requires
+    encrypt-requires
     find-requires
     enum-known-row
     enum-told

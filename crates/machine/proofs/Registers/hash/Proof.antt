@@ -7,8 +7,8 @@ use Rattle.machine.proofs.Registers.hash.Tie as tie
 returns : tie.Need-returns
 returns c = search hash-ways
 
-hashed-word-requires : tie.Need-hashed-word-requires
-hashed-word-requires c κs = search needs
+hash-requires : tie.Need-hash-requires
+hash-requires c κs = search needs
 
 find-requires : tie.Need-find-requires
 find-requires c κs = search needs
@@ -42,7 +42,7 @@ hash-spec =
     tie.close
     (tie.spec
     returns
-    hashed-word-requires
+    hash-requires
     find-requires
     enum-known-row
     enum-told

@@ -7,20 +7,20 @@ use Rattle.machine.proofs.Registers.key_of.Tie as tie
 returns : tie.Need-returns
 returns c = search key-of-ways
 
-certified-requires : tie.Need-certified-requires
-certified-requires c κs = search needs
+key-of-requires : tie.Need-key-of-requires
+key-of-requires c κs = search needs
 
-enum-known-key : tie.Need-enum-known-key
-enum-known-key c = search needs
+enum-known-opened : tie.Need-enum-known-opened
+enum-known-opened c = search needs
 
-enum-told : tie.Need-enum-told
-enum-told c = search needs
-
-returns-2 : tie.Need-returns-2
-returns-2 c = search key-of-ways
+enum-known-opened-2 : tie.Need-enum-known-opened-2
+enum-known-opened-2 c = search needs
 
 holding-requires : tie.Need-holding-requires
 holding-requires c κs = search needs
+
+returns-2 : tie.Need-returns-2
+returns-2 c = search key-of-ways
 
 returns-3 : tie.Need-returns-3
 returns-3 c = search key-of-ways
@@ -30,9 +30,9 @@ key-of-spec =
     tie.close
     (tie.spec
     returns
-    certified-requires
-    enum-known-key
-    enum-told
-    returns-2
+    key-of-requires
+    enum-known-opened
+    enum-known-opened-2
     holding-requires
+    returns-2
     returns-3)

@@ -13,26 +13,14 @@ same-length c = search needs
 returns : tie.Need-returns
 returns c = search opposite-ways
 
-row-at-requires : tie.Need-row-at-requires
-row-at-requires c κs = search needs
+opposite-requires : tie.Need-opposite-requires
+opposite-requires c κs = search needs
 
-tag-requires : tie.Need-tag-requires
-tag-requires c κs = search needs
+enum-known-made : tie.Need-enum-known-made
+enum-known-made c = search needs
 
-same-length-2 : tie.Need-same-length-2
-same-length-2 c = search needs
-
-same-length-3 : tie.Need-same-length-3
-same-length-3 c = search needs
-
-returns-2 : tie.Need-returns-2
-returns-2 c = search opposite-ways
-
-number-requires : tie.Need-number-requires
-number-requires c κs = search needs
-
-atom-word-requires : tie.Need-atom-word-requires
-atom-word-requires c κs = search needs
+enum-known-made-2 : tie.Need-enum-known-made-2
+enum-known-made-2 c = search needs
 
 find-requires : tie.Need-find-requires
 find-requires c κs = search needs
@@ -43,6 +31,21 @@ enum-known-row c = search needs
 enum-told : tie.Need-enum-told
 enum-told c = search needs
 
+same-length-2 : tie.Need-same-length-2
+same-length-2 c = search needs
+
+same-length-3 : tie.Need-same-length-3
+same-length-3 c = search needs
+
+returns-2 : tie.Need-returns-2
+returns-2 c = search opposite-ways
+
+set-object-requires : tie.Need-set-object-requires
+set-object-requires c κs = search needs
+
+using-rows-requires : tie.Need-using-rows-requires
+using-rows-requires c κs = search needs
+
 same-length-4 : tie.Need-same-length-4
 same-length-4 c = search needs
 
@@ -51,12 +54,6 @@ same-length-5 c = search needs
 
 returns-3 : tie.Need-returns-3
 returns-3 c = search opposite-ways
-
-set-object-requires : tie.Need-set-object-requires
-set-object-requires c κs = search needs
-
-using-rows-requires : tie.Need-using-rows-requires
-using-rows-requires c κs = search needs
 
 same-length-6 : tie.Need-same-length-6
 same-length-6 c = search needs
@@ -74,21 +71,20 @@ opposite-spec =
     object-at-requires
     same-length
     returns
-    row-at-requires
-    tag-requires
-    same-length-2
-    same-length-3
-    returns-2
-    number-requires
-    atom-word-requires
+    opposite-requires
+    enum-known-made
+    enum-known-made-2
     find-requires
     enum-known-row
     enum-told
+    same-length-2
+    same-length-3
+    returns-2
+    set-object-requires
+    using-rows-requires
     same-length-4
     same-length-5
     returns-3
-    set-object-requires
-    using-rows-requires
     same-length-6
     same-length-7
     returns-4)

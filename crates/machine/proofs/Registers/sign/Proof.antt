@@ -13,8 +13,8 @@ returns c = search sign-ways
 returns-2 : tie.Need-returns-2
 returns-2 c = search sign-ways
 
-signed-word-requires : tie.Need-signed-word-requires
-signed-word-requires c κs = search needs
+sign-requires : tie.Need-sign-requires
+sign-requires c κs = search needs
 
 find-requires : tie.Need-find-requires
 find-requires c κs = search needs
@@ -50,7 +50,7 @@ sign-spec =
     object-at-requires
     returns
     returns-2
-    signed-word-requires
+    sign-requires
     find-requires
     enum-known-row
     enum-told

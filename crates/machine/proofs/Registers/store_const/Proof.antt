@@ -4,8 +4,8 @@ use borrow.Author.Needs.{needs}
 use Rattle.machine.proofs.Registers.store_const.Statement.{statement}
 use Rattle.machine.proofs.Registers.store_const.Tie as tie
 
-atom-word-requires : tie.Need-atom-word-requires
-atom-word-requires c κs = search needs
+byte-requires : tie.Need-byte-requires
+byte-requires c κs = search needs
 
 find-requires : tie.Need-find-requires
 find-requires c κs = search needs
@@ -41,7 +41,7 @@ pub store-const-spec : {M : Type 1} → statement M
 store-const-spec =
     tie.close
     (tie.spec
-    atom-word-requires
+    byte-requires
     find-requires
     enum-known-row
     enum-told

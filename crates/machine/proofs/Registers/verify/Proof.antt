@@ -19,32 +19,20 @@ returns-2 c = search verify-ways
 returns-3 : tie.Need-returns-3
 returns-3 c = search verify-ways
 
-row-at-requires : tie.Need-row-at-requires
-row-at-requires c κs = search needs
+verify-requires : tie.Need-verify-requires
+verify-requires c κs = search needs
 
-tag-requires : tie.Need-tag-requires
-tag-requires c κs = search needs
+enum-known-tested : tie.Need-enum-known-tested
+enum-known-tested c = search needs
+
+enum-told : tie.Need-enum-told
+enum-told c = search needs
 
 returns-4 : tie.Need-returns-4
 returns-4 c = search verify-ways
 
-part-requires : tie.Need-part-requires
-part-requires c κs = search needs
-
-goes-with-requires : tie.Need-goes-with-requires
-goes-with-requires c κs = search needs
-
 returns-5 : tie.Need-returns-5
 returns-5 c = search verify-ways
-
-part-requires-2 : tie.Need-part-requires-2
-part-requires-2 c κs = search needs
-
-returns-6 : tie.Need-returns-6
-returns-6 c = search verify-ways
-
-returns-7 : tie.Need-returns-7
-returns-7 c = search verify-ways
 
 pub verify-spec : {M : Type 1} → statement M
 verify-spec =
@@ -55,12 +43,8 @@ verify-spec =
     message-at-requires
     returns-2
     returns-3
-    row-at-requires
-    tag-requires
+    verify-requires
+    enum-known-tested
+    enum-told
     returns-4
-    part-requires
-    goes-with-requires
-    returns-5
-    part-requires-2
-    returns-6
-    returns-7)
+    returns-5)

@@ -5,7 +5,7 @@ use native.Mathlib.Omega.{arith}
 use borrow.Author.Needs.{needs}
 use lib.ListN.{length, length-set}
 use Rattle.word.specs.Fields.{split, at}
-use Rattle.terms.specs.Row.{rowWidths}
+use Rattle.terms.specs.Row.{termWidths}
 use Rattle.machine.specs.Machine.{spread}
 use Rattle.machine.proofs.TupleLaws.{spread-none, spread-more}
 use Rattle.machine.proofs.tuples.spread.Statement.{statement}
@@ -13,7 +13,7 @@ use Rattle.machine.proofs.tuples.spread.Tie as tie
 
 abbrev Inv-loop : tie.InvT-loop
 Inv-loop messages₀ word n from count i₀ messages i =
-    (i ≤ count) × ((length messages ≡ length messages₀) × (messages ≡ spread messages₀ from i (λ k. at (3 + k) (split rowWidths word))))
+    (i ≤ count) × ((length messages ≡ length messages₀) × (messages ≡ spread messages₀ from i (λ k. at (3 + k) (split termWidths word))))
 
 abbrev μ-loop : tie.MeasureT-loop
 μ-loop messages₀ word n from count i₀ messages i = count - i

@@ -9,7 +9,7 @@ use Rattle.stores.proofs.certificates.certified.Statement.{statement}
 use Rattle.stores.proofs.certificates.certified.Tie as tie
 
 abbrev Inv-loop : tie.InvT-loop
-Inv-loop certificates agent i₀ i = (i ≤ length certificates) × (certified certificates agent ≡ certified (drop i certificates) agent)
+Inv-loop certificates agent i₀ i = (i ≤ length certificates) × (certified certificates (agent .0) ≡ certified (drop i certificates) (agent .0))
 
 abbrev μ-loop : tie.MeasureT-loop
 μ-loop certificates agent i₀ i = length certificates - i
@@ -31,9 +31,10 @@ key-requires c κs = search needs
 
 returns : tie.Need-returns Inv-loop μ-loop
 returns c =
-    let loop = c .before .before .before .before .before .loop in
-    let args = c .before .before .before .before .before .before .before .args in
-    rw (certified-here (args .certificates .now) (args .agent) (loop .i) (loop .inv .1) (omega arith) (sym (c .before .before .agent .ensures) ∙ c .before .if1 .taken), c .key .ensures)
+    let loop = c .before .before .before .before .before .before .before .loop in
+    let args = c .before .before .before .before .before .before .before .before .before .args in
+    let here = sym (c .before .before .before .before .agent .ensures) ∙ c .before .if1 .taken in
+    rw (certified-here (args .certificates .now) (args .agent .0) (loop .i) (loop .inv .1) (omega arith) here, ← (c .key .ensures))
 
 add-i : tie.Need-add-i Inv-loop μ-loop
 add-i c = omega arith
@@ -43,15 +44,16 @@ loop-less c = omega arith
 
 loop-again : tie.Need-loop-again Inv-loop μ-loop
 loop-again c =
-    let loop = c .before .before .before .before .loop in
-    let args = c .before .before .before .before .before .before .args in
-    (omega arith, certified-next (args .certificates .now) (args .agent) (loop .i) (loop .inv .1) (omega arith) λ same. c .if1 .left (c .before .agent .ensures ∙ same))
+    let loop = c .before .before .before .before .before .before .loop in
+    let args = c .before .before .before .before .before .before .before .before .args in
+    let agent = c .before .before .before .agent in
+    (omega arith, certified-next (args .certificates .now) (args .agent .0) (loop .i) (loop .inv .1) (omega arith) λ same. c .if1 .left (agent .ensures ∙ same))
 
 returns-2 : tie.Need-returns-2 Inv-loop μ-loop
 returns-2 c =
     let loop = c .before .loop in
     let args = c .before .before .before .args in
-    rw (certified-end (args .certificates .now) (args .agent) (loop .i) (loop .inv .1) (omega arith))
+    rw (certified-end (args .certificates .now) (args .agent .0) (loop .i) (loop .inv .1) (omega arith))
 
 pub certified-spec : {M : Type 1} → statement M
 certified-spec =

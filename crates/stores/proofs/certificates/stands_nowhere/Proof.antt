@@ -11,7 +11,7 @@ use Rattle.stores.proofs.certificates.stands_nowhere.Statement.{stateme
 use Rattle.stores.proofs.certificates.stands_nowhere.Tie as tie
 
 abbrev Inv-loop : tie.InvT-loop
-Inv-loop certificates from agent i₀ i = nowhere agent (drop «from» certificates) ≡ nowhere agent (drop i certificates)
+Inv-loop certificates from agent i₀ i = nowhere (agent .0) (drop «from» certificates) ≡ nowhere (agent .0) (drop i certificates)
 
 abbrev μ-loop : tie.MeasureT-loop
 μ-loop certificates from agent i₀ i = length certificates - i
@@ -30,9 +30,9 @@ agent-requires c κs = search needs
 
 returns : tie.Need-returns Inv-loop μ-loop
 returns c =
-    let loop = c .before .before .before .before .loop in
-    let args = c .before .before .before .before .before .before .args in
-    sym (each-stop _ _ (args .certificates .now) 0 (loop .i) (loop .inv) (omega arith) (ap not (eq-eqb _ _ (sym (c .before .agent .ensures) ∙ c .if1 .taken))))
+    let loop = c .before .before .before .before .before .before .loop in
+    let args = c .before .before .before .before .before .before .before .before .args in
+    sym (each-stop _ _ (args .certificates .now) 0 (loop .i) (loop .inv) (omega arith) (ap not (eq-eqb _ _ (sym (c .before .before .before .agent .ensures) ∙ c .if1 .taken))))
 
 add-i : tie.Need-add-i Inv-loop μ-loop
 add-i c = omega arith
@@ -42,9 +42,9 @@ loop-less c = omega arith
 
 loop-again : tie.Need-loop-again Inv-loop μ-loop
 loop-again c =
-    let loop = c .before .before .before .before .loop in
-    let args = c .before .before .before .before .before .before .args in
-    each-next _ _ (args .certificates .now) 0 (loop .i) (loop .inv) (omega arith) (ap not (ne-eqb _ _ λ same. c .if1 .left (c .before .agent .ensures ∙ same)))
+    let loop = c .before .before .before .before .before .before .loop in
+    let args = c .before .before .before .before .before .before .before .before .args in
+    each-next _ _ (args .certificates .now) 0 (loop .i) (loop .inv) (omega arith) (ap not (ne-eqb _ _ λ same. c .if1 .left (c .before .before .before .agent .ensures ∙ same)))
 
 returns-2 : tie.Need-returns-2 Inv-loop μ-loop
 returns-2 c =

@@ -22,11 +22,11 @@ returns : tie.Need-returns
 unfolding pairFits
 returns c =
     rw (
-      c .before .before .spare .ensures,
-      c .before .tag-at .ensures,
+      c .before .before .before .before .spare .ensures,
+      c .before .before .tag-at .ensures,
       c .tag-at2 .ensures,
-      c .before .before .before .before .agent .ensures,
-      c .before .before .before .key .ensures,
+      c .before .before .before .before .before .before .agent .ensures,
+      c .before .before .before .before .before .key .ensures,
     )
 
 pub pair-fits-spec : {M : Type 1} → statement M

@@ -5,6 +5,9 @@ use borrow.Author.Needs.{needs}
 use Rattle.terms.proofs.row.row_at.Statement.{statement}
 use Rattle.terms.proofs.row.row_at.Tie as tie
 
+cast-i : tie.Need-cast-i
+cast-i c = search needs
+
 mul-result : tie.Need-mul-result
 mul-result c = search needs
 
@@ -15,7 +18,7 @@ returns : tie.Need-returns
 returns c = search needs
 
 returns-2 : tie.Need-returns-2
-returns-2 c = sym (List·getD-eq-default (c .before .args .rows .now) 0 (c .if1 .left))
+returns-2 c = sym (List·getD-eq-default (c .before .before .args .rows .now) 0 (c .if1 .left))
 
 pub row-at-spec : {M : Type 1} → statement M
-row-at-spec = tie.close (tie.spec mul-result shared-slice-read-result returns returns-2)
+row-at-spec = tie.close (tie.spec cast-i mul-result shared-slice-read-result returns returns-2)

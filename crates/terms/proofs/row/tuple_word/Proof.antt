@@ -21,6 +21,9 @@ named-part-requires-3 c κs = search needs
 named-part-requires-4 : tie.Need-named-part-requires-4
 named-part-requires-4 c κs = search needs
 
+cast-result : tie.Need-cast-result
+cast-result c = search needs
+
 add-result : tie.Need-add-result
 add-result c = search needs
 
@@ -51,6 +54,7 @@ tuple-word-spec =
     named-part-requires-2
     named-part-requires-3
     named-part-requires-4
+    cast-result
     add-result
     add-result-2
     add-result-3

@@ -3,7 +3,7 @@ use Prim.Native.Nat.{_≤_, _-_}
 use mathlib.Core.Path.{refl}
 use native.Mathlib.Omega.{arith}
 use borrow.Author.Needs.{needs}
-use Rattle.terms.specs.Rules.{badRow}
+use Rattle.terms.specs.Rules.{badTermRow}
 use Rattle.word.proofs.ScanLaws.{Left}
 use Rattle.terms.proofs.TableLaws.{used-rows}
 use Rattle.terms.proofs.RuleLaws.{checked-bad, checked-more, checked-behind, checked-good}
@@ -11,7 +11,7 @@ use Rattle.terms.proofs.rules.first_bad_row.Statement.{statement}
 use Rattle.terms.proofs.rules.first_bad_row.Tie as tie
 
 abbrev Inv-loop : tie.InvT-loop
-Inv-loop rows counter used row₀ row = (row ≤ used) × Left (badRow rows counter) rows row
+Inv-loop rows counter used row₀ row = (row ≤ used) × Left (badTermRow rows counter) rows row
 
 abbrev μ-loop : tie.MeasureT-loop
 μ-loop rows counter used row₀ row = used - row

@@ -15,6 +15,9 @@ number-requires c κs = search needs
 number-requires-2 : tie.Need-number-requires-2
 number-requires-2 c κs = search needs
 
+cast-result : tie.Need-cast-result
+cast-result c = search needs
+
 returns : tie.Need-returns
 returns c = search number-ways
 
@@ -34,4 +37,12 @@ returns-4 c = search number-ways
 pub number-fits-spec : {M : Type 1} → statement M
 number-fits-spec =
     tie.close
-    (tie.spec tag-requires number-requires number-requires-2 returns returns-2 returns-3 returns-4)
+    (tie.spec
+    tag-requires
+    number-requires
+    number-requires-2
+    cast-result
+    returns
+    returns-2
+    returns-3
+    returns-4)

@@ -26,9 +26,9 @@ cast-other c = omega arith
 
 returns : tie.Need-returns Inv-loop μ-loop
 returns c =
-    let a = c .before .before .before .before .before .args in
-    let l = c .before .before .before .loop in
-    below-stop (a .row) (a .word) (l .slot) (c .before .part .result) (omega arith) (l .inv .1) (c .before .part .ensures) (c .if1 .taken)
+    let a = c .before .before .before .before .before .before .args in
+    let l = c .before .before .before .before .loop in
+    below-stop (a .row) (a .word) (l .slot) (c .before .before .part .result .0) (omega arith) (l .inv .1) (c .before .before .part .ensures) (c .if1 .taken)
 
 add-slot : tie.Need-add-slot Inv-loop μ-loop
 add-slot c = omega arith
@@ -38,9 +38,9 @@ loop-less c = omega arith
 
 loop-again : tie.Need-loop-again Inv-loop μ-loop
 loop-again c =
-    let a = c .before .before .before .before .before .args in
-    let l = c .before .before .before .loop in
-    (omega arith, below-more (a .row) (a .word) (l .slot) (c .before .part .result) (omega arith) (l .inv .1) (c .before .part .ensures) (c .if1 .left))
+    let a = c .before .before .before .before .before .before .args in
+    let l = c .before .before .before .before .loop in
+    (omega arith, below-more (a .row) (a .word) (l .slot) (c .before .before .part .result .0) (omega arith) (l .inv .1) (c .before .before .part .ensures) (c .if1 .left))
 
 returns-2 : tie.Need-returns-2 Inv-loop μ-loop
 returns-2 c =

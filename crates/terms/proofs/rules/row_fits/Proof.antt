@@ -6,7 +6,7 @@ use mathlib.Core.Bool.{Bool, not, _&&_}
 use lib.ListN.{getD}
 use borrow.Author.Needs.{needs}
 use Rattle.terms.specs.Row.{shapeOf}
-use Rattle.terms.specs.Rules.{knownTag, unusedZero, numberFits, partsBelow, keyFits}
+use Rattle.terms.specs.Rules.{knownTag, isPacked, numberFits, partsBelow, keyKindFits}
 use Rattle.terms.proofs.RuleLaws.{and-more, and-kept}
 use Rattle.terms.proofs.rules.row_fits.Statement.{statement}
 use Rattle.terms.proofs.rules.row_fits.Tie as tie
@@ -17,7 +17,7 @@ module _ (s : tie.Start) where
   word = getD (s .args .rows .now) (s .args .row) 0
 
   abbrev zeros : Bool
-  zeros = knownTag word && unusedZero word
+  zeros = knownTag word && isPacked word
 
   abbrev numbers : Bool
   numbers = zeros && numberFits (s .args .counter) (shapeOf word)
@@ -26,7 +26,7 @@ module _ (s : tie.Start) where
   parts = numbers && partsBelow (s .args .row) (shapeOf word)
 
   abbrev keys : Bool
-  keys = parts && keyFits (s .args .rows .now) (shapeOf word)
+  keys = parts && keyKindFits (s .args .rows .now) (shapeOf word)
 
 zeros-join : (c : tie.Joined1) → c .if1 .if2 ≡ zeros (c .before .before .before .before)
 zeros-join c =
@@ -60,8 +60,8 @@ shared-slice-read-word c = search needs
 known-tag-requires : tie.Need-known-tag-requires
 known-tag-requires c κs = search needs
 
-unused-zero-requires : tie.Need-unused-zero-requires
-unused-zero-requires c κs = search needs
+is-packed-requires : tie.Need-is-packed-requires
+is-packed-requires c κs = search needs
 
 number-fits-requires : tie.Need-number-fits-requires
 number-fits-requires c κs = search needs
@@ -69,8 +69,8 @@ number-fits-requires c κs = search needs
 parts-below-requires : tie.Need-parts-below-requires
 parts-below-requires c κs = search needs
 
-key-fits-requires : tie.Need-key-fits-requires
-key-fits-requires c κs = search needs
+key-kind-fits-requires : tie.Need-key-kind-fits-requires
+key-kind-fits-requires c κs = search needs
 
 earlier-equal-requires : tie.Need-earlier-equal-requires
 earlier-equal-requires c κs = search needs
@@ -88,10 +88,10 @@ row-fits-spec =
     mul-word
     shared-slice-read-word
     known-tag-requires
-    unused-zero-requires
+    is-packed-requires
     number-fits-requires
     parts-below-requires
-    key-fits-requires
+    key-kind-fits-requires
     earlier-equal-requires
     returns
     returns-2)

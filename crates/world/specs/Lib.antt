@@ -1,0 +1,2 @@
+-- The operations on terms, over the rows of a table.
+pub mod Operations
