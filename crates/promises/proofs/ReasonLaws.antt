@@ -24,7 +24,7 @@ use Rattle.code.specs.Words.{hasKind, cellsFit, operandsFit}
 use Rattle.code.specs.declared.Instruction.{Instruction}
 use Rattle.code.specs.declared.Instruction.the-variants.{Load, Store, StoreConst, Decode, Encode, Create, AnalyzeTuple, CreateTuple, Opposite, KeyOf, Match, Encrypt, Decrypt, Sign, Verify, Hash}
 use Rattle.terms.specs.Shape.{Shape, atom, encrypted, signed, hashed, tupled, kindOf, partsOf}
-use Rattle.terms.specs.Row.{wordOf, tagOf, shapeOf}
+use Rattle.terms.specs.Row.{rowOf, tagOf, shapeOf}
 use Rattle.terms.specs.Finder.{locate}
 use Rattle.terms.proofs.RowLaws.{tag-kind}
 use Rattle.terms.proofs.ShapeLaws.{shape-atom, shape-tupled}
@@ -202,14 +202,14 @@ module _ (s : State rowWorld) where
 
     module _ (v : ValidState kind s) where
       make : {i : Instruction} (term : Shape ℕ) (y : Table) (f : ℕ × Table → State rowWorld) → (NoRow s term → Fills s kind i)
-          → Ends i (bind (at place (placed y (locate (x .rows) (x .used) (wordOf term)))) λ r. done (f r))
+          → Ends i (bind (at place (placed y (locate (x .rows) (x .used) (rowOf term)))) λ r. done (f r))
       make {i} term y f out =
-          located-as (x .rows) (x .used) (wordOf term) (used-inside (v .table)) (λ l. Ends i (bind (at place (placed y l)) λ r. done (f r)))
+          located-as (x .rows) (x .used) (rowOf term) (used-inside (v .table)) (λ l. Ends i (bind (at place (placed y l)) λ r. done (f r)))
           (λ row l e. goes) (λ absent l. goes) (λ absent l. fills (out (absent, l)))
 
       make-full : (term : Shape ℕ) (y : Table) (f : ℕ × Table → State rowWorld) → NoRow s term
-          → bind (at place (placed y (locate (x .rows) (x .used) (wordOf term)))) (λ r. done (f r)) ≡ room place
-      make-full term y f (absent, l) = rw (locate-full (x .rows) (x .used) (wordOf term) (equal-absent (x .rows) (x .used) (wordOf term) (used-inside (v .table)) .1 absent) l)
+          → bind (at place (placed y (locate (x .rows) (x .used) (rowOf term)))) (λ r. done (f r)) ≡ room place
+      make-full term y f (absent, l) = rw (locate-full (x .rows) (x .used) (rowOf term) (equal-absent (x .rows) (x .used) (rowOf term) (used-inside (v .table)) .1 absent) l)
 
       -- a set object cell's row has the variable's kind
       typed : (o m : ℕ) → s .stores .σ o ≡ some m → tag s m ≡ kind o
@@ -235,7 +235,7 @@ module _ (s : State rowWorld) where
       one-kind o n h = one-all (λ k. k ≡ n) (n ∷ []) (kind (o .0)) (refl, tt) (both (ltb (o .0) 64) (oneOf (n ∷ []) (kind (o .0))) .0 h .1)
 
       -- the opposite of a private key
-      opposite-as : (m : ℕ) → tag s m ≡ 5 → rowWorld .apply (op m) x ≡ placed x (locate (x .rows) (x .used) (wordOf (atom 4 (number s m))))
+      opposite-as : (m : ℕ) → tag s m ≡ 5 → rowWorld .apply (op m) x ≡ placed x (locate (x .rows) (x .used) (rowOf (atom 4 (number s m))))
       opposite-as m e = rw (tag-kind (rowAt s m), eq-eqb (tag s m) 5 e, atom-number (rowAt s m) (omega arith))
 
       tuple-ends : (t : Object) (b : Raw) (n m : ℕ) (ms : List ℕ) → shape s m ≡ tupled ms → s .stores .σ (t .0) ≡ some m → (f : (ℕ → ℕ) → State rowWorld)
@@ -281,11 +281,11 @@ module _ (s : State rowWorld) where
       certified-ends a none e q f = sticks (no-certificate q (uncertified (x .certificates) a .0 e))
 
       tuple-made : (t : Object) (b : Raw) (n : ℕ) (f : ℕ × Table → State rowWorld)
-          → Ends (CreateTuple t b n) (bind (messages rowWorld place s (b .0) n) λ ms. bind (at place (placed x (locate (x .rows) (x .used) (wordOf (tupled ms))))) λ r. done (f r))
+          → Ends (CreateTuple t b n) (bind (messages rowWorld place s (b .0) n) λ ms. bind (at place (placed x (locate (x .rows) (x .used) (rowOf (tupled ms))))) λ r. done (f r))
       tuple-made t b n f = go (all-read (b .0) n)
         where
           go : ((ms : List ℕ) × (cells s (b .0) n ≡ map some ms) × (messages rowWorld place s (b .0) n ≡ done ms)) ⊎ Unset (cells s (b .0) n)
-              → Ends (CreateTuple t b n) (bind (messages rowWorld place s (b .0) n) λ ms. bind (at place (placed x (locate (x .rows) (x .used) (wordOf (tupled ms))))) λ r. done (f r))
+              → Ends (CreateTuple t b n) (bind (messages rowWorld place s (b .0) n) λ ms. bind (at place (placed x (locate (x .rows) (x .used) (rowOf (tupled ms))))) λ r. done (f r))
           go (inl (ms, c, q)) = rw q (make (tupled ms) x f λ out. tuple ms c out)
           go (inr u) = rw (unset-cells (b .0) n u) (sticks (unset u))
 

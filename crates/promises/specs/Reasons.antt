@@ -15,7 +15,7 @@ use Rattle.code.specs.Instruction.{instructionOf}
 use Rattle.code.specs.declared.Instruction.{Instruction}
 use Rattle.code.specs.declared.Instruction.the-variants.{Load, Store, StoreConst, Decode, Encode, Create, AnalyzeTuple, CreateTuple, Opposite, KeyOf, Match, Encrypt, Decrypt, Sign, Verify, Hash}
 use Rattle.terms.specs.Shape.{Shape, atom, encrypted, signed, hashed, tupled, partsOf}
-use Rattle.terms.specs.Row.{wordOf, tagOf, shapeOf}
+use Rattle.terms.specs.Row.{rowOf, tagOf, shapeOf}
 use Rattle.stores.specs.Certificates.{agentOf}
 use Rattle.theory.specs.RowModel.{rowWorld}
 use Rattle.theory.specs.Machine.{State, message}
@@ -76,7 +76,7 @@ module _ (s : State rowWorld) where
 
   -- no row equals the term, and none is unused
   abbrev pub NoRow : Shape ℕ → Type 0
-  NoRow term = ((row : ℕ) → row < s .stores .memory .used → rowAt row ≢ wordOf term) × (length (s .stores .memory .rows) ≤ s .stores .memory .used)
+  NoRow term = ((row : ℕ) → row < s .stores .memory .used → rowAt row ≢ rowOf term) × (length (s .stores .memory .rows) ≤ s .stores .memory .used)
 
   module _ (kind : ℕ → ℕ) where
     pub data Sticks : Instruction → ℕ → Type 0 where

@@ -6,7 +6,7 @@ use mathlib.Core.List.{List, [], _∷_}
 use lib.ListN.{drop}
 use Rattle.word.specs.All.{All}
 use Rattle.word.specs.Fields.{split, at}
-use Rattle.terms.specs.Row.{wordOf, tagOf, shapeOf}
+use Rattle.terms.specs.Row.{rowOf, tagOf, shapeOf}
 
 pub record Fields : Type 0 where
   pub tag : ℕ
@@ -36,4 +36,4 @@ pub record PackedRow (word : ℕ) : Type 0 where
 
 -- and that is what the known tag and the packing equation of a good row come to
 pub record Rows : Type 0 where
-  pub packed : (word : ℕ) → ((1 ≤ tagOf word) × (tagOf word ≤ 10) × (wordOf (shapeOf word) ≡ word)) ↔ PackedRow word
+  pub packed : (word : ℕ) → ((1 ≤ tagOf word) × (tagOf word ≤ 10) × (rowOf (shapeOf word) ≡ word)) ↔ PackedRow word
