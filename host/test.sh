@@ -8,11 +8,9 @@ top=$(dirname "$here")
 . "$here/platform.sh"
 out=$top/target/host
 mkdir -p "$out/bundles"
-passed=0 failed=0
-
-count() { # STATUS NAME
-    if [ "$1" -eq 0 ]; then passed=$((passed + 1)); else failed=$((failed + 1)) && echo "host: $2 FAILED"; fi
-}
+who=host
+# shellcheck source-path=SCRIPTDIR source=count.sh
+. "$here/count.sh"
 
 run_cargo() { (cd "$here" && CARGO_TARGET_DIR=$out "$cargo" "$@"); }
 
@@ -25,8 +23,7 @@ rust_tests() {
     run_cargo test --offline --release >"$out/log" 2>&1
     status=$?
     cat "$out/log"
-    passed=$((passed + $(total passed))) failed=$((failed + $(total failed)))
-    if [ "$status" -ne 0 ] && [ "$(total failed)" -eq 0 ]; then count 1 'the build of the Rust tests'; fi
+    add_counts "$(total passed)" "$(total failed)" "$status" 'the build of the Rust tests'
 }
 
 c_test() {

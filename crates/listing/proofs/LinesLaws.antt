@@ -3,7 +3,7 @@ use Prim.Native.Nat.{ℕ, _≤_}
 use mathlib.Core.Path.{_≡_, refl, sym, _∙_, ap, subst}
 use mathlib.Core.Bool.{Bool, true, false, not}
 use mathlib.Core.Option.{Option, none, some}
-use mathlib.Core.List.{List}
+use mathlib.Core.List.{List, _++_}
 use native.Mathlib.Omega.{arith}
 use borrow.Author.Tests.{not-true, not-false, eq-eqb, ne-eqb}
 use lib.ListN.{length, take, replicate}
@@ -20,7 +20,8 @@ use Rattle.bundles.specs.Bundle.{Bundle, readBundle, clearOf}
 use Rattle.calls.specs.Compile.{CompileOutcome}
 use Rattle.calls.specs.Run.{Lent, RunOutcome, run}
 use Rattle.numbers.specs.Limits.{mostCodeWords}
-use Rattle.printing.specs.Listing.{refusedLine, lentTo, compileOf, compiledFrom, ranLines, compiledLines, bundleLines, listing}
+use Rattle.terms.specs.Rules.{usedRows}
+use Rattle.printing.specs.Listing.{refusedLine, codeLines, endNumbers, setLines, lentTo, compileOf, compiledFrom, ranLines, compiledLines, bundleLines, listing}
 use Rattle.calls.proofs.CompileLaws.{part-fits}
 use Rattle.calls.proofs.Product.{compile-writes}
 
@@ -34,9 +35,10 @@ refused-none bytes refuses = go (readBundle bytes) refuses
 
 module _ {before after : List ℕ} {next : ℕ} where
   -- the outcome that is printed is run's
-  pub ran-listed : (x : Lent) (code : List ℕ) {outcome : RunOutcome} → outcome ≡ run x code → Wrote (ranLines code outcome) before 0 after next
+  pub ran-listed : (x : Lent) (code : List ℕ) {outcome : RunOutcome} {used : ℕ} → outcome ≡ run x code → used ≡ usedRows (outcome .terms)
+      → Wrote (codeLines 0 code ++ endNumbers (outcome .answer) used (outcome .counter) (outcome .accumulator) ++ setLines (outcome .answer) (outcome .objects) (outcome .messages)) before 0 after next
       → Wrote (ranLines code (run x code)) before 0 after next
-  ran-listed x code is wrote = subst (λ o. Wrote (ranLines code o) before 0 after next) is wrote
+  ran-listed x code is counted wrote = subst (λ o. Wrote (ranLines code o) before 0 after next) is (rw (← counted) wrote)
 
   -- compile refuses, or its words run
   module _ (b : Bundle) {room code : List ℕ} {answer : Compiled} {number place : ℕ} (zeros : room ≡ replicate mostCodeWords 0)

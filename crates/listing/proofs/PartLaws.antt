@@ -3,7 +3,7 @@ use Prim.Native.Nat.{ℕ, _-_, _≤_}
 use mathlib.Core.Path.{_≡_, sym, _∙_, ap}
 use mathlib.Core.List.{List, [], _++_, append-nil}
 use native.Mathlib.Omega.{arith}
-use lib.ListN.{length, take, replicate, length-take}
+use lib.ListN.{length, take, replicate, length-take, length-append, length-replicate}
 use lib.Seq.{take-at}
 use Rattle.bundles.specs.Opening.{bundleIn, opened}
 use Rattle.bundles.specs.declared.Header.{Header}
@@ -11,7 +11,14 @@ use Rattle.bundles.specs.declared.Opened.the-variants.{Is}
 use Rattle.bundles.proofs.BundleLaws.{fields, lengths}
 use Rattle.stores.specs.Cells.{unset}
 use Rattle.calls.specs.Compile.{CompileOutcome, compile}
-use Rattle.calls.specs.Run.{RunOutcome, run}
+use Rattle.calls.specs.Run.{Lent, RunOutcome, run}
+use Rattle.calls.specs.Valid.{LentWithin}
+use Rattle.calls.proofs.RunLaws.{run-within}
+use Rattle.terms.specs.Rules.{usedRows}
+use Rattle.numbers.specs.Limits.{scratchCells, mostCodeWords, mostTermRows}
+use Rattle.looking.specs.Found.{usedWith}
+use Rattle.running.proofs.EndLaws.{used-counted}
+use Rattle.bundles.proofs.OpeningLaws.{opened-is}
 use Rattle.printing.specs.Listing.{lentTo, compileOf}
 
 module _ (bytes : List ℕ) {header : Header} (opens : opened bytes ≡ Is header) where
@@ -47,6 +54,29 @@ module _ (bytes : List ℕ) {header : Header} (opens : opened bytes ≡ Is heade
   run-lent code kinds-are objects-are messages-are certificates-are terms-are ran =
       let f = fields bytes header opens in
       ran ∙ rw (kinds-are, objects-are, messages-are, certificates-are, terms-are, ← (f .accumulator), ← (f .counter))
+
+-- what is lent to a bundle's run is within the limits, so that its used rows come back
+module _ (bytes : List ℕ) {header : Header} (opens : opened bytes ≡ Is header) (code : List ℕ) (few : length code ≤ mostCodeWords) where
+  abbrev x : Lent
+  x = lentTo (bundleIn bytes)
+
+  within : LentWithin x
+  within =
+      let l = lengths bytes header opens in
+      let f = fields bytes header opens in
+      let o = opened-is bytes header opens in
+      record {
+        kinds = l .kinds;
+        objects = l .objects;
+        messages = length-append (bundleIn bytes .named) (replicate scratchCells unset) ∙ omega (arith, l .named, length-replicate scratchCells unset);
+        certificates = omega (arith, l .certificates, f .limits .2);
+        terms = rw length-append (omega (arith, l .terms, f .limits .1, length-replicate {A = ℕ} (mostTermRows - length (bundleIn bytes .terms)) 0));
+        counter = rw (f .counter, o .is) (o .within .header .counter);
+      }
+
+  pub ran-counted : {outcome : RunOutcome} {used : ℕ} → outcome ≡ run x code → used ≡ usedWith (outcome .answer) (outcome .terms) → used ≡ usedRows (outcome .terms)
+  ran-counted e used =
+      used-counted x code (run-within x code .1 (within, few)) (used ∙ ap (λ o. usedWith (o .answer) (o .terms)) e) ∙ sym (ap (λ o. usedRows (o .terms)) e)
 
 -- a front that is a part lies within its array
 module _ (count : ℕ) (array : List ℕ) {part : List ℕ} (is : take count array ≡ part) (long : length part ≡ count) where

@@ -15,7 +15,7 @@ use bundles::Opened;
 
 // Runs code over what the bundle holds.
 fn ran_lines(bytes: &[u8], header: Header, code: &[u32], out: &mut [u8]) -> usize
-    requires { ⌜ (opened (now bytes) ≡ Opened.Is header) × (length (now code) ≤ 768) ⌝ }
+    requires { ⌜ (opened (now bytes) ≡ Opened.Is header) × (length (now code) ≤ mostCodeWords) ⌝ }
     ensures { λ r. ⌜ Wrote (ranLines (now (code .entry)) (run (lentTo (bundleIn (now (bytes .entry)))) (now (code .entry)))) (now (out .entry)) 0 (now (out .exit)) r ⌝ }
 {
     let kinds = parts::kinds(bytes, header);
@@ -41,9 +41,9 @@ fn ran_lines(bytes: &[u8], header: Header, code: &[u32], out: &mut [u8]) -> usiz
         answer,
         &objects,
         &messages,
-        ended.accumulator,
-        &rows,
+        ended.used as u32,
         ended.counter,
+        ended.accumulator,
     )
 }
 

@@ -8,6 +8,7 @@ use lib.Dec.{eqb}
 use Rattle.word.specs.Fields.{split}
 use Rattle.text.specs.Lines.{line, wordLine}
 use Rattle.answers.specs.Numbers.{compiledNumber, compiledPlace, ranNumber, ranPlace, ranReason}
+use Rattle.answers.specs.declared.Ran.{Ran}
 use Rattle.code.specs.Instruction.{wordWidths}
 use Rattle.terms.specs.Rules.{usedRows}
 use Rattle.stores.specs.Cells.{unset, isSet}
@@ -39,10 +40,12 @@ codeLines place [] = []
 codeLines place (word ∷ rest) = line (place ∷ take 4 (split wordWidths word)) ++ codeLines (suc place) rest
 
 -- answer, place, reason, used rows, counter, accumulator
+abbrev pub endNumbers : Ran → ℕ → ℕ → ℕ → List ℕ
+endNumbers answer used counter accumulator =
+    wordLine endWord (ranNumber answer ∷ ranPlace answer ∷ ranReason answer ∷ used ∷ counter ∷ accumulator ∷ [])
+
 abbrev pub endLine : RunOutcome → List ℕ
-endLine r =
-    wordLine endWord
-    (ranNumber (r .answer) ∷ ranPlace (r .answer) ∷ ranReason (r .answer) ∷ usedRows (r .terms) ∷ r .counter ∷ r .accumulator ∷ [])
+endLine r = endNumbers (r .answer) (usedRows (r .terms)) (r .counter) (r .accumulator)
 
 -- each set cell, numbers rising
 unfoldable pub cellLines : List ℕ → ℕ → List ℕ → List ℕ
@@ -51,9 +54,12 @@ cellLines word n (cell ∷ rest) =
     elim (isSet cell) [ true ↦ wordLine word (n ∷ cell ∷ []) ++ cellLines word (suc n) rest | false ↦ cellLines word (suc n) rest ]
 
 -- the cells after answer 0; scratch never
+abbrev pub setLines : Ran → List ℕ → List ℕ → List ℕ
+setLines answer objects messages =
+    elim (eqb (ranNumber answer) 0) [ true ↦ cellLines objectWord 0 objects ++ cellLines messageWord 0 (take namedCells messages) | false ↦ [] ]
+
 abbrev pub storeLines : RunOutcome → List ℕ
-storeLines r =
-    elim (eqb (ranNumber (r .answer)) 0) [ true ↦ cellLines objectWord 0 (r .objects) ++ cellLines messageWord 0 (take namedCells (r .messages)) | false ↦ [] ]
+storeLines r = setLines (r .answer) (r .objects) (r .messages)
 
 -- the bundle's rows, then zero rows; scratch starts unset
 abbrev pub lentTo : Bundle → Lent

@@ -3,8 +3,10 @@ ghost use mathlib.Core.List.{[], _∷_, _++_};
 ghost use Prim.Native.Nat.{_+_, _<_, _≤_};
 ghost use lib.ListN.{length, take};
 ghost use Rattle.text.specs.Written.{Wrote};
-ghost use Rattle.printing.specs.Listing.{objectWord, messageWord, refusedLine, codeLines, endLine, cellLines, ranLines};
+ghost use Rattle.numbers.specs.Limits.{variables, namedCells, mostCodeWords};
+ghost use Rattle.printing.specs.Listing.{objectWord, messageWord, refusedLine, codeLines, endNumbers, cellLines, setLines};
 use answers::Ran;
+use numbers::limits::VARIABLES;
 
 // `refused NUMBER PLACE`.
 pub fn refused(out: &mut [u8], number: u32, place: u32) -> usize
@@ -15,7 +17,7 @@ pub fn refused(out: &mut [u8], number: u32, place: u32) -> usize
 
 // Place, operation, A, B, n.
 fn code_line(out: &mut [u8], at: usize, place: usize, word: u32) -> usize
-    requires { ⌜ (at ≤ 65200) × (place < 768) ⌝ }
+    requires { ⌜ (at ≤ 65200) × (place < mostCodeWords) ⌝ }
     ensures { λ r. ⌜ Wrote (codeLines place (word ∷ [])) (now (out .entry)) at (now (out .exit)) r ⌝ }
 {
     let operation = word / 134217728;
@@ -26,7 +28,7 @@ fn code_line(out: &mut [u8], at: usize, place: usize, word: u32) -> usize
 }
 
 fn code_lines(out: &mut [u8], code: &[u32]) -> usize
-    requires { ⌜ length (now code) ≤ 768 ⌝ }
+    requires { ⌜ length (now code) ≤ mostCodeWords ⌝ }
     ensures { λ r. ⌜ Wrote (codeLines 0 (now (code .entry))) (now (out .entry)) 0 (now (out .exit)) r ⌝ }
 {
     let mut next: usize = 0;
@@ -38,7 +40,7 @@ fn code_lines(out: &mut [u8], code: &[u32]) -> usize
 
 // A cell that is not set has no line.
 fn cell_line(out: &mut [u8], at: usize, word: &[u8], number: usize, cell: u16) -> usize
-    requires { ⌜ (at + length (now word) ≤ 65000) × (number < 64) ⌝ }
+    requires { ⌜ (at + length (now word) ≤ 65000) × (number < variables) ⌝ }
     ensures { λ r. ⌜ Wrote (cellLines (now (word .entry)) number (cell ∷ [])) (now (out .entry)) at (now (out .exit)) r ⌝ }
 {
     if cell == 65535 {
@@ -48,7 +50,7 @@ fn cell_line(out: &mut [u8], at: usize, word: &[u8], number: usize, cell: u16) -
 }
 
 fn cell_lines(out: &mut [u8], at: usize, word: &[u8], cells: &[u16]) -> usize
-    requires { ⌜ (at ≤ 60000) × (length (now word) ≤ 1) × (length (now cells) ≤ 64) ⌝ }
+    requires { ⌜ (at ≤ 60000) × (length (now word) ≤ 1) × (length (now cells) ≤ variables) ⌝ }
     ensures { λ r. ⌜ Wrote (cellLines (now (word .entry)) 0 (now (cells .entry))) (now (out .entry)) at (now (out .exit)) r ⌝ }
 {
     let mut next = at;
@@ -60,11 +62,11 @@ fn cell_lines(out: &mut [u8], at: usize, word: &[u8], cells: &[u16]) -> usize
 
 // Each set object cell, then each set named cell; scratch never.
 fn store_lines(out: &mut [u8], at: usize, objects: &[u16], messages: &[u16]) -> usize
-    requires { ⌜ (at ≤ 57000) × (length (now objects) ≤ 64) × (64 ≤ length (now messages)) ⌝ }
-    ensures { λ r. ⌜ Wrote (cellLines objectWord 0 (now (objects .entry)) ++ cellLines messageWord 0 (take 64 (now (messages .entry)))) (now (out .entry)) at (now (out .exit)) r ⌝ }
+    requires { ⌜ (at ≤ 57000) × (length (now objects) ≤ variables) × (namedCells ≤ length (now messages)) ⌝ }
+    ensures { λ r. ⌜ Wrote (cellLines objectWord 0 (now (objects .entry)) ++ cellLines messageWord 0 (take namedCells (now (messages .entry)))) (now (out .entry)) at (now (out .exit)) r ⌝ }
 {
     let next = cell_lines(out, at, b"o", objects);
-    cell_lines(out, next, b"m", &messages[..64])
+    cell_lines(out, next, b"m", &messages[..VARIABLES])
 }
 
 // The end line does not look at the cells.
@@ -72,18 +74,16 @@ fn end_line(
     out: &mut [u8],
     at: usize,
     answer: Ran,
-    accumulator: u32,
-    rows: &[u64],
+    used: u32,
     counter: u32,
+    accumulator: u32,
 ) -> usize
-    requires { ⌜ (at ≤ 60000) × (length (now rows) ≤ 4096) ⌝ }
-    ensures { λ r. ⌜ Wrote (endLine (record { answer = answer; objects = []; messages = []; accumulator = accumulator; terms = now (rows .entry); counter = counter }))
-        (now (out .entry)) at (now (out .exit)) r ⌝ }
+    requires { ⌜ at ≤ 60000 ⌝ }
+    ensures { λ r. ⌜ Wrote (endNumbers answer used counter accumulator) (now (out .entry)) at (now (out .exit)) r ⌝ }
 {
     let number = answer.number();
     let place = answer.place();
     let reason = answer.reason();
-    let used = terms::used_rows(rows) as u32;
     let numbers = [number, place, reason, used, counter, accumulator];
     text::put_word_line(out, at, b"end", numbers, 6)
 }
@@ -95,16 +95,16 @@ pub fn ran(
     answer: Ran,
     objects: &[u16],
     messages: &[u16],
-    accumulator: u32,
-    rows: &[u64],
+    used: u32,
     counter: u32,
+    accumulator: u32,
 ) -> usize
-    requires { ⌜ (length (now code) ≤ 768) × (length (now objects) ≤ 64) × (64 ≤ length (now messages)) × (length (now rows) ≤ 4096) ⌝ }
-    ensures { λ r. ⌜ Wrote (ranLines (now (code .entry)) (record { answer = answer; objects = now (objects .entry); messages = now (messages .entry); accumulator = accumulator; terms = now (rows .entry); counter = counter }))
+    requires { ⌜ (length (now code) ≤ mostCodeWords) × (length (now objects) ≤ variables) × (namedCells ≤ length (now messages)) ⌝ }
+    ensures { λ r. ⌜ Wrote (codeLines 0 (now (code .entry)) ++ endNumbers answer used counter accumulator ++ setLines answer (now (objects .entry)) (now (messages .entry)))
         (now (out .entry)) 0 (now (out .exit)) r ⌝ }
 {
     let after_code = code_lines(out, code);
-    let after_end = end_line(out, after_code, answer, accumulator, rows, counter);
+    let after_end = end_line(out, after_code, answer, used, counter, accumulator);
     if answer.number() != 0 {
         return after_end;
     }

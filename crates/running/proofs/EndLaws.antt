@@ -1,20 +1,26 @@
 -- What a run leaves: a refusal what was lent, and the steps their cells where they are done.
 use Prim.Native.Nat.{ℕ}
-use mathlib.Core.Path.{_≡_, sym, _∙_, ap}
-use mathlib.Core.Option.{none}
-use mathlib.Core.List.{List}
+use mathlib.Core.Path.{_≡_, refl, sym, _∙_, ap}
+use mathlib.Core.Bool.{not}
+use mathlib.Core.Option.{Option, none, some}
+use mathlib.Core.List.{List, []}
 use native.Mathlib.Omega.{arith}
 use borrow.Author.Tests.{eq-eqb, ne-eqb}
+use lib.Dec.{T}
 use lib.ListN.{length}
 use Rattle.answers.specs.Numbers.{ranNumber}
 use Rattle.answers.specs.declared.Ran.{Ran}
+use Rattle.answers.specs.declared.Ran.the-variants.{Limit, BadTerm, BadStore, BadWord}
 use Rattle.answers.specs.First.{first}
-use Rattle.terms.specs.Rules.{usedRows}
+use Rattle.code.specs.Words.{badWord}
+use Rattle.numbers.specs.Kinds.{kindIn}
+use Rattle.terms.specs.Rules.{usedRows, badTerm}
 use Rattle.theory.specs.Outcome.{Outcome, done, stuck, room}
 use Rattle.theory.specs.RowModel.{rowWorld}
 use Rattle.theory.specs.Machine.{State}
-use Rattle.calls.specs.Run.{Lent, leftBy, ended, refusals, runBy, run}
-use Rattle.calls.proofs.RunLaws.{stepsOf}
+use Rattle.calls.specs.Run.{Lent, lengthsFit, leftBy, ended, refusals, runBy, run}
+use Rattle.calls.proofs.CompileLaws.{first-some, when-some, map-some, passes-when}
+use Rattle.calls.proofs.RunLaws.{storesFit, stepsOf}
 use Rattle.execution.specs.Steps.{cellsAfter}
 use Rattle.looking.specs.Found.{usedWith}
 use Rattle.looking.proofs.LookLaws.{run-stepped}
@@ -42,6 +48,30 @@ module _ (x : Lent) (code : List ℕ) where
     pub steps-not-done : (ranNumber answer ≡ 0 → ⊥)
         → record { answer = answer; objects = x .objects; messages = x .messages; accumulator = accumulator; terms = terms; counter = counter } ≡ run x code
     steps-not-done other = rw (ne-eqb (ranNumber answer) 0 other) at e ∙ run-stepped x code passes
+
+-- where the lengths fit, the used rows that come back are those of the table
+module _ (x : Lent) (code : List ℕ) (fits : T (lengthsFit x code)) where
+  abbrev NotLimit : Ran → Type 0
+  NotLimit answer = ranNumber answer ≡ 1 → ⊥
+
+  nothing-more : (answer : Ran) → first [] ≡ some answer → NotLimit answer
+  unfolding first
+  nothing-more answer e = absurd (let z : _≡_ {A = ℕ} 0 1 = cc in omega arith)
+
+  refused-otherwise : (answer : Ran) → first (refusals x code) ≡ some answer → NotLimit answer
+  refused-otherwise =
+      first-some NotLimit _ _ (λ answer e. absurd (let z : _≡_ {A = ℕ} 0 1 = let q = passes-when (lengthsFit x code) Limit fits in cc in omega arith))
+      (first-some NotLimit _ _ (map-some BadTerm NotLimit (λ row e. omega arith) (badTerm (x .terms) (x .counter)))
+      (first-some NotLimit _ _ (when-some NotLimit (not (storesFit x)) BadStore (λ e. omega arith))
+      (first-some NotLimit _ _ (map-some BadWord NotLimit (λ word e. omega arith) (badWord (kindIn (x .kinds)) code)) nothing-more)))
+
+  by : (o : Option Ran) → first (refusals x code) ≡ o → NotLimit (runBy x code o .answer)
+  by (some answer) e = refused-otherwise answer e
+  by none e = not-limit x code (stepsOf x code)
+
+  pub used-counted : {used : ℕ} → used ≡ usedWith (run x code .answer) (run x code .terms) → used ≡ usedRows (run x code .terms)
+  unfolding run
+  used-counted is = rw (ne-eqb (ranNumber (run x code .answer)) 1 (by (first (refusals x code)) refl)) at is
 
 -- what was lent, with other cells
 abbrev pub withCells : Lent → List ℕ → List ℕ → Lent

@@ -1,6 +1,4 @@
-use native.Mathlib.Omega.{arith}
 use borrow.Author.Needs.{needs}
-use Rattle.terms.proofs.TableLaws.{used-rows}
 use Rattle.printing.proofs.RanLaws.{ways}
 use Rattle.printing.proofs.end_line.Statement.{statement}
 use Rattle.printing.proofs.end_line.Tie as tie
@@ -13,12 +11,6 @@ place-requires c κs = search needs
 
 reason-requires : tie.Need-reason-requires
 reason-requires c κs = search needs
-
-used-rows-requires : tie.Need-used-rows-requires
-used-rows-requires c κs = search needs
-
-cast-used : tie.Need-cast-used
-cast-used c = omega (arith, c .used-rows .ensures, used-rows (c .before .before .before .before .before .before .args .rows .now) .inside)
 
 slice-aggregate-put-word-line : tie.Need-slice-aggregate-put-word-line
 slice-aggregate-put-word-line c = search needs
@@ -39,8 +31,6 @@ end-line-spec =
     number-requires
     place-requires
     reason-requires
-    used-rows-requires
-    cast-used
     slice-aggregate-put-word-line
     put-word-line-requires
     same-length

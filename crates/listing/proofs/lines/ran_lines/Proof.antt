@@ -2,7 +2,7 @@ use native.Mathlib.Omega.{arith}
 use borrow.Author.Needs.{needs}
 use Rattle.listing.proofs.LinesLaws.{ran-listed}
 use Rattle.bundles.proofs.BundleLaws.{lengths}
-use Rattle.listing.proofs.PartLaws.{run-lent, front-length, front-inside}
+use Rattle.listing.proofs.PartLaws.{run-lent, ran-counted, front-length, front-inside}
 use Rattle.listing.proofs.lines.ran_lines.Statement.{statement}
 use Rattle.listing.proofs.lines.ran_lines.Tie as tie
 
@@ -54,13 +54,13 @@ slice-aggregate-ran c = search needs
 slice-aggregate-ran-2 : tie.Need-slice-aggregate-ran-2
 slice-aggregate-ran-2 c = search needs
 
-slice-aggregate-ran-3 : tie.Need-slice-aggregate-ran-3
-slice-aggregate-ran-3 c = search needs
+cast-ran : tie.Need-cast-ran
+cast-ran c = search needs
 
 ran-requires : tie.Need-ran-requires
 ran-requires c κs =
     let kept = c .before .before .before .before .before .before .before .run .kept in
-    (c .before .before .before .before .before .before .before .before .before .before .before .before .before .before .before .before .before .before .before .before .before .before .before .pre .1, omega (arith, kept .1 .0), omega (arith, kept .1 .1 .0), omega (arith, kept .1 .1 .1 .1 .1 .0))
+    (c .before .before .before .before .before .before .before .before .before .before .before .before .before .before .before .before .before .before .before .before .before .before .before .pre .1, omega (arith, kept .1 .0), omega (arith, kept .1 .1 .0))
 
 same-length : tie.Need-same-length
 same-length c = search needs
@@ -77,7 +77,7 @@ returns c =
     let lent =
     run-lent _ (start .pre .0) _ (kinds .kinds .ensures) (objects .objects .ensures) (messages .messages .ensures) (pairs .certificates .ensures) (terms .terms .ensures)
     (ran .run .ensures .0) in
-    ran-listed _ _ lent (c .before .before .ran .ensures)
+    ran-listed _ _ lent (ran-counted _ (start .pre .0) _ (start .pre .1) lent (ran .run .ensures .1)) (c .before .before .ran .ensures)
 
 pub ran-lines-spec : {M : Type 1} → statement M
 ran-lines-spec =
@@ -99,7 +99,7 @@ ran-lines-spec =
     run-requires
     slice-aggregate-ran
     slice-aggregate-ran-2
-    slice-aggregate-ran-3
+    cast-ran
     ran-requires
     same-length
     returns)
