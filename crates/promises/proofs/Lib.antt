@@ -23,4 +23,5 @@ pub mod Demand1
 pub mod ListingLaws
 pub mod Printed
 pub mod Example
+pub mod Functions
 pub mod Promises

@@ -12,4 +12,5 @@ pub mod Demand2
 pub mod Demand1
 pub mod Listing
 pub mod Example
+pub mod Functions
 pub mod Promises

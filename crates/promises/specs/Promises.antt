@@ -5,6 +5,7 @@ use Rattle.calls.specs.Cases.{Cases}
 use Rattle.calls.specs.Orders.{Orders, Corners}
 use Rattle.theory.specs.TermModel.{Names}
 use Rattle.calls.specs.Run.{Lent}
+use Rattle.promises.specs.Functions.{Functions}
 use Rattle.promises.specs.Words.{Words}
 use Rattle.promises.specs.Rows.{Rows}
 use Rattle.promises.specs.Reasons.{ReasonTable}
@@ -15,7 +16,9 @@ use Rattle.promises.specs.Demand3.{Demand3}
 use Rattle.promises.specs.Example.{Example}
 use Rattle.promises.specs.Listing.{ListingTable, Printed}
 
-pub record Promises : Type 0 where
+pub record Promises (M : Type 1) : Type 2 where
+  -- the functions meet their contracts, and what the contracts say is what the rest speaks of
+  pub functions : Functions M
   -- every number exactly where its condition holds, and nothing changed by a refusal
   pub demand-1 : Demand1
   -- the rules that 9 and 2 hold a word and a row to, field by field; why a run is stuck or out of room, in the state before the word
@@ -28,7 +31,7 @@ pub record Promises : Type 0 where
   pub demand-2 : Demand2
   -- finished exactly where figures 2 and 3 lead somewhere, with what they give
   pub demand-3 : Demand3
-  -- its premises met by P1 and P2
+  -- its premises met by P1, P2 and P9
   pub example : Example
   -- what a bundle's listing prints
   pub listings : (bytes : List ℕ) → ListingTable bytes
