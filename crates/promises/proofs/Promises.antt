@@ -1,6 +1,7 @@
 -- All promises, each by the page that proves it.
 use Rattle.calls.proofs.Cases.{worked}
 use Rattle.promises.specs.Promises.{Promises}
+use Rattle.promises.proofs.Functions.{functions}
 use Rattle.promises.proofs.WordLaws.{words}
 use Rattle.promises.proofs.RowLaws.{rows}
 use Rattle.promises.proofs.ReasonTable.{reason-table}
@@ -13,8 +14,9 @@ use Rattle.promises.proofs.ForC.{for-c}
 use Rattle.promises.proofs.ListingLaws.{listing-table}
 use Rattle.promises.proofs.Printed.{printed}
 
-pub promises : Promises
+pub promises : {M : Type 1} → Promises M
 promises = record {
+  functions = functions;
   demand-1 = demand-1;
   words = words;
   rows = rows;

@@ -14,7 +14,7 @@ use Rattle.theory.specs.RowModel.{rowWorld}
 use Rattle.theory.specs.Machine.{State}
 use Rattle.theory.specs.Emission.{refuse}
 use Rattle.calls.specs.Compile.{CompileOutcome, compile}
-use Rattle.calls.specs.Run.{Lent, RunOutcome, unchanged, run}
+use Rattle.calls.specs.Run.{Lent, unchanged, run}
 use Rattle.promises.specs.Answers.{CompileAnswers, RunAnswers, compileNumber, runNumber}
 use Rattle.promises.specs.Conditions.{CompileWithin, BadVariable, BadPatternAt, GoodPattern, WrongKindAt, CompileChecked, emission, Emits, RunWithin, BadTermAt, ValidStores, Valid, BadWordAt, RunChecked}
 use Rattle.promises.specs.Steps.{After, At}
@@ -66,10 +66,6 @@ module _ (x : Lent) (code : List ℕ) where
     pub reason : runNumber (run x code) ≡ 10 → (1 ≤ ranReason (run x code .answer)) × (ranReason (run x code .answer) ≤ 7)
     pub no-reason : runNumber (run x code) ≢ 10 → ranReason (run x code .answer) ≡ 0
 
--- Outcomes that a call's promise allows for one input coincide.
 pub record Demand1 : Type 0 where
   pub compiles : (create : Bool) (pattern kinds objects named slice : List ℕ) → CompileTable create pattern kinds objects named slice
   pub runs : (x : Lent) (code : List ℕ) → RunTable x code
-  pub compiles-once : (create : Bool) (pattern kinds objects named slice : List ℕ) {one other : CompileOutcome}
-      → one ≡ compile create pattern kinds objects named slice → other ≡ compile create pattern kinds objects named slice → one ≡ other
-  pub runs-once : (x : Lent) (code : List ℕ) {one other : RunOutcome} → one ≡ run x code → other ≡ run x code → one ≡ other

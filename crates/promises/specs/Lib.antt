@@ -13,4 +13,5 @@ pub mod Demand1
 pub mod Listing
 pub mod Example
 pub mod ForC
+pub mod Functions
 pub mod Promises

@@ -5,6 +5,7 @@ use Rattle.calls.specs.Cases.{Cases}
 use Rattle.calls.specs.Orders.{Orders, Corners}
 use Rattle.theory.specs.TermModel.{Names}
 use Rattle.calls.specs.Run.{Lent}
+use Rattle.promises.specs.Functions.{Functions}
 use Rattle.promises.specs.Words.{Words}
 use Rattle.promises.specs.Rows.{Rows}
 use Rattle.promises.specs.Reasons.{ReasonTable}
@@ -16,7 +17,9 @@ use Rattle.promises.specs.Example.{Example}
 use Rattle.promises.specs.ForC.{ForC}
 use Rattle.promises.specs.Listing.{ListingTable, Printed}
 
-pub record Promises : Type 0 where
+pub record Promises (M : Type 1) : Type 2 where
+  -- the functions meet their contracts, and what the contracts say is what the rest speaks of
+  pub functions : Functions M
   -- every number exactly where its condition holds, and nothing changed by a refusal
   pub demand-1 : Demand1
   -- the rules that 9 and 2 hold a word and a row to, field by field; why a run is stuck or out of room, in the state before the word
@@ -31,7 +34,7 @@ pub record Promises : Type 0 where
   pub demand-3 : Demand3
   -- the same for what firmware calls, over bytes
   pub for-c : ForC
-  -- its premises met by P1 and P2
+  -- its premises met by P1, P2 and P9
   pub example : Example
   -- what a bundle's listing prints
   pub listings : (bytes : List ℕ) → ListingTable bytes
