@@ -3,13 +3,13 @@ use Prim.Native.Nat.{ℕ, zero, suc, _+_, _≤_}
 use mathlib.Core.Path.{_≡_, refl, sym, _∙_, ap}
 use mathlib.Core.Bool.{Bool, true, false, not, _&&_, _||_, and-true}
 use mathlib.Core.Option.{Option, none, some}
-use mathlib.Core.List.{List, [], _∷_, _++_}
+use mathlib.Core.List.{List, [], _∷_}
 use native.Mathlib.Nat.{add-zero, zero-add}
 use native.Mathlib.Omega.{arith}
 use lib.Dec.{T, eqb}
-use lib.ListN.{length, getD, take, drop, length-append, length-drop}
+use lib.ListN.{length, getD, take, length-append, length-drop}
 use lib.Seq.{take-append-seam}
-use borrow.Author.Tests.{le-leb, eq-eqb, ne-eqb}
+use borrow.Author.Tests.{le-leb}
 use Rattle.word.proofs.TestLaws.{equals}
 use Rattle.answers.specs.First.{first}
 use Rattle.answers.specs.Numbers.{compiledNumber, compiledPlace}
@@ -20,7 +20,7 @@ use Rattle.stores.specs.Valid.{kindsFit, eachVariable, undeclaredUnset, declare
 use Rattle.theory.specs.Machine.{Line}
 use Rattle.theory.specs.Emission.{Env, Emitted, ok, refuse}
 use Rattle.calls.specs.Compile.{codeWords, leaves, written, lengthsFit, refusals, emitted, compile}
-use Rattle.calls.proofs.CompileLaws.{NotDone, refusal-not-done, Checked, checked, checks-not-done, compile-within}
+use Rattle.calls.proofs.CompileLaws.{NotDone, refusal-not-done, checked, checks-not-done, compile-within}
 use Rattle.calls.proofs.Product.{checked-refuses, compile-writes}
 use Rattle.emission.specs.Known.{known}
 use Rattle.compiler.specs.CompileKnown.{undeclaredUnknown, declaredKnown, knownFit, knownRefusals, knownEmitted, KnownOutcome, compileKnownBy, compileKnown}

@@ -1,7 +1,6 @@
 -- Up to the place the words are zero.
 use Prim.Native.Nat.{_-_}
 use native.Mathlib.Omega.{arith}
-use borrow.Author.Needs.{needs}
 use Rattle.compiler.proofs.ClearLaws.{Cleared, cleared-none, cleared-more, cleared-all}
 use Rattle.compiler.proofs.walking.clear.Statement.{statement}
 use Rattle.compiler.proofs.walking.clear.Tie as tie
