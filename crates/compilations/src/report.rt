@@ -3,7 +3,6 @@ use crate::expected::Left;
 use crate::expected::ROOM;
 use crate::pattern::Pattern;
 use answers::Compiled;
-use compiler::used;
 use libc::STDOUT_FILENO;
 use reports::Stores;
 use reports::number;
@@ -24,10 +23,19 @@ fn answered(create: bool, pattern: &[u64], stores: Stores, code: &mut [u32]) -> 
     compiler::compile(create, pattern, &kinds, &objects, named(&messages), code)
 }
 
+// So many words of all that there are.
+fn front(words: &mut [u32], count: usize) -> &mut [u32] {
+    if count <= words.len() {
+        &mut words[..count]
+    } else {
+        words
+    }
+}
+
 // A slice of so many sevens is lent.
 pub fn compiled(name: &[u8], create: bool, pattern: &[u64], stores: Stores, lent: usize) -> Left {
     let mut words = [7u32; ROOM];
-    let answer = answered(create, pattern, stores, used(&mut words, lent));
+    let answer = answered(create, pattern, stores, front(&mut words, lent));
     io::write_all(STDOUT_FILENO, name);
     number(answer.number());
     number(answer.place());

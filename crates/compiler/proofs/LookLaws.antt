@@ -1,20 +1,23 @@
 -- What compile finds before the walk, in the checks' order.
-use Prim.Native.Nat.{ℕ, _≤_}
-use mathlib.Core.Path.{_≡_, refl}
-use mathlib.Core.Bool.{Bool, true, false}
+use Prim.Native.Nat.{ℕ, suc, zero, _+_, _<_, _≤_}
+use mathlib.Core.Path.{_≡_, refl, sym, _∙_}
+use mathlib.Core.Bool.{Bool, true, false, not, _&&_, _||_, and-assoc, and-true}
 use mathlib.Core.Option.{Option, none, some}
 use mathlib.Core.List.{List}
+use native.Mathlib.Numerals.{add-one}
 use native.Mathlib.Omega.{arith}
-use lib.ListN.{length}
+use lib.Dec.{T, eqb}
+use lib.ListN.{length, getD, drop, drop-of-length-le}
+use lib.Seq.{drop-cons}
+use Rattle.word.proofs.TestLaws.{both, twice, equals, at-most}
 use Rattle.answers.specs.declared.Compiled.{Compiled}
 use Rattle.answers.specs.declared.Compiled.the-variants.{Limit, BadStore, BadPattern, WrongKind}
-use Rattle.stores.specs.Valid.{declared}
-use Rattle.patterns.specs.Rules.{badPattern}
-use Rattle.patterns.specs.Kinds.{wrongKind}
 use Rattle.answers.specs.First.{first}
 use Rattle.numbers.specs.Kinds.{kindIn}
-use Rattle.calls.specs.Compile.{lengthsFit, refusals}
-use Rattle.calls.proofs.CompileLaws.{compile-within}
+use Rattle.patterns.specs.Rules.{badPattern}
+use Rattle.patterns.specs.Kinds.{wrongKind}
+use Rattle.calls.proofs.CompileLaws.{first-none, when-none, map-none}
+use Rattle.compiler.specs.CompileKnown.{undeclaredUnknown, declaredKnown, knownFit, knownRefusals}
 use Rattle.compiler.specs.Buffer.{findingOf}
 use Rattle.compiler.specs.declared.Finding.{Finding}
 use Rattle.compiler.specs.declared.Finding.the-variants.{Refused, Accepted}
@@ -27,23 +30,59 @@ pub found-none : (o : Option Compiled) → Accepted ≡ findingOf o → o ≡ no
 found-none none e = refl
 found-none (some other) e = absurd (let z : _≡_ {A = ℕ} 0 1 = cc in omega arith)
 
-module _ (create : Bool) (pattern kinds objects named : List ℕ) where
-  abbrev finding : Finding
-  finding = findingOf (first (refusals create pattern kinds objects named))
+-- the variables from v on: this one, and those behind it
+module _ (kinds : List ℕ) (set : ℕ → Bool) (v : ℕ) (gathered : Bool) (left : undeclaredUnknown zero kinds set ≡ (gathered && undeclaredUnknown v (drop v kinds) set)) where
+  pub unknown-gather : v < length kinds
+      → undeclaredUnknown zero kinds set ≡ ((gathered && (not (eqb (getD kinds v 0) 0) || not (set v))) && undeclaredUnknown (v + 1) (drop (v + 1) kinds) set)
+  unfolding undeclaredUnknown
+  unknown-gather inside =
+      left ∙ rw (drop-cons kinds v 0, add-one) (sym (and-assoc gathered (not (eqb (getD kinds v 0) 0) || not (set v)) (undeclaredUnknown (suc v) (drop (suc v) kinds) set)))
 
-  pub found-limit : lengthsFit create pattern kinds objects named ≡ false → Refused Limit ≡ finding
+  pub unknown-gathered : length kinds ≤ v → gathered ≡ undeclaredUnknown zero kinds set
+  unfolding undeclaredUnknown
+  unknown-gathered past = sym (left ∙ rw (drop-of-length-le kinds {i = v} past) (and-true gathered))
+
+-- lengths that fit
+pub record KnownWithin (pattern kinds : List ℕ) : Type 0 where
+  pub least : 1 ≤ length pattern
+  pub most : length pattern ≤ 96
+  pub kinds-length : length kinds ≡ 64
+
+pub known-within : (pattern kinds : List ℕ) → T (knownFit (length pattern) (length kinds)) → KnownWithin pattern kinds
+known-within pattern kinds = simp (both, equals, at-most) λ h. record { least = h .0 .0; most = h .0 .1; kinds-length = h .1 }
+
+module _ (create : Bool) (pattern kinds : List ℕ) (objects : ℕ → Bool) where
+  -- what the walk is given once the checks have passed
+  pub record KnownPassed : Type 0 where
+    pub lengths : KnownWithin pattern kinds
+    pub rows : badPattern pattern ≡ none
+
+  pub known-passed : first (knownRefusals create pattern kinds objects) ≡ none → KnownPassed
+  known-passed e =
+      let (limits, e) = first-none _ _ e in
+      let (cells, e) = first-none _ _ e in
+      let (rows, e) = first-none _ _ e in
+      record {
+        lengths = known-within pattern kinds (twice (knownFit (length pattern) (length kinds)) .0 (when-none (not (knownFit (length pattern) (length kinds))) Limit limits));
+        rows = map-none BadPattern (badPattern pattern) rows;
+      }
+
+  abbrev finding : Finding
+  finding = findingOf (first (knownRefusals create pattern kinds objects))
+
+  pub found-limit : knownFit (length pattern) (length kinds) ≡ false → Refused Limit ≡ finding
   unfolding first
   found-limit e = rw e
 
-  module _ (fits : lengthsFit create pattern kinds objects named ≡ true) where
-    pub few : length pattern ≤ 96
-    few = compile-within create pattern kinds objects named .0 (rw fits tt) .pattern-rows .1
+  module _ (fits : knownFit (length pattern) (length kinds) ≡ true) where
+    pub within : KnownWithin pattern kinds
+    within = known-within pattern kinds (rw fits tt)
 
-    pub found-store : declared kinds objects ≡ false → Refused BadStore ≡ finding
+    pub found-store : declaredKnown kinds objects ≡ false → Refused BadStore ≡ finding
     unfolding first
     found-store e = rw (fits, e)
 
-    module _ (cells : declared kinds objects ≡ true) where
+    module _ (cells : declaredKnown kinds objects ≡ true) where
       pub found-row : {row : ℕ} → badPattern pattern ≡ some row → Refused (BadPattern row) ≡ finding
       unfolding first
       found-row e = rw (fits, cells, e)

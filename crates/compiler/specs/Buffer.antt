@@ -1,21 +1,19 @@
--- Compile into a buffer: its answer but for 8, and words at the buffer's front that come to a lent slice later.
-use Prim.Native.Nat.{ℕ, _≤_}
-use mathlib.Core.Path.{_≡_}
-use mathlib.Core.Bool.{Bool, true, cond}
+-- What is found before the walk, and what the walk leaves in a buffer.
+use Prim.Native.Nat.{ℕ}
+use mathlib.Core.Bool.{Bool}
 use mathlib.Core.Option.{Option, none, some}
 use mathlib.Core.List.{List}
-use lib.ListN.{length, take}
-use lib.Dec.{eqb}
-use Rattle.numbers.specs.Limits.{mostCodeWords}
-use Rattle.answers.specs.Numbers.{compiledNumber, compiledPlace}
 use Rattle.answers.specs.declared.Compiled.{Compiled}
 use Rattle.answers.specs.declared.Compiled.the-variants.{Done}
-use Rattle.calls.specs.Compile.{CompileOutcome, leaves, written, tables, compile}
+use Rattle.calls.specs.Compile.{tables}
 use Rattle.numbers.specs.Kinds.{kindIn}
+use Rattle.emission.specs.Known.{known}
 use Rattle.emission.specs.Meets.{writtenIn, refusalIn, refusal, Does}
 use Rattle.emission.specs.Budget.{patternIn, words, scratches}
+use Rattle.compiler.specs.CompileKnown.{KnownOutcome}
 use Rattle.compiler.specs.declared.Finding.{Finding}
 use Rattle.compiler.specs.declared.Finding.the-variants.{Refused, Accepted}
+use Rattle.compiler.specs.declared.KnownAnswer.{KnownAnswer}
 
 -- what is found before the walk
 abbrev pub findingOf : Option Compiled → Finding
@@ -36,12 +34,6 @@ answerBy none words = Done words
 abbrev pub answerIn : List ℕ → Compiled
 answerIn e = answerBy (refusal (refusalIn e)) (writtenIn e)
 
--- after answer 0 the words at the buffer's front come to the slice, or 8 where they do not fit
-abbrev pub delivered : Compiled → List ℕ → List ℕ → CompileOutcome
-delivered answer buffer code = cond (eqb (compiledNumber answer) 0) (written (take (compiledPlace answer) buffer) code) (leaves answer code)
-
--- whatever slice is lent, what is delivered to it is compile's outcome
-pub record Compiles (create : Bool) (pattern kinds objects named : List ℕ) (answer : Compiled) (buffer : List ℕ) : Type 0 where
-  pub outcome : (code : List ℕ) → delivered answer buffer code ≡ compile create pattern kinds objects named code
-  pub few : eqb (compiledNumber answer) 0 ≡ true → compiledPlace answer ≤ 767
-  pub long : eqb (compiledNumber answer) 0 ≡ true → length buffer ≡ mostCodeWords
+-- an answer with its two numbers, and the buffer afterwards
+abbrev pub outcomeOf : KnownAnswer → List ℕ → KnownOutcome
+outcomeOf r buffer = record { answer = r .answer; words = buffer; objects = known (r .objects); named = known (r .named) }

@@ -1,2 +1,3 @@
--- Compile over a buffer, and over the lent slice.
+-- Compile from which cells are set, and what its walk answers.
+pub mod CompileKnown
 pub mod Buffer

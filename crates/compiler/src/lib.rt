@@ -3,14 +3,20 @@ ghost use mathlib.Core.Path.{_≡_};
 ghost use lib.ListN.{length};
 ghost use Rattle.numbers.specs.Limits.{mostCodeWords};
 ghost use Rattle.calls.specs.Compile.{usedPart, compile};
-ghost use Rattle.compiler.specs.Buffer.{Compiles};
+ghost use Rattle.emission.specs.Known.{known};
+ghost use Rattle.compiler.specs.CompileKnown.{compileKnown};
+ghost use Rattle.compiler.specs.Buffer.{outcomeOf};
 use answers::Compiled;
+pub use cells::set_cells;
 use delivery::deliver;
 use emission::Code;
 use looking::look;
-use numbers::limits::MOST_CODE_WORDS;
+use numbers::limits::VARIABLES;
+use walking::clear;
+use walking::no_words;
 use walking::walk;
 
+mod cells;
 pub mod delivery;
 mod looking;
 mod walking;
@@ -21,21 +27,35 @@ pub enum Finding {
     Accepted,
 }
 
-// Compile into a buffer that is long enough for every code.
-pub fn words(
+// An answer, and which object and named cells are set afterwards: cell 0 at the most significant bit.
+pub struct KnownAnswer {
+    pub answer: Compiled,
+    pub objects: u64,
+    pub named: u64,
+}
+
+// Compile from which cells are set, into a buffer that is long enough for every code. A refusal leaves no word in it.
+pub fn compile_known(
     create: bool,
     pattern: &[u64],
     kinds: &[u8],
-    objects: &[u16],
-    named: &[u16],
+    objects: u64,
+    named: u64,
     buffer: &mut Code,
-) -> Compiled
+) -> KnownAnswer
     requires { ⌜ length (now buffer) ≡ mostCodeWords ⌝ }
-    ensures { λ r. ⌜ Compiles create (now (pattern .entry)) (now (kinds .entry)) (now (objects .entry)) (now (named .entry)) r (now (buffer .exit)) ⌝ }
+    ensures { λ r. ⌜ outcomeOf r (now (buffer .exit)) ≡ compileKnown create (now (pattern .entry)) (now (kinds .entry)) (known objects) (known named) (now (buffer .entry)) ⌝ }
 {
-    let found = look(create, pattern, kinds, objects, named);
+    let found = look(create, pattern, kinds, objects);
     match found {
-        Finding::Refused(answer) => answer,
+        Finding::Refused(answer) => {
+            clear(buffer);
+            KnownAnswer {
+                answer: answer,
+                objects: objects,
+                named: named,
+            }
+        }
         Finding::Accepted => walk(create, pattern, kinds, objects, named, buffer),
     }
 }
@@ -51,8 +71,19 @@ pub fn compile(
     ensures { λ r. ⌜ record { answer = r; code = now (code .exit) }
         ≡ compile create (now (pattern .entry)) (now (kinds .entry)) (now (objects .entry)) (now (named .entry)) (now (code .entry)) ⌝ }
 {
-    let mut buffer = [0u32; MOST_CODE_WORDS];
-    let answer = words(create, pattern, kinds, objects, named, &mut buffer);
+    if (objects.len() != VARIABLES) | (named.len() != VARIABLES) {
+        return Compiled::Limit;
+    }
+    let mut buffer = no_words();
+    let left = compile_known(
+        create,
+        pattern,
+        kinds,
+        set_cells(objects),
+        set_cells(named),
+        &mut buffer,
+    );
+    let answer = left.answer;
     if answer.number() != 0 {
         return answer;
     }

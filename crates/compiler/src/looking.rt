@@ -1,35 +1,53 @@
 // What compile looks at before it emits: 1, 3, 4, 5.
 ghost use mathlib.Core.Path.{_≡_};
-ghost use mathlib.Core.Bool.{_&&_};
-ghost use lib.Dec.{eqb, leb};
-ghost use Rattle.numbers.specs.Limits.{variables, mostPatternRows};
+ghost use Prim.Native.Nat.{zero};
+ghost use lib.ListN.{length};
+ghost use Rattle.numbers.specs.Limits.{variables};
 ghost use Rattle.answers.specs.First.{first};
-ghost use Rattle.calls.specs.Compile.{refusals};
+ghost use Rattle.emission.specs.Known.{known};
+ghost use Rattle.compiler.specs.CompileKnown.{undeclaredUnknown, declaredKnown, knownFit, knownRefusals};
 ghost use Rattle.compiler.specs.Buffer.{findingOf};
 use super::Finding;
 use answers::Compiled;
+use emission::is_known;
 use numbers::limits::MOST_PATTERN_ROWS;
 use numbers::limits::VARIABLES;
 use word::Place;
 
 // 1.
-fn lengths_fit(pattern: usize, kinds: usize, objects: usize, named: usize) -> bool
-    ensures { λ r. ⌜ r ≡ (leb 1 pattern && leb pattern mostPatternRows && eqb kinds variables && eqb objects variables && eqb named variables) ⌝ }
+fn lengths_fit(pattern: usize, kinds: usize) -> bool
+    ensures { λ r. ⌜ r ≡ knownFit pattern kinds ⌝ }
 {
-    (1 <= pattern)
-        & (pattern <= MOST_PATTERN_ROWS)
-        & (kinds == VARIABLES)
-        & (objects == VARIABLES)
-        & (named == VARIABLES)
+    (1 <= pattern) & (pattern <= MOST_PATTERN_ROWS) & (kinds == VARIABLES)
 }
 
-pub fn look(create: bool, pattern: &[u64], kinds: &[u8], objects: &[u16], named: &[u16]) -> Finding
-    ensures { λ r. ⌜ r ≡ findingOf (first (refusals create (now (pattern .entry)) (now (kinds .entry)) (now (objects .entry)) (now (named .entry)))) ⌝ }
+// No object variable that is undeclared is set.
+fn all_declared(kinds: &[u8], objects: u64) -> bool
+    requires { ⌜ length (now kinds) ≡ variables ⌝ }
+    ensures { λ r. ⌜ r ≡ undeclaredUnknown zero (now (kinds .entry)) (known objects) ⌝ }
 {
-    if !lengths_fit(pattern.len(), kinds.len(), objects.len(), named.len()) {
+    let mut declared = true;
+    for v in 0..kinds.len() {
+        declared = declared & ((kinds[v] != 0) | !is_known(objects, v as u8));
+    }
+    declared
+}
+
+// 3.
+fn declares(kinds: &[u8], objects: u64) -> bool
+    requires { ⌜ length (now kinds) ≡ variables ⌝ }
+    ensures { λ r. ⌜ r ≡ declaredKnown (now (kinds .entry)) (known objects) ⌝ }
+{
+    stores::cells::kinds_fit(kinds) & all_declared(kinds, objects)
+}
+
+pub fn look(create: bool, pattern: &[u64], kinds: &[u8], objects: u64) -> Finding
+    ensures { λ r. ⌜ r ≡ findingOf (first (knownRefusals create (now (pattern .entry)) (now (kinds .entry)) (known objects))) ⌝ }
+{
+    if !lengths_fit(pattern.len(), kinds.len()) {
         return Finding::Refused(Compiled::Limit);
     }
-    if !stores::declares(kinds, objects) {
+    if !declares(kinds, objects) {
         return Finding::Refused(Compiled::BadStore);
     }
     let bad = patterns::first_bad_pattern(pattern);

@@ -1,49 +1,29 @@
 // The walk over a pattern that passed the checks.
 ghost use mathlib.Core.Path.{_≡_};
-ghost use mathlib.Core.Bool.{cond};
 ghost use mathlib.Core.Option.{none};
 ghost use mathlib.Core.List.{_++_};
-ghost use Prim.Native.Nat.{_+_, _*_, _^_, _<_, _≤_};
-ghost use lib.ListN.{length, getD, drop, replicate};
+ghost use Prim.Native.Nat.{_≤_};
+ghost use lib.ListN.{length, drop, replicate};
 ghost use Rattle.numbers.specs.Limits.{variables, mostPatternRows, mostCodeWords};
-ghost use Rattle.stores.specs.Cells.{isSet, unset};
 ghost use Rattle.answers.specs.First.{first};
-ghost use Rattle.calls.specs.Compile.{refusals};
 ghost use Rattle.emission.specs.Known.{known};
 ghost use Rattle.emission.specs.Meets.{writtenIn};
 ghost use Rattle.emission.specs.Budget.{Row};
-ghost use Rattle.compiler.specs.Buffer.{answerIn, Emits, Compiles};
+ghost use Rattle.compiler.specs.CompileKnown.{noWords, knownRefusals, compileKnown};
+ghost use Rattle.compiler.specs.Buffer.{answerIn, outcomeOf, Emits};
+use super::KnownAnswer;
 use answers::Compiled;
 use emission::Code;
 use emission::Emission;
 use emission::Kinds;
+use emission::OBJECTS;
+use emission::RAWS;
+use emission::REFUSAL;
 use emission::Rows;
+use emission::WRITTEN;
+use numbers::limits::MOST_CODE_WORDS;
 use numbers::limits::MOST_PATTERN_ROWS;
 use numbers::limits::VARIABLES;
-
-// The set of the cells so far with one more cell behind them.
-fn with_cell(mask: u64, row: u16) -> u64
-    requires { ⌜ mask < 2 ^ 63 ⌝ }
-    ensures { λ r. ⌜ r ≡ 2 * mask + cond (isSet row) 1 0 ⌝ }
-{
-    if stores::cells::is_set(row as u32) {
-        2 * mask + 1
-    } else {
-        2 * mask
-    }
-}
-
-// Which cells are set, cell 0 at the most significant bit.
-fn set_cells(cells: &[u16]) -> u64
-    requires { ⌜ length (now cells) ≡ variables ⌝ }
-    ensures { λ r. ⌜ known r ≡ (λ v. isSet (getD (now (cells .entry)) v unset)) ⌝ }
-{
-    let mut mask: u64 = 0;
-    for cell in 0..cells.len() {
-        mask = with_cell(mask, cells[cell]);
-    }
-    mask
-}
 
 // Zero rows, of which the pattern's take the front.
 fn no_rows() -> Rows
@@ -80,14 +60,14 @@ fn answer_of(emission: Emission) -> Compiled
     requires { ⌜ writtenIn emission ≤ mostCodeWords ⌝ }
     ensures { λ r. ⌜ r ≡ answerIn emission ⌝ }
 {
-    let refusal = emission[emission::REFUSAL];
+    let refusal = emission[REFUSAL];
     let row = (refusal % 256) as u32;
     let number = refusal / 256;
     match number {
         5 => Compiled::WrongKind(row),
         6 => Compiled::WrittenWhileSet(row),
         7 => Compiled::ReadWhileUnset(row),
-        _ => Compiled::Done(emission[emission::WRITTEN] as u32),
+        _ => Compiled::Done(emission[WRITTEN] as u32),
     }
 }
 
@@ -110,23 +90,54 @@ fn emit_row(
     }
 }
 
+// Of a large array only the length is promised: a goal would spell every zero.
+pub fn no_words() -> Code
+    ensures { λ r. ⌜ length r ≡ mostCodeWords ⌝ }
+{
+    [0u32; MOST_CODE_WORDS]
+}
+
+// After a refusal no word is left.
+pub fn clear(buffer: &mut Code)
+    requires { ⌜ length (now buffer) ≡ mostCodeWords ⌝ }
+    ensures { λ _. ⌜ now (buffer .exit) ≡ noWords ⌝ }
+{
+    for place in 0..MOST_CODE_WORDS {
+        buffer[place] = 0;
+    }
+}
+
 pub fn walk(
     create: bool,
     pattern: &[u64],
     kinds: &[u8],
-    objects: &[u16],
-    named: &[u16],
+    objects: u64,
+    named: u64,
     buffer: &mut Code,
-) -> Compiled
-    requires { ⌜ first (refusals create (now pattern) (now kinds) (now objects) (now named)) ≡ none ⌝ }
+) -> KnownAnswer
+    requires { ⌜ first (knownRefusals create (now pattern) (now kinds) (known objects)) ≡ none ⌝ }
     requires { ⌜ length (now buffer) ≡ mostCodeWords ⌝ }
-    ensures { λ r. ⌜ Compiles create (now (pattern .entry)) (now (kinds .entry)) (now (objects .entry)) (now (named .entry)) r (now (buffer .exit)) ⌝ }
+    ensures { λ r. ⌜ outcomeOf r (now (buffer .exit)) ≡ compileKnown create (now (pattern .entry)) (now (kinds .entry)) (known objects) (known named) (now (buffer .entry)) ⌝ }
 {
     let mut rows = no_rows();
     lay_rows(pattern, &mut rows);
     let root = (pattern.len() - 1) as u8;
-    let mut emission: Emission = [set_cells(objects), set_cells(named), 0, 0, 0];
+    let mut emission: Emission = [objects, named, 0, 0, 0];
     let all = all_kinds(kinds);
     emit_row(create, &rows, &all, buffer, &mut emission, root);
-    answer_of(emission)
+    let answer = answer_of(emission);
+    if emission[REFUSAL] == 0 {
+        KnownAnswer {
+            answer: answer,
+            objects: emission[OBJECTS],
+            named: emission[RAWS],
+        }
+    } else {
+        clear(buffer);
+        KnownAnswer {
+            answer: answer,
+            objects: objects,
+            named: named,
+        }
+    }
 }

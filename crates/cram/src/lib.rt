@@ -38,14 +38,15 @@ pub extern "C" fn cram_compile(
     let named_cells = arrays::cells(named);
     let mut buffer = arrays::no_words();
     let lent = pattern.len() / 8;
-    let answer = compiler::words(
+    let left = compiler::compile_known(
         create == 1,
         &rows[..lent],
         kinds,
-        &object_cells,
-        &named_cells,
+        compiler::set_cells(&object_cells),
+        compiler::set_cells(&named_cells),
         &mut buffer,
     );
+    let answer = left.answer;
     if answer.number() != 0 {
         return compiles::numbers(answer);
     }

@@ -75,20 +75,20 @@ module _ {e code e′ code′ : List ℕ} where
   pub does-by : {f : Env → Emitted} {w m : ℕ}
       → (refusalIn e ≡ 0 → Meets (f (envOf e)) (writtenIn e) code e′ code′)
       → ((answer : Compiled) → refusal (refusalIn e) ≡ some answer → refusal (refusalIn e′) ≡ some answer)
-      → writtenIn e′ ≤ writtenIn e + w → nextIn e′ ≤ nextIn e + m → length e′ ≡ length e → Does f w m e code e′ code′
-  does-by {f} h g p q l = record { go = λ a start blank m. met-then a f h g m; place = p; free = q; long = l }
+      → writtenIn e′ ≤ writtenIn e + w → nextIn e′ ≤ nextIn e + m → length e′ ≡ length e → length code′ ≡ length code → Does f w m e code e′ code′
+  does-by {f} h g p q l k = record { go = λ a start blank m. met-then a f h g m; place = p; free = q; long = l; kept = k }
 
   -- the same step, said otherwise
   pub does-as : {f g : Env → Emitted} {w m : ℕ} → ((env : Env) → g env ≡ f env) → Does f w m e code e′ code′ → Does g w m e code e′ code′
   does-as {w = w} {m = m} h k = subst (λ (x : Env → Emitted). Does x w m e code e′ code′) (sym (fun-ext h)) k
 
   pub does-le : {f : Env → Emitted} {w m x n : ℕ} → w ≤ x → m ≤ n → Does f w m e code e′ code′ → Does f x n e code e′ code′
-  does-le h g k = record { go = k .go; place = omega (arith, k .place); free = omega (arith, k .free); long = k .long }
+  does-le h g k = record { go = k .go; place = omega (arith, k .place); free = omega (arith, k .free); long = k .long; kept = k .kept }
 
   -- a step that depends on what is known, taken at what is known in e
   pub does-env : (f : Env → Env → Emitted) {w m : ℕ} → Does (f (envOf e)) w m e code e′ code′ → Does (λ env. f env env) w m e code e′ code′
   unfolding MeetsBy andThen
-  does-env f k = record { go = λ a start blank m. by a m (k .go a start blank m); place = k .place; free = k .free; long = k .long }
+  does-env f k = record { go = λ a start blank m. by a m (k .go a start blank m); place = k .place; free = k .free; long = k .long; kept = k .kept }
     where
       by : {start : ℕ} {blank : List ℕ} (a : Emitted) → Meets a start blank e code → Meets (andThen a (f (envOf e))) start blank e′ code′ → Meets (andThen a (λ env. f env env)) start blank e′ code′
       by {start} {blank} (ok lines env) m n = subst (λ (x : Env). Meets (behind lines (f x env)) start blank e′ code′) (m .met .env) n
@@ -103,6 +103,7 @@ does-seq {f} {g} {e₂ = e₂} {code₂ = code₂} k l =
       place = omega (arith, k .place, l .place);
       free = omega (arith, k .free, l .free);
       long = l .long ∙ k .long;
+      kept = l .kept ∙ k .kept;
     }
 
 -- nothing is done
@@ -110,7 +111,7 @@ pub does-none : {e code : List ℕ} → Does (ok []) 0 0 e code e code
 unfolding MeetsBy
 does-none =
     does-by (λ h. record { met = record { fine = h; env = refl; written = omega arith; words = refl } }) (λ answer h. h)
-    (omega arith) (omega arith) refl
+    (omega arith) (omega arith) refl refl
 
 -- a step that goes by a test of what is known
 module _ (t : Env → Bool) (f g : Env → Emitted) {w m : ℕ} {e code e′ code′ : List ℕ} where

@@ -29,7 +29,7 @@ quiet {f} {e = e} {e′ = e′} h r w n l =
     record {
       does = λ code. does-by
           (λ fine. rw h (record { met = record { fine = r ∙ fine; env = refl; written = omega arith; words = refl } }))
-          (λ answer k. rw r k) (omega arith) n l;
+          (λ answer k. rw r k) (omega arith) n l refl;
       place = omega arith;
       free = n;
       long = l;
@@ -70,7 +70,7 @@ refused {f} e number row answer five low h g = by (ℕ-discrete (refusalIn e) 0)
           does = λ code. does-by
               (λ _. rw g (record { met = rw (getD-set-same e 4 n 0 (omega arith)) (refusal-of number row low ∙ h) }))
               (λ earlier k. let z : _≡_ {A = ℕ} 0 1 = cc (refusal-none) in absurd (omega arith))
-              (omega arith) (omega arith) l;
+              (omega arith) (omega arith) l refl;
           place = omega arith;
           free = omega arith;
           long = l;
@@ -78,7 +78,7 @@ refused {f} e number row answer five low h g = by (ℕ-discrete (refusalIn e) 0)
     by (no there) =
         rw (ne-eqb (refusalIn e) 0 there)
         (record {
-          does = λ code. does-by (λ fine. absurd (there fine)) (λ answer k. k) (omega arith) (omega arith) refl;
+          does = λ code. does-by (λ fine. absurd (there fine)) (λ answer k. k) (omega arith) (omega arith) refl refl;
           place = omega arith;
           free = omega arith;
           long = refl;
@@ -176,4 +176,4 @@ appended e code l word five h =
     does-by
     (λ fine. record { met = record { fine = f ∙ fine; env = rw (o, r, n); written = w; words = rw h } })
     (λ answer k. rw f k)
-    (omega arith) (omega arith) (length-set e 3 x)
+    (omega arith) (omega arith) (length-set e 3 x) (length-set code (writtenIn e) word)

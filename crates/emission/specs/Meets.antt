@@ -68,6 +68,7 @@ pub record Does (f : Env → Emitted) (w m : ℕ) (e code e′ code′ : List �
   pub place : writtenIn e′ ≤ writtenIn e + w
   pub free : nextIn e′ ≤ nextIn e + m
   pub long : length e′ ≡ length e
+  pub kept : length code′ ≡ length code
 
 -- a step without a word, whatever the code is
 pub record Quiet (f : Env → Emitted) (m : ℕ) (e e′ : List ℕ) : Type 0 where

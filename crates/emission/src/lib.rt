@@ -47,7 +47,7 @@ pub type Kinds = [u8; VARIABLES];
 pub type Code = [u32; MOST_CODE_WORDS];
 
 // Whether a set of 64 bits has a variable.
-fn is_known(mask: u64, v: u8) -> bool
+pub fn is_known(mask: u64, v: u8) -> bool
     ensures { λ r. ⌜ r ≡ known mask v ⌝ }
 {
     if (v as usize) < VARIABLES {

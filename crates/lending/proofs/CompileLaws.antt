@@ -16,8 +16,8 @@ use Rattle.answers.specs.declared.Compiled.the-variants.{Done, Limit, CodeTooSh
 use Rattle.numbers.specs.Limits.{variables, namedCells, mostPatternRows}
 use Rattle.calls.specs.Compile.{CompileOutcome, leaves, written, lengthsFit, compile}
 use Rattle.answers.specs.First.{first}
-use Rattle.compiler.specs.Buffer.{Compiles}
-use Rattle.compiler.proofs.DeliveryLaws.{too-short, all-fit, compile-refused, compile-done}
+use Rattle.compiler.proofs.DeliveryLaws.{too-short, all-fit}
+use Rattle.compiler.proofs.OverCells.{Compiles}
 use Rattle.looking.proofs.LookLaws.{true-holds}
 use Rattle.lending.specs.Entries.{CompileLeft, compiledNumbers, compileSpelled, compileRefused, compileWhole, compileEntry}
 use Rattle.lending.proofs.ChoiceLaws.{where-true, either-way}
@@ -78,6 +78,12 @@ module _ (create : ℕ) (pattern kinds objects named code : List ℕ) where
         code-bytes = t .1;
       }
 
+  pub object-count : Fitting → length (elements 2 objects) ≡ 64
+  object-count f = length-words 2 (length objects / 2) objects ∙ omega (arith, f .object-bytes)
+
+  pub named-count : Fitting → length (elements 2 named) ≡ 64
+  named-count f = length-words 2 (length named / 2) named ∙ omega (arith, f .named-bytes)
+
   -- elements within the limits are bytes that fit
   refits : T isWhole → T (lengthsFit (eqb create 1) (elements 8 pattern) kinds (elements 2 objects) (elements 2 named)) → T bytesFit
   refits =
@@ -103,8 +109,8 @@ module _ (create : ℕ) (pattern kinds objects named code : List ℕ) where
     pub entry-refused : Below 256 code → (compiledNumber answer ≡ 0 → ⊥)
         → record { answer = compiledNumbers answer; code = code } ≡ compileEntry create pattern kinds objects named code
     entry-refused below other =
-        rw (spelled-elements 4 code (equals (length code % 4) 0 .1 (f .code-bytes)) below) at (ap compileSpelled (compile-refused compiles (elements 4 code) other)) ∙ fits
+        rw (spelled-elements 4 code (equals (length code % 4) 0 .1 (f .code-bytes)) below) at (ap compileSpelled (compiles .refused (elements 4 code) other)) ∙ fits
 
     pub entry-done : {left : CompileLeft} → compiledNumber answer ≡ 0 → left ≡ compileSpelled (written (take (compiledPlace answer) buffer) (elements 4 code))
         → left ≡ compileEntry create pattern kinds objects named code
-    entry-done zero e = e ∙ ap compileSpelled (compile-done compiles (elements 4 code) zero) ∙ fits
+    entry-done zero e = e ∙ ap compileSpelled (compiles .delivered (elements 4 code) zero) ∙ fits

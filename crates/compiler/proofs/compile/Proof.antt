@@ -1,4 +1,4 @@
--- What the words in the buffer come to in the lent slice.
+-- Cells that are set are known; the words in the buffer come to the lent slice.
 use Prim.Native.Nat.{_≤_}
 use mathlib.Core.Path.{_≡_, sym, _∙_}
 use native.Mathlib.Omega.{arith}
@@ -6,29 +6,62 @@ use lib.ListN.{length}
 use lib.Seq.{length-take-le}
 use borrow.Author.Needs.{needs}
 use Rattle.answers.specs.Numbers.{compiledNumber}
-use Rattle.compiler.proofs.DeliveryLaws.{compile-refused, compile-done, few-words, buffer-length}
+use Rattle.compiler.proofs.OverCells.{Compiles, cells-limit, cells-lengths, known-compiles}
 use Rattle.compiler.proofs.compile.Statement.{statement}
 use Rattle.compiler.proofs.compile.Tie as tie
 
+-- both slices of cells are whole
+module _ (c : tie.Else1) where
+  abbrev start : tie.Start
+  start = c .before .before .before .before .before .before
+
+  lengths : (length (start .args .objects .now) ≡ 64) × (length (start .args .named .now) ≡ 64)
+  lengths = cells-lengths _ _ (c .if1 .left)
+
+module _ (c : tie.After-compile-known) where
+  abbrev whole : tie.Else1
+  whole = c .before .before .before .before .before
+
+  compiles : Compiles (start whole .args .create) (start whole .args .pattern .now) (start whole .args .kinds .now) (start whole .args .objects .now) (start whole .args .named .now)
+      (c .compile-known .result .answer) (c .compile-known .last .1 .1 .1 .1 .1 .0)
+  compiles =
+      known-compiles _ _ _ _ _ _ _ (lengths whole .0) (lengths whole .1) (c .before .before .before .set-cells .ensures) (c .before .before .set-cells2 .ensures) _ (c .before .before .before .before .no-words .ensures)
+      (c .compile-known .ensures)
+
 -- the answer is 0: the buffer has so many words
 module _ (c : tie.After-place) where
-  zero : compiledNumber (c .before .before .before .words .result) ≡ 0
-  zero = sym (c .before .before .number .ensures .0) ∙ c .before .if1 .left
+  abbrev answered : tie.After-compile-known
+  answered = c .before .before .before
+
+  zero : compiledNumber (answered .compile-known .result .answer) ≡ 0
+  zero = sym (c .before .before .number .ensures .0) ∙ c .before .if2 .left
 
   fits : c .place .result ≤ 768
-  fits = omega (arith, c .place .ensures, few-words (c .before .before .before .words .ensures) zero)
+  fits = omega (arith, c .place .ensures, compiles answered .few zero)
 
-  inside : c .place .result ≤ length (c .before .before .before .words .last .1 .1 .1 .1 .1 .0)
-  inside = omega (arith, c .place .ensures, few-words (c .before .before .before .words .ensures) zero, buffer-length (c .before .before .before .words .ensures) zero)
+  inside : c .place .result ≤ length (answered .compile-known .last .1 .1 .1 .1 .1 .0)
+  inside = omega (arith, c .place .ensures, compiles answered .few zero, compiles answered .long zero)
 
-words-requires : tie.Need-words-requires
-words-requires c κs = search needs
+returns : tie.Need-returns
+returns c = cells-limit _ _ _ _ _ _ (c .if1 .taken)
+
+no-words-requires : tie.Need-no-words-requires
+no-words-requires c κs = search needs
+
+set-cells-requires : tie.Need-set-cells-requires
+set-cells-requires c κs = lengths (c .before) .0
+
+set-cells-requires-2 : tie.Need-set-cells-requires-2
+set-cells-requires-2 c κs = lengths (c .before .before) .1
+
+compile-known-requires : tie.Need-compile-known-requires
+compile-known-requires c κs = c .before .before .before .no-words .ensures
 
 number-requires : tie.Need-number-requires
 number-requires c κs = search needs
 
-returns : tie.Need-returns
-returns c = compile-refused (c .before .before .words .ensures) _ (λ e. c .if1 .taken (c .before .number .ensures .0 ∙ e))
+returns-2 : tie.Need-returns-2
+returns-2 c = compiles (c .before .before) .refused _ (λ e. c .if2 .taken (c .before .number .ensures .0 ∙ e))
 
 place-requires : tie.Need-place-requires
 place-requires c κs = search needs
@@ -48,20 +81,26 @@ deliver-requires c κs = rw (length-take-le (c .before .before .place .result) _
 same-length : tie.Need-same-length
 same-length c = search needs
 
-returns-2 : tie.Need-returns-2
-returns-2 c = c .before .before .deliver .ensures ∙ rw (c .before .before .before .before .before .place .ensures) (compile-done (c .before .before .before .before .before .before .before .before .words .ensures) _ (zero (c .before .before .before .before .before)))
+returns-3 : tie.Need-returns-3
+returns-3 c =
+    let placed = c .before .before .before .before .before in
+    c .before .before .deliver .ensures ∙ rw (placed .place .ensures) (compiles (answered placed) .delivered _ (zero placed))
 
 pub compile-spec : {M : Type 1} → statement M
 compile-spec =
     tie.close
     (tie.spec
-    words-requires
-    number-requires
     returns
+    no-words-requires
+    set-cells-requires
+    set-cells-requires-2
+    compile-known-requires
+    number-requires
+    returns-2
     place-requires
     cast-count
     array-share-prefix-buffer
     slice-aggregate-deliver
     deliver-requires
     same-length
-    returns-2)
+    returns-3)

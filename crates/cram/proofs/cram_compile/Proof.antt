@@ -9,9 +9,8 @@ use lib.Dec.{eqb}
 use lib.ListN.{length}
 use Rattle.word.specs.Bytes.{elements}
 use Rattle.answers.specs.Numbers.{compiledNumber}
-use Rattle.compiler.specs.Buffer.{Compiles}
-use Rattle.compiler.proofs.DeliveryLaws.{few-words, buffer-length}
-use Rattle.lending.proofs.CompileLaws.{Fitting, fitting, compile-limit, entry-refused, entry-done}
+use Rattle.compiler.proofs.OverCells.{Compiles, known-compiles}
+use Rattle.lending.proofs.CompileLaws.{Fitting, fitting, object-count, named-count, compile-limit, entry-refused, entry-done}
 use Rattle.cram.proofs.cram_compile.Statement.{statement}
 use Rattle.cram.proofs.cram_compile.Tie as tie
 
@@ -24,27 +23,29 @@ module _ (c : tie.Else1) where
   fits = fitting _ _ _ _ _ _ (sym (c .before .lengths-fit .ensures) ∙ not-false _ (c .if1 .left))
 
 -- the compiler has answered
-module _ (c : tie.After-words) where
+module _ (c : tie.After-compile-known) where
   abbrev here : tie.Else1
-  here = c .before .before .before .before .before .before .before .before .before
+  here = c .before .before .before .before .before .before .before .before .before .before .before
 
   compiles : Compiles (eqb (start here .args .create) 1) (elements 8 (start here .args .pattern .now)) (start here .args .kinds .now)
-      (elements 2 (start here .args .objects .now)) (elements 2 (start here .args .named .now)) (c .words .result) (c .words .last .1 .1 .1 .1 .1 .0)
-  compiles = rw (c .before .before .before .before .before .before .before .before .pattern-rows .ensures, c .before .before .before .before .before .before .before .cells .ensures, c .before .before .before .before .before .before .cells2 .ensures) at (c .words .ensures)
+      (elements 2 (start here .args .objects .now)) (elements 2 (start here .args .named .now)) (c .compile-known .result .answer) (c .compile-known .last .1 .1 .1 .1 .1 .0)
+  compiles =
+      known-compiles _ _ _ _ _ _ _ (object-count _ _ _ _ _ _ (fits here)) (named-count _ _ _ _ _ _ (fits here)) (rw (c .before .before .before .before .before .before .before .before .before .cells .ensures) at (c .before .before .before .before .set-cells .ensures))
+      (rw (c .before .before .before .before .before .before .before .before .cells2 .ensures) at (c .before .before .set-cells2 .ensures)) _ (sym (c .before .before .before .before .before .before .before .no-words .ensures)) (rw (c .before .before .before .before .before .before .before .before .before .before .pattern-rows .ensures) at (c .compile-known .ensures))
 
 -- its answer is 0: the buffer has so many words
 module _ (c : tie.After-place) where
-  abbrev answered : tie.After-words
+  abbrev answered : tie.After-compile-known
   answered = c .before .before .before
 
-  zero : compiledNumber (answered .words .result) ≡ 0
+  zero : compiledNumber (answered .compile-known .result .answer) ≡ 0
   zero = sym (c .before .before .number .ensures .0) ∙ c .before .if2 .left
 
   few : c .place .result ≤ 767
-  few = rw (c .place .ensures) (few-words (answered .words .ensures) zero)
+  few = rw (c .place .ensures) (compiles answered .few zero)
 
-  inside : c .place .result ≤ length (answered .words .last .1 .1 .1 .1 .1 .0)
-  inside = omega (arith, few, buffer-length (answered .words .ensures) zero)
+  inside : c .place .result ≤ length (answered .compile-known .last .1 .1 .1 .1 .1 .0)
+  inside = omega (arith, few, compiles answered .long zero)
 
 lengths-fit-requires : tie.Need-lengths-fit-requires
 lengths-fit-requires c κs = search needs
@@ -74,17 +75,23 @@ no-words-requires c κs = search needs
 array-share-prefix-rows : tie.Need-array-share-prefix-rows
 array-share-prefix-rows c = omega (arith, fits (c .before .before .before .before) .few-rows)
 
-slice-aggregate-words : tie.Need-slice-aggregate-words
-slice-aggregate-words c = sym (length-take-le _ _ (array-share-prefix-rows (c .before)))
+slice-aggregate-compile-known : tie.Need-slice-aggregate-compile-known
+slice-aggregate-compile-known c = sym (length-take-le _ _ (array-share-prefix-rows (c .before)))
 
-slice-aggregate-words-2 : tie.Need-slice-aggregate-words-2
-slice-aggregate-words-2 c = search needs
+slice-aggregate-set-cells : tie.Need-slice-aggregate-set-cells
+slice-aggregate-set-cells c = search needs
 
-slice-aggregate-words-3 : tie.Need-slice-aggregate-words-3
-slice-aggregate-words-3 c = search needs
+set-cells-requires : tie.Need-set-cells-requires
+set-cells-requires c κs = search needs
 
-words-requires : tie.Need-words-requires
-words-requires c κs = search needs
+slice-aggregate-set-cells-2 : tie.Need-slice-aggregate-set-cells-2
+slice-aggregate-set-cells-2 c = search needs
+
+set-cells-requires-2 : tie.Need-set-cells-requires-2
+set-cells-requires-2 c κs = search needs
+
+compile-known-requires : tie.Need-compile-known-requires
+compile-known-requires c κs = sym (c .before .before .before .before .before .before .no-words .ensures)
 
 number-requires : tie.Need-number-requires
 number-requires c κs = search needs
@@ -137,10 +144,12 @@ cram-compile-spec =
     cells-requires-2
     no-words-requires
     array-share-prefix-rows
-    slice-aggregate-words
-    slice-aggregate-words-2
-    slice-aggregate-words-3
-    words-requires
+    slice-aggregate-compile-known
+    slice-aggregate-set-cells
+    set-cells-requires
+    slice-aggregate-set-cells-2
+    set-cells-requires-2
+    compile-known-requires
     number-requires
     numbers-requires-2
     returns-2

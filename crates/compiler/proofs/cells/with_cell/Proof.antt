@@ -1,7 +1,7 @@
 use native.Mathlib.Omega.{arith}
 use borrow.Author.Needs.{needs}
-use Rattle.compiler.proofs.walking.with_cell.Statement.{statement}
-use Rattle.compiler.proofs.walking.with_cell.Tie as tie
+use Rattle.compiler.proofs.cells.with_cell.Statement.{statement}
+use Rattle.compiler.proofs.cells.with_cell.Tie as tie
 
 is-set-requires : tie.Need-is-set-requires
 is-set-requires c κs = search needs

@@ -3,8 +3,8 @@ use Prim.Native.Nat.{_-_, _≤_}
 use native.Mathlib.Omega.{arith}
 use borrow.Author.Needs.{scaled-fits}
 use Rattle.compiler.proofs.CellLaws.{KnownBelow, known-none, known-room, known-more, known-all}
-use Rattle.compiler.proofs.walking.set_cells.Statement.{statement}
-use Rattle.compiler.proofs.walking.set_cells.Tie as tie
+use Rattle.compiler.proofs.cells.set_cells.Statement.{statement}
+use Rattle.compiler.proofs.cells.set_cells.Tie as tie
 
 abbrev Inv-loop : tie.InvT-loop
 Inv-loop cells mask₀ cell₀ cell-end mask cell = (cell ≤ 64) × KnownBelow cells mask cell
