@@ -20,6 +20,7 @@ pub mod NumberLaws
 pub mod ReasonTable
 pub mod VocabularyLaws
 pub mod LookLaws
+pub mod MeaningLaws
 pub mod Demand1
 pub mod ListingLaws
 pub mod Printed

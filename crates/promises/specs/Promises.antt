@@ -11,6 +11,7 @@ use Rattle.promises.specs.Rows.{Rows}
 use Rattle.promises.specs.Reasons.{ReasonTable}
 use Rattle.promises.specs.Vocabulary.{Vocabulary}
 use Rattle.promises.specs.Looks.{Looks}
+use Rattle.promises.specs.Meanings.{Meanings}
 use Rattle.promises.specs.Demand1.{Demand1}
 use Rattle.promises.specs.Demand2.{Demand2}
 use Rattle.promises.specs.Demand3.{Demand3}
@@ -40,6 +41,8 @@ pub record Promises (M : Type 1) : Type 2 where
   pub printed : Printed
   -- the order of 6 and 7, a line a form
   pub looks : Looks
+  -- what a row means, and what a pattern's rows are
+  pub meanings : Meanings
   -- P1 to P10
   pub cases : Cases
   -- examples of that order, and further corners
