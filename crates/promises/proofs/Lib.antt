@@ -19,6 +19,8 @@ pub mod Demand2
 pub mod NumberLaws
 pub mod ReasonTable
 pub mod VocabularyLaws
+pub mod LookLaws
+pub mod MeaningLaws
 pub mod Demand1
 pub mod ListingLaws
 pub mod Printed

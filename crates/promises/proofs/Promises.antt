@@ -6,6 +6,8 @@ use Rattle.promises.proofs.WordLaws.{words}
 use Rattle.promises.proofs.RowLaws.{rows}
 use Rattle.promises.proofs.ReasonTable.{reason-table}
 use Rattle.promises.proofs.VocabularyLaws.{vocabulary}
+use Rattle.promises.proofs.LookLaws.{looks}
+use Rattle.promises.proofs.MeaningLaws.{meanings}
 use Rattle.promises.proofs.Demand1.{demand-1}
 use Rattle.promises.proofs.Demand2.{demand-2}
 use Rattle.promises.proofs.Demand3.{demand-3}
@@ -28,6 +30,8 @@ promises = record {
   example = example;
   listings = listing-table;
   printed = printed;
+  looks = looks;
+  meanings = meanings;
   cases = worked .0;
   orders = worked .1;
   corners = worked .2;

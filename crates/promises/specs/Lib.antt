@@ -7,6 +7,8 @@ pub mod Conditions
 pub mod Steps
 pub mod Reasons
 pub mod Vocabulary
+pub mod Looks
+pub mod Meanings
 pub mod Demand3
 pub mod Demand2
 pub mod Demand1

@@ -10,6 +10,8 @@ use Rattle.promises.specs.Words.{Words}
 use Rattle.promises.specs.Rows.{Rows}
 use Rattle.promises.specs.Reasons.{ReasonTable}
 use Rattle.promises.specs.Vocabulary.{Vocabulary}
+use Rattle.promises.specs.Looks.{Looks}
+use Rattle.promises.specs.Meanings.{Meanings}
 use Rattle.promises.specs.Demand1.{Demand1}
 use Rattle.promises.specs.Demand2.{Demand2}
 use Rattle.promises.specs.Demand3.{Demand3}
@@ -40,8 +42,12 @@ pub record Promises (M : Type 1) : Type 2 where
   pub listings : (bytes : List ℕ) → ListingTable bytes
   -- and what it prints of P1
   pub printed : Printed
+  -- the order of 6 and 7, a line a form
+  pub looks : Looks
+  -- what a row means, and what a pattern's rows are
+  pub meanings : Meanings
   -- P1 to P10
   pub cases : Cases
-  -- the order of 6 and 7 form by form, and further corners
+  -- examples of that order, and further corners
   pub orders : Orders
   pub corners : Corners

@@ -1,0 +1,15 @@
+-- What rows mean, each claim by one citation.
+use Rattle.patterns.specs.Tree.{patternOf}
+use Rattle.patterns.proofs.RuleLaws.{bad-pattern-none}
+use Rattle.patterns.proofs.TreeLaws.{pattern-size, raws-below}
+use Rattle.theory.proofs.Meaning.{meaning-of, meaning-once}
+use Rattle.promises.specs.Meanings.{Meanings}
+use Rattle.promises.proofs.LookLaws.{looks}
+
+pub meanings : Meanings
+meanings = record {
+  means = λ valid row used. meaning-of valid row used;
+  once = λ valid row other used also e. meaning-once valid row other used also e;
+  whole = λ rows some good. pattern-size rows (bad-pattern-none rows .1 good) some;
+  looks = λ create kind rows e. looks .looks create kind (patternOf rows) e (raws-below rows);
+}
