@@ -12,8 +12,8 @@ use Rattle.code.specs.declared.Instruction.{Instruction}
 use Rattle.patterns.specs.Pattern.{Key, plainKey, opKey, certifiedKey, Pattern, object, raw, constant, opposite, keyOf, encryption, signature, hash, tuple, letIn, Parts, end, part, count, RawsBelow, PartsBelow}
 use Rattle.theory.specs.Store.{put}
 use Rattle.theory.specs.World.{creatable}
-use Rattle.theory.specs.Machine.{Line, line, named, scratch}
-use Rattle.theory.specs.Emission.{Env, Emitted, ok, refuse, after, andThen, _then_, addObject, readable, emit, take}
+use Rattle.theory.specs.Machine.{Line, lineAt, named, scratch}
+use Rattle.theory.specs.Emission.{Env, Emitted, ok, refuse, behind, andThen, _then_, addObject, readable, emit, take}
 use Rattle.theory.specs.Compilers.{LOAD, STORE, STORE-CONST, DECODE, ENCODE, CREATE, ANALYZE-TUPLE, CREATE-TUPLE, OPPOSITE, KEY-OF, MATCH, ENCRYPT, DECRYPT, SIGN, VERIFY, HASH, verifying, compile↓, compile↓parts, keyVar, compile↑K, compile↑, compile↑parts}
 use Rattle.theory.specs.Compilers as Compilers
 use Rattle.theory.proofs.StoreLaws.{put-same, put-other}
@@ -22,7 +22,7 @@ use Rattle.theory.proofs.CellLaws as Cells
 use Rattle.calls.specs.Compile.{tables}
 use Rattle.promises.specs.Looks.{Known, Look, writes, writes-raw, unset-on-entry, reads, reads-raw, reads-or-creates, sets, sets-raw, wrong-kind, Verdict, passed, stopped, onward, withObject, withRaw, looked, judged, matching, matchingParts, creatingKey, creating, creatingParts, looksOf, knownIn, verdictOf, Looks}
 
-after-verdict : (c : List Line) (E : Emitted) → verdictOf (after c E) ≡ verdictOf E
+after-verdict : (c : List Line) (E : Emitted) → verdictOf (behind c E) ≡ verdictOf E
 unfolding after
 after-verdict c (ok d e) = refl
 after-verdict c (refuse answer) = refl
@@ -111,19 +111,19 @@ module _ (kind : ℕ → ℕ) where
   takes n h = record { at = λ e p. h (e .next) .at _ p }
 
   -- an instruction that writes, one that reads, one that reads what is set, one that looks at nothing
-  writing : (row v : ℕ) (i : Instruction) → ((e : Env) → emit row i e ≡ cond (e .objects v) (refuse (WrittenWhileSet row)) (ok (line row i ∷ []) (addObject e v)))
+  writing : (row v : ℕ) (i : Instruction) → ((e : Env) → emit row i e ≡ cond (e .objects v) (refuse (WrittenWhileSet row)) (ok (lineAt row i ∷ []) (addObject e v)))
       → Looked Any (emit row i) (writes row v ∷ [])
-  writing row v i h = record { at = λ e p. ap verdictOf (h e) ∙ write-case row e (line row i ∷ []) v (e .objects v) ∙ sym (judged-one (writes row v) (knownIn e)) }
+  writing row v i h = record { at = λ e p. ap verdictOf (h e) ∙ write-case row e (lineAt row i ∷ []) v (e .objects v) ∙ sym (judged-one (writes row v) (knownIn e)) }
 
-  reading : (row v : ℕ) (i : Instruction) → ((e : Env) → emit row i e ≡ cond (e .objects v) (ok (line row i ∷ []) e) (refuse (ReadWhileUnset row)))
+  reading : (row v : ℕ) (i : Instruction) → ((e : Env) → emit row i e ≡ cond (e .objects v) (ok (lineAt row i ∷ []) e) (refuse (ReadWhileUnset row)))
       → Looked Any (emit row i) (reads row v ∷ [])
-  reading row v i h = record { at = λ e p. ap verdictOf (h e) ∙ read-case row e (line row i ∷ []) (e .objects v) ∙ sym (judged-one (reads row v) (knownIn e)) }
+  reading row v i h = record { at = λ e p. ap verdictOf (h e) ∙ read-case row e (lineAt row i ∷ []) (e .objects v) ∙ sym (judged-one (reads row v) (knownIn e)) }
 
-  having : (row v : ℕ) (i : Instruction) → ((e : Env) → emit row i e ≡ cond (e .objects v) (ok (line row i ∷ []) e) (refuse (ReadWhileUnset row)))
+  having : (row v : ℕ) (i : Instruction) → ((e : Env) → emit row i e ≡ cond (e .objects v) (ok (lineAt row i ∷ []) e) (refuse (ReadWhileUnset row)))
       → Looked (Has v) (emit row i) []
-  having row v i h = record { at = λ e p. ap verdictOf (h e) ∙ has-case row e (line row i ∷ []) (e .objects v) p ∙ sym (judged-none (knownIn e)) }
+  having row v i h = record { at = λ e p. ap verdictOf (h e) ∙ has-case row e (lineAt row i ∷ []) (e .objects v) p ∙ sym (judged-none (knownIn e)) }
 
-  quiet : (row : ℕ) (i : Instruction) → ((e : Env) → emit row i e ≡ ok (line row i ∷ []) e) → Looked Any (emit row i) []
+  quiet : (row : ℕ) (i : Instruction) → ((e : Env) → emit row i e ≡ ok (lineAt row i ∷ []) e) → Looked Any (emit row i) []
   quiet row i h = record { at = λ e p. ap verdictOf (h e) ∙ sym (judged-none (knownIn e)) }
 
   decode : (row v : ℕ) → Looked Any (emit row (DECODE v)) (writes row v ∷ [])
@@ -186,8 +186,8 @@ module _ (kind : ℕ → ℕ) where
   unfolding emit
   load-named row r below = record {
     at = λ e p.
-        ap (λ (b : Bool). verdictOf (cond b (ok (line row (LOAD (named r)) ∷ []) e) (refuse (ReadWhileUnset row)))) (readable-named e r below)
-        ∙ read-case row e (line row (LOAD (named r)) ∷ []) (e .raws r) ∙ sym (judged-one (reads-raw row r) (knownIn e));
+        ap (λ (b : Bool). verdictOf (cond b (ok (lineAt row (LOAD (named r)) ∷ []) e) (refuse (ReadWhileUnset row)))) (readable-named e r below)
+        ∙ read-case row e (lineAt row (LOAD (named r)) ∷ []) (e .raws r) ∙ sym (judged-one (reads-raw row r) (knownIn e));
   }
 
   raw-case : (row r : ℕ) (e : Env) (c : List Line) (b : Bool)
@@ -199,8 +199,8 @@ module _ (kind : ℕ → ℕ) where
   unfolding emit
   store-named row r below = record {
     at = λ e p.
-        let h : emit row (STORE (named r)) e ≡ cond (e .raws r) (refuse (WrittenWhileSet row)) (ok (line row (STORE (named r)) ∷ []) (Cells.withRaw e r)) = rw (occupied-named e r below, addRaw-named e r below) in
-        ap verdictOf h ∙ raw-case row r e (line row (STORE (named r)) ∷ []) (e .raws r) ∙ sym (judged-one (writes-raw row r) (knownIn e));
+        let h : emit row (STORE (named r)) e ≡ cond (e .raws r) (refuse (WrittenWhileSet row)) (ok (lineAt row (STORE (named r)) ∷ []) (Cells.withRaw e r)) = rw (occupied-named e r below, addRaw-named e r below) in
+        ap verdictOf h ∙ raw-case row r e (lineAt row (STORE (named r)) ∷ []) (e .raws r) ∙ sym (judged-one (writes-raw row r) (knownIn e));
   }
 
   -- after a write the variable is set, and what is set stays so
@@ -266,7 +266,7 @@ module _ (kind : ℕ → ℕ) where
       ≡ cond b (passed (knownIn e)) (cond c (passed (withObject (knownIn e) v)) (stopped (ReadWhileUnset row)))
   unfolding emit
   create-emit row v e true c q = refl
-  create-emit row v e false true q = ap (λ (b : Bool). verdictOf (cond b (refuse (WrittenWhileSet row)) (ok (line row (CREATE v) ∷ []) (addObject e v)))) q
+  create-emit row v e false true q = ap (λ (b : Bool). verdictOf (cond b (refuse (WrittenWhileSet row)) (ok (lineAt row (CREATE v) ∷ []) (addObject e v)))) q
   create-emit row v e false false q = refl
 
   creates : (row v : ℕ) → Looked Any (Compilers.creating kind row v) (reads-or-creates row v ∷ [])
@@ -280,12 +280,12 @@ module _ (kind : ℕ → ℕ) where
 
   opposites : (row K k : ℕ) → Looked Any (emit row (OPPOSITE K k)) (reads row K ∷ writes row k ∷ [])
   unfolding emit judged
-  opposites row K k = record { at = λ e p. opposite-case row e (line row (OPPOSITE K k) ∷ []) k (e .objects K) }
+  opposites row K k = record { at = λ e p. opposite-case row e (lineAt row (OPPOSITE K k) ∷ []) k (e .objects K) }
 
   opposite-set : (row K k : ℕ) → Looked (Has K) (emit row (OPPOSITE K k)) (writes row k ∷ [])
   unfolding emit
   opposite-set row K k = record {
-    at = λ e p. opposite-case row e (line row (OPPOSITE K k) ∷ []) k (e .objects K) ∙ ap (λ (b : Bool). onward (cond b (passed (knownIn e)) (stopped (ReadWhileUnset row))) (judged kind (writes row k ∷ []))) p;
+    at = λ e p. opposite-case row e (lineAt row (OPPOSITE K k) ∷ []) k (e .objects K) ∙ ap (λ (b : Bool). onward (cond b (passed (knownIn e)) (stopped (ReadWhileUnset row))) (judged kind (writes row k ∷ []))) p;
   }
 
   verify-case : (row r : ℕ) (e : Env) (c : List Line) (b : Bool) → r < namedCells
@@ -297,12 +297,12 @@ module _ (kind : ℕ → ℕ) where
 
   verifies : (row v r : ℕ) → r < namedCells → Looked Any (emit row (VERIFY v (named r))) (reads row v ∷ reads-raw row r ∷ [])
   unfolding emit judged
-  verifies row v r below = record { at = λ e p. verify-case row r e (line row (VERIFY v (named r)) ∷ []) (e .objects v) below }
+  verifies row v r below = record { at = λ e p. verify-case row r e (lineAt row (VERIFY v (named r)) ∷ []) (e .objects v) below }
 
   verify-set : (row v r : ℕ) → r < namedCells → Looked (Has v) (emit row (VERIFY v (named r))) (reads-raw row r ∷ [])
   unfolding emit
   verify-set row v r below = record {
-    at = λ e p. verify-case row r e (line row (VERIFY v (named r)) ∷ []) (e .objects v) below ∙ ap (λ (b : Bool). onward (cond b (passed (knownIn e)) (stopped (ReadWhileUnset row))) (judged kind (reads-raw row r ∷ []))) p;
+    at = λ e p. verify-case row r e (lineAt row (VERIFY v (named r)) ∷ []) (e .objects v) below ∙ ap (λ (b : Bool). onward (cond b (passed (knownIn e)) (stopped (ReadWhileUnset row))) (judged kind (reads-raw row r ∷ []))) p;
   }
 
   -- a variable that is set is compared, one that is not is set
@@ -320,7 +320,7 @@ module _ (kind : ℕ → ℕ) where
       → verdictOf (cond b (emit row (MATCH (named r)) e) (emit row (STORE (named r)) e)) ≡ passed (cond b (knownIn e) (withRaw (knownIn e) r))
   unfolding emit
   raw-match row r e true below q =
-      ap (λ (b : Bool). verdictOf (cond b (ok (line row (MATCH (named r)) ∷ []) e) (refuse (ReadWhileUnset row)))) (readable-named e r below ∙ q)
+      ap (λ (b : Bool). verdictOf (cond b (ok (lineAt row (MATCH (named r)) ∷ []) e) (refuse (ReadWhileUnset row)))) (readable-named e r below ∙ q)
   raw-match row r e false below q =
       store-named row r below .at e tt ∙ judged-one (writes-raw row r) (knownIn e) ∙ ap (λ (b : Bool). cond b (stopped (WrittenWhileSet row)) (passed (withRaw (knownIn e) r))) q
 
