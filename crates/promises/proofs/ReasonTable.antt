@@ -11,7 +11,7 @@ use Rattle.numbers.specs.Kinds.{kindIn}
 use Rattle.theory.specs.Outcome.{Outcome, done, stuck, room}
 use Rattle.theory.specs.RowModel.{rowWorld}
 use Rattle.theory.specs.TermModel.{termWorld}
-use Rattle.theory.specs.Machine.{State, line}
+use Rattle.theory.specs.Machine.{State, lineAt}
 use Rattle.theory.proofs.Fitting.{ByteFits, good-word-fits}
 use Rattle.theory.proofs.Related.{OutcomeR, dones}
 use Rattle.theory.proofs.RowsRunAsTerms.{ValidState, Reads, termsOf, rows-run-as-terms}
@@ -34,7 +34,7 @@ module _ (x : Lent) (code : List ℕ) where
     -- every state on the way is valid
     step-valid : {place : ℕ} {s t : State rowWorld} → ValidState (kindIn (x .kinds)) s → Word x code place s (done t) → ValidState (kindIn (x .kinds)) t
     step-valid {place} {s} {t} v w =
-        done-valid (rw (w .steps) at (rows-run-as-terms (kindIn (x .kinds)) (line place (w .instruction) ∷ []) s (termsOf s) (word-fits w, tt) (v, refl)))
+        done-valid (rw (w .steps) at (rows-run-as-terms (kindIn (x .kinds)) (lineAt place (w .instruction) ∷ []) s (termsOf s) (word-fits w, tt) (v, refl)))
       where
         done-valid : {o : Outcome (State termWorld)} → OutcomeR (Reads (kindIn (x .kinds))) (done t) o → ValidState (kindIn (x .kinds)) t
         done-valid (dones r) = r .0

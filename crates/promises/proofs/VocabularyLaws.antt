@@ -14,7 +14,7 @@ use Rattle.word.proofs.TestLaws.{both, equals, is-true}
 use Rattle.theory.specs.Outcome.{Answer, got, not, full, andThen, sure}
 use Rattle.theory.specs.World as Voc
 use Rattle.theory.specs.Model.{numberOf, goesWith, certified}
-use Rattle.theory.specs.TermModel.{Term, Terms, atom, encrypted, signed, hashed, tupled, listed, collected, Names, withCounter, termModel, termWorld, sameTerm, isYes, shapeOf}
+use Rattle.theory.specs.TermModel.{Term, Terms, atom, encrypted, signed, hashed, tupled, listed, collected, Names, raisedTo, termModel, termWorld, sameTerm, isYes, shapeOfTerm}
 use Rattle.terms.specs.Shape.{kindOf}
 use Rattle.promises.specs.Vocabulary.{public, private, Opens, with-private, with-shared, Verifies, by-private, by-shared, Tagged, is-atom, is-encryption, is-signature, is-hash, is-tuple, Makes, Passes, Vocabulary}
 use Rattle.promises.proofs.ReasonLaws.{Paired, pair-iff, low-tags}
@@ -60,10 +60,10 @@ module _ (n : Names) where
   goes (atom t i) (signed a b) h = let low = low-tags (pair-iff t i 8 0 .0 h .1) in absurd (omega arith)
   goes (atom t i) (hashed b) h = let low = low-tags (pair-iff t i 9 0 .0 h .1) in absurd (omega arith)
   goes (atom t i) (tupled ts) h = let low = low-tags (pair-iff t i 10 0 .0 h .1) in absurd (omega arith)
-  goes (encrypted a b) l h = let low = low-tags (pair-iff 7 0 (kindOf (shapeOf l)) (numberOf (shapeOf l)) .0 h .1) in absurd (omega arith)
-  goes (signed a b) l h = let low = low-tags (pair-iff 8 0 (kindOf (shapeOf l)) (numberOf (shapeOf l)) .0 h .1) in absurd (omega arith)
-  goes (hashed b) l h = let low = low-tags (pair-iff 9 0 (kindOf (shapeOf l)) (numberOf (shapeOf l)) .0 h .1) in absurd (omega arith)
-  goes (tupled ts) l h = let low = low-tags (pair-iff 10 0 (kindOf (shapeOf l)) (numberOf (shapeOf l)) .0 h .1) in absurd (omega arith)
+  goes (encrypted a b) l h = let low = low-tags (pair-iff 7 0 (kindOf (shapeOfTerm l)) (numberOf (shapeOfTerm l)) .0 h .1) in absurd (omega arith)
+  goes (signed a b) l h = let low = low-tags (pair-iff 8 0 (kindOf (shapeOfTerm l)) (numberOf (shapeOfTerm l)) .0 h .1) in absurd (omega arith)
+  goes (hashed b) l h = let low = low-tags (pair-iff 9 0 (kindOf (shapeOfTerm l)) (numberOf (shapeOfTerm l)) .0 h .1) in absurd (omega arith)
+  goes (tupled ts) l h = let low = low-tags (pair-iff 10 0 (kindOf (shapeOfTerm l)) (numberOf (shapeOfTerm l)) .0 h .1) in absurd (omega arith)
 
   gone : {k l : Term} → Opens k l → T (goesWith termModel k l n)
   gone (with-private {i}) = pair-iff 5 i 4 i .1 (refl, inl (refl, refl))
@@ -108,14 +108,14 @@ module _ (n : Names) where
   verifies-back k b l v =
       sure-got 7 (goesWith termModel l k n && isYes (sameTerm b b)) .1 (both (goesWith termModel l k n) (isYes (sameTerm b b)) .1 (gone (flop v), yes-same b b .1 refl))
 
-  decodes-there : (kind : ℕ) (m : Term) → kind ≡ kindOf (shapeOf m) → Tagged m kind
+  decodes-there : (kind : ℕ) (m : Term) → kind ≡ kindOf (shapeOfTerm m) → Tagged m kind
   decodes-there kind (atom t i) e = rw e is-atom
   decodes-there kind (encrypted k b) e = rw e is-encryption
   decodes-there kind (signed k b) e = rw e is-signature
   decodes-there kind (hashed b) e = rw e is-hash
   decodes-there kind (tupled ts) e = rw e is-tuple
 
-  decodes-back : {kind : ℕ} {m : Term} → Tagged m kind → kind ≡ kindOf (shapeOf m)
+  decodes-back : {kind : ℕ} {m : Term} → Tagged m kind → kind ≡ kindOf (shapeOfTerm m)
   decodes-back is-atom = refl
   decodes-back is-encryption = refl
   decodes-back is-signature = refl
@@ -125,8 +125,8 @@ module _ (n : Names) where
   creates-iff : (kind : ℕ) (m : Term) (n′ : Names) → Dec (n .counter < 65536)
       → Makes (Voc.create kind) n m n′ ↔ ((n .counter < 65536) × (m ≡ atom kind (n .counter)) × (n′ .counter ≡ suc (n .counter)) × (n′ .ν ≡ n .ν))
   creates-iff kind m n′ (yes l) = rw (lt-ltb (n .counter) 65536 l) (
-    λ e. let it = made-only (atom kind (n .counter)) m (withCounter n (suc (n .counter))) n′ .0 e in (l, it .0, ap (λ (x : Names). x .counter) (it .1), ap (λ (x : Names). x .ν) (it .1)),
-    λ h. made-only (atom kind (n .counter)) m (withCounter n (suc (n .counter))) n′ .1 (h .1, λ i. record { counter = h .2 i; ν = h .3 i }),
+    λ e. let it = made-only (atom kind (n .counter)) m (raisedTo n (suc (n .counter))) n′ .0 e in (l, it .0, ap (λ (x : Names). x .counter) (it .1), ap (λ (x : Names). x .ν) (it .1)),
+    λ h. made-only (atom kind (n .counter)) m (raisedTo n (suc (n .counter))) n′ .1 (h .1, λ i. record { counter = h .2 i; ν = h .3 i }),
   )
   creates-iff kind m n′ (no l) = rw (le-ltb (n .counter) 65536 (omega arith)) (
     λ e. let z : _≡_ {A = ℕ} 0 1 = cc in absurd (omega arith),
@@ -156,8 +156,8 @@ vocabulary n = record {
   opens = λ k m b n′. (opens-there n k m b n′, λ h. rw (h .1, h .3) (opens-back n k b (h .0) (h .2)));
   verifies = λ k b m. (verifies-there n k b m, λ h. rw (h .1) (verifies-back n k b (h .0) (h .2)));
   decodes = λ kind m. (
-    λ e. decodes-there n kind m (equals kind (kindOf (shapeOf m)) .0 (sure-got 2 (eqb kind (kindOf (shapeOf m))) .0 e)),
-    λ t. sure-got 2 (eqb kind (kindOf (shapeOf m))) .1 (equals kind (kindOf (shapeOf m)) .1 (decodes-back n t)),
+    λ e. decodes-there n kind m (equals kind (kindOf (shapeOfTerm m)) .0 (sure-got 2 (eqb kind (kindOf (shapeOfTerm m))) .0 e)),
+    λ t. sure-got 2 (eqb kind (kindOf (shapeOfTerm m))) .1 (equals kind (kindOf (shapeOfTerm m)) .1 (decodes-back n t)),
   );
   same = λ a b. (λ e. yes-same a b .0 (sure-got 3 (isYes (sameTerm a b)) .0 e), λ q. sure-got 3 (isYes (sameTerm a b)) .1 (yes-same a b .1 q));
   creates = λ kind m n′. creates-iff n kind m n′ (decLt (n .counter) 65536);

@@ -7,7 +7,7 @@ use mathlib.Core.List.{List}
 use lib.ListN.{length, getD}
 use Rattle.theory.specs.Outcome.{got, not, full}
 use Rattle.theory.specs.World as Voc
-use Rattle.theory.specs.TermModel.{Term, Terms, atom, encrypted, signed, hashed, tupled, listed, collected, Names, withCounter, termWorld}
+use Rattle.theory.specs.TermModel.{Term, Terms, atom, encrypted, signed, hashed, tupled, listed, collected, Names, termWorld}
 
 -- the terms of tags 1 to 6
 abbrev pub byte : ℕ → Term
