@@ -1,3 +1,4 @@
 -- Bundles taken apart.
 pub mod Bundle
+pub mod Given
 pub mod Opening

@@ -21,7 +21,8 @@ use Rattle.calls.specs.Compile.{CompileOutcome}
 use Rattle.calls.specs.Run.{Lent, RunOutcome, run}
 use Rattle.numbers.specs.Limits.{mostCodeWords}
 use Rattle.terms.specs.Rules.{usedRows}
-use Rattle.printing.specs.Listing.{refusedLine, codeLines, endNumbers, setLines, lentTo, compileOf, compiledFrom, ranLines, compiledLines, bundleLines, listing}
+use Rattle.bundles.specs.Given.{lentTo, compileOf, compiledFrom, givenCompiled, givenRead, givenBy}
+use Rattle.printing.specs.Listing.{refusedLine, codeLines, endNumbers, setLines, ranLines, givenLines, listing}
 use Rattle.calls.proofs.CompileLaws.{part-fits}
 use Rattle.calls.proofs.Product.{compile-writes}
 
@@ -44,42 +45,42 @@ module _ {before after : List ℕ} {next : ℕ} where
   module _ (b : Bundle) {room code : List ℕ} {answer : Compiled} {number place : ℕ} (zeros : room ≡ replicate mostCodeWords 0)
       (is : record { answer = answer; code = code } ≡ compileOf b room) (number-is : number ≡ compiledNumber answer)
       (place-is : place ≡ compiledPlace answer) where
-    listed : (c : CompileOutcome) → Wrote (compiledLines b (record { answer = answer; code = code })) before 0 after next → record { answer = answer; code = code } ≡ c
-        → Wrote (compiledLines b c) before 0 after next
-    listed c wrote e = subst (λ o. Wrote (compiledLines b o) before 0 after next) e wrote
+    listed : (c : CompileOutcome) → Wrote (givenLines (givenCompiled b (record { answer = answer; code = code }))) before 0 after next → record { answer = answer; code = code } ≡ c
+        → Wrote (givenLines (givenCompiled b c)) before 0 after next
+    listed c wrote e = subst (λ o. Wrote (givenLines (givenCompiled b o)) before 0 after next) e wrote
 
     pub compile-refused : (number ≡ 0 → ⊥) → Wrote (refusedLine number place) before 0 after next
-        → Wrote (compiledLines b (compiledFrom b)) before 0 after next
+        → Wrote (givenLines (givenCompiled b (compiledFrom b))) before 0 after next
     compile-refused other wrote =
-        listed _ (rw (ne-eqb (compiledNumber answer) 0 (λ e. other (number-is ∙ e)), compiledLines, ← number-is, ← place-is) wrote) (rw zeros at is)
+        listed _ (rw (ne-eqb (compiledNumber answer) 0 (λ e. other (number-is ∙ e)), givenCompiled, ← number-is, ← place-is) wrote) (rw zeros at is)
 
     pub compile-ran : number ≡ 0 → place ≤ length code → Wrote (ranLines (take place code) (run (lentTo b) (take place code))) before 0 after next
-        → Wrote (compiledLines b (compiledFrom b)) before 0 after next
+        → Wrote (givenLines (givenCompiled b (compiledFrom b))) before 0 after next
     compile-ran done fits wrote =
-        listed _ (rw (eq-eqb (compiledNumber answer) 0 (sym number-is ∙ done), compiledLines, ← place-is, part-fits place code fits) wrote) (rw zeros at is)
+        listed _ (rw (eq-eqb (compiledNumber answer) 0 (sym number-is ∙ done), givenCompiled, ← place-is, part-fits place code fits) wrote) (rw zeros at is)
 
   -- a spare certificate bit is set, or none is
   module _ (bytes : List ℕ) {certificates : List ℕ} {clear : Bool} (are : certificates ≡ bundleIn bytes .certificates) (is : clear ≡ clearOf certificates) where
-    pub spare-set : not clear ≡ true → Wrote (refusedLine 3 0) before 0 after next → Wrote (bundleLines (some (bundleIn bytes))) before 0 after next
+    pub spare-set : not clear ≡ true → Wrote (refusedLine 3 0) before 0 after next → Wrote (givenLines (givenRead (some (bundleIn bytes)))) before 0 after next
     spare-set bad wrote =
         let set : clearOf (bundleIn bytes .certificates) ≡ false = ap clearOf (sym are) ∙ sym is ∙ not-true clear bad in
-        rw (set, bundleLines) wrote
+        rw (set, givenRead) wrote
 
     pub spare-clear : not clear ≡ false
-        → Wrote (compiledLines (bundleIn bytes) (compiledFrom (bundleIn bytes))) before 0 after next
-        → Wrote (bundleLines (some (bundleIn bytes))) before 0 after next
+        → Wrote (givenLines (givenCompiled (bundleIn bytes) (compiledFrom (bundleIn bytes)))) before 0 after next
+        → Wrote (givenLines (givenRead (some (bundleIn bytes)))) before 0 after next
     spare-clear fine wrote =
         let none : clearOf (bundleIn bytes .certificates) ≡ true = ap clearOf (sym are) ∙ sym is ∙ not-false clear fine in
-        rw (none, bundleLines) wrote
+        rw (none, givenRead) wrote
 
   -- no bundle, or the lines of one
   pub not-opened : (bytes : List ℕ) → opened bytes ≡ Refused → Wrote (refusedLine 1 0) before 0 after next → Wrote (listing bytes) before 0 after next
-  unfolding listing
+  unfolding listing givenBy
   not-opened bytes refuses wrote = rw (refused-none bytes refuses) wrote
 
-  pub is-opened : (bytes : List ℕ) (header : Header) → opened bytes ≡ Is header → Wrote (bundleLines (some (bundleIn bytes))) before 0 after next
+  pub is-opened : (bytes : List ℕ) (header : Header) → opened bytes ≡ Is header → Wrote (givenLines (givenRead (some (bundleIn bytes)))) before 0 after next
       → Wrote (listing bytes) before 0 after next
-  unfolding listing
+  unfolding listing givenBy
   is-opened bytes header opens wrote = rw (opened-is bytes header opens .bundle) wrote
 
 -- compiled words fit the slice that is lent

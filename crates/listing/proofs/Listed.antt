@@ -32,7 +32,8 @@ use Rattle.answers.specs.First.{first}
 use Rattle.numbers.specs.Kinds.{kindIn}
 use Rattle.calls.specs.Run.{Lent, stateOf, linesOf, leftBy, ended, refusals, runBy, run}
 use Rattle.numbers.specs.Limits.{mostCodeWords}
-use Rattle.printing.specs.Listing.{refusedWord, refusedLine, lentTo, compiledFrom, ranLines, compiledLines, bundleLines, listing}
+use Rattle.bundles.specs.Given.{Given, refused, ran, lentTo, compiledFrom, givenCompiled, givenRead, givenBy}
+use Rattle.printing.specs.Listing.{refusedWord, refusedLine, givenLines, listing}
 use Rattle.calls.proofs.CompileLaws.{part-length}
 use Rattle.calls.proofs.ValidAgain.{length-cells}
 use Rattle.listing.proofs.LinesLaws.{few-words, refused-none}
@@ -54,7 +55,7 @@ refused-short : (number place : ℕ) → length (refusedLine number place) ≤ 6
 refused-short number place = omega (arith, word-line-most refusedWord (number ∷ place ∷ []))
 
 compiled-short : (bytes : List ℕ) (header : Header) → opened bytes ≡ Is header → (c : CompileOutcome)
-    → (compiledNumber (c .answer) ≡ 0 → compiledPlace (c .answer) ≤ 767) → length (compiledLines (bundleIn bytes) c) ≤ 65536
+    → (compiledNumber (c .answer) ≡ 0 → compiledPlace (c .answer) ≤ 767) → length (givenLines (givenCompiled (bundleIn bytes) c)) ≤ 65536
 compiled-short bytes header opens c few = go (eqb (compiledNumber (c .answer)) 0) (eqb-true (compiledNumber (c .answer)) 0)
   where
     words : List ℕ
@@ -64,7 +65,7 @@ compiled-short bytes header opens c few = go (eqb (compiledNumber (c .answer)) 0
     b = bundleIn bytes
 
     go : (done : Bool) → (done ≡ true → compiledNumber (c .answer) ≡ 0)
-        → length {A = ℕ} (elim done as (λ _. List ℕ) [ true ↦ ranLines words (run (lentTo b) words) | false ↦ refusedLine (compiledNumber (c .answer)) (compiledPlace (c .answer)) ]) ≤ 65536
+        → length (givenLines (elim done as (λ _. Given) [ true ↦ ran words (run (lentTo b) words) | false ↦ refused (compiledNumber (c .answer)) (compiledPlace (c .answer)) ])) ≤ 65536
     go true is =
         let long = run-objects (lentTo b) words (lengths bytes header opens .objects) in
         let fits = few (is refl) in
@@ -73,10 +74,10 @@ compiled-short bytes header opens c few = go (eqb (compiledNumber (c .answer)) 0
 
 -- every listing fits 65,536 bytes
 pub listing-short : (bytes : List ℕ) → length (listing bytes) ≤ 65536
-unfolding listing
+unfolding listing givenBy
 listing-short bytes = by (opened bytes) refl
   where
-    by : (o : Opened) → opened bytes ≡ o → length (bundleLines (readBundle bytes)) ≤ 65536
+    by : (o : Opened) → opened bytes ≡ o → length (givenLines (givenRead (readBundle bytes))) ≤ 65536
     by Refused e = rw (refused-none bytes e) (refused-short 1 0)
     by (Is header) e = rw (opened-is bytes header e .bundle) (go (certificatesClear b))
       where
@@ -86,7 +87,7 @@ listing-short bytes = by (opened bytes) refl
         compiled : CompileOutcome
         compiled = compiledFrom b
 
-        go : (clear : Bool) → length {A = ℕ} (elim clear as (λ _. List ℕ) [ true ↦ compiledLines b compiled | false ↦ refusedLine 3 0 ]) ≤ 65536
+        go : (clear : Bool) → length (givenLines (elim clear as (λ _. Given) [ true ↦ givenCompiled b compiled | false ↦ refused 3 0 ])) ≤ 65536
         go true = compiled-short bytes header e compiled (few-words bytes header e (replicate mostCodeWords 0) refl refl refl)
         go false = refused-short 3 0
 
@@ -103,7 +104,7 @@ module _ (bytes : List ℕ) {before after : List ℕ} {next : ℕ} (wrote : Wrot
 
 -- no bundle is longer than 34,088 bytes
 long-refused : (bytes : List ℕ) → 34088 < length bytes → listing bytes ≡ refusedLine 1 0
-unfolding listing
+unfolding listing givenBy
 long-refused bytes long = rw (refused-none bytes (sym (refuses bytes λ w. omega (arith, w .size, w .header))))
 
 -- input beyond the buffer changes nothing

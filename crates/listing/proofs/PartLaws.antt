@@ -19,7 +19,7 @@ use Rattle.numbers.specs.Limits.{scratchCells, mostCodeWords, mostTermRows}
 use Rattle.looking.specs.Found.{usedWith}
 use Rattle.running.proofs.EndLaws.{used-counted}
 use Rattle.bundles.proofs.OpeningLaws.{opened-is}
-use Rattle.printing.specs.Listing.{lentTo, compileOf}
+use Rattle.bundles.specs.Given.{lentTo, compileOf}
 
 module _ (bytes : List ℕ) {header : Header} (opens : opened bytes ≡ Is header) where
   pub pattern-front : {rows : List ℕ} (rest : List ℕ) → rows ≡ bundleIn bytes .pattern ++ rest → take (header .«pattern_rows») rows ≡ bundleIn bytes .pattern

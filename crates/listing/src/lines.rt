@@ -2,12 +2,13 @@
 ghost use mathlib.Core.Path.{_≡_};
 ghost use mathlib.Core.Option.{some};
 ghost use Prim.Native.Nat.{_≤_};
-ghost use lib.ListN.{length, replicate};
+ghost use lib.ListN.{length};
 ghost use Rattle.text.specs.Written.{Wrote};
 ghost use Rattle.bundles.specs.Opening.{bundleIn, opened};
 ghost use Rattle.calls.specs.Run.{run};
 ghost use Rattle.numbers.specs.Limits.{mostCodeWords};
-ghost use Rattle.printing.specs.Listing.{lentTo, compileOf, ranLines, compiledLines, bundleLines, listing};
+ghost use Rattle.bundles.specs.Given.{lentTo, compileOf, compiledFrom, givenCompiled, givenRead};
+ghost use Rattle.printing.specs.Listing.{ranLines, givenLines, listing};
 use super::parts;
 use answers::Compiled;
 use bundles::Header;
@@ -70,7 +71,7 @@ fn compiled(bytes: &[u8], header: Header, code: &mut [u32]) -> Compiled
 fn compiled_lines(bytes: &[u8], header: Header, out: &mut [u8]) -> usize
     requires { ⌜ opened (now bytes) ≡ Opened.Is header ⌝ }
     ensures { λ r. ⌜ (let b = bundleIn (now (bytes .entry)) in
-        Wrote (compiledLines b (compileOf b (replicate mostCodeWords 0))) (now (out .entry)) 0 (now (out .exit)) r) ⌝ }
+        Wrote (givenLines (givenCompiled b (compiledFrom b))) (now (out .entry)) 0 (now (out .exit)) r) ⌝ }
 {
     let mut code = parts::code();
     let answer = compiled(bytes, header, &mut code);
@@ -86,7 +87,7 @@ fn compiled_lines(bytes: &[u8], header: Header, out: &mut [u8]) -> usize
 // A spare certificate bit is looked at before compile.
 fn bundle_lines(bytes: &[u8], header: Header, out: &mut [u8]) -> usize
     requires { ⌜ opened (now bytes) ≡ Opened.Is header ⌝ }
-    ensures { λ r. ⌜ Wrote (bundleLines (some (bundleIn (now (bytes .entry))))) (now (out .entry)) 0 (now (out .exit)) r ⌝ }
+    ensures { λ r. ⌜ Wrote (givenLines (givenRead (some (bundleIn (now (bytes .entry)))))) (now (out .entry)) 0 (now (out .exit)) r ⌝ }
 {
     let pairs = parts::certificates(bytes, header);
     let count = header.certificates as usize;

@@ -2,7 +2,7 @@
 ghost use mathlib.Core.Path.{_≡_};
 ghost use lib.ListN.{take, replicate};
 ghost use Rattle.bundles.specs.Opening.{bundleIn, opened};
-ghost use Rattle.printing.specs.Listing.{lentTo};
+ghost use Rattle.bundles.specs.Given.{lentTo};
 use bundles::Header;
 use bundles::Opened;
 

@@ -1,21 +1,19 @@
--- The listing: from a bundle's bytes to the bytes printed.
-use Prim.Native.Nat.{ℕ, zero, suc, _-_}
+-- The listing: what a bundle gives, as the bytes printed.
+use Prim.Native.Nat.{ℕ, zero, suc}
 use mathlib.Core.Bool.{true, false}
-use mathlib.Core.Option.{Option, none, some}
 use mathlib.Core.List.{List, [], _∷_, _++_}
-use lib.ListN.{length, take, replicate}
+use lib.ListN.{take}
 use lib.Dec.{eqb}
 use Rattle.word.specs.Fields.{split}
 use Rattle.text.specs.Lines.{line, wordLine}
-use Rattle.answers.specs.Numbers.{compiledNumber, compiledPlace, ranNumber, ranPlace, ranReason}
+use Rattle.answers.specs.Numbers.{ranNumber, ranPlace, ranReason}
 use Rattle.answers.specs.declared.Ran.{Ran}
 use Rattle.code.specs.Instruction.{wordWidths}
 use Rattle.terms.specs.Rules.{usedRows}
-use Rattle.stores.specs.Cells.{unset, isSet}
-use Rattle.numbers.specs.Limits.{namedCells, scratchCells, mostCodeWords, mostTermRows}
-use Rattle.calls.specs.Compile.{CompileOutcome, compiledCode, compile}
-use Rattle.calls.specs.Run.{Lent, RunOutcome, run}
-use Rattle.bundles.specs.Bundle.{Bundle, readBundle, certificatesClear}
+use Rattle.stores.specs.Cells.{isSet}
+use Rattle.numbers.specs.Limits.{namedCells}
+use Rattle.calls.specs.Run.{RunOutcome}
+use Rattle.bundles.specs.Given.{Given, refused, ran, givenBy}
 
 -- the words that lines begin with, in ASCII
 abbrev pub refusedWord : List ℕ
@@ -61,40 +59,13 @@ setLines answer objects messages =
 abbrev pub storeLines : RunOutcome → List ℕ
 storeLines r = setLines (r .answer) (r .objects) (r .messages)
 
--- the bundle's rows, then zero rows; scratch starts unset
-abbrev pub lentTo : Bundle → Lent
-lentTo b = record {
-  kinds = b .kinds;
-  objects = b .objects;
-  messages = b .named ++ replicate scratchCells unset;
-  certificates = b .certificates;
-  accumulator = b .accumulator;
-  terms = b .terms ++ replicate (mostTermRows - length (b .terms)) 0;
-  counter = b .counter;
-}
-
--- what compile answers for a bundle, into any slice and into 768 words
-abbrev pub compileOf : Bundle → List ℕ → CompileOutcome
-compileOf b code = compile (b .create) (b .pattern) (b .kinds) (b .objects) (b .named) code
-
-abbrev pub compiledFrom : Bundle → CompileOutcome
-compiledFrom b = compileOf b (replicate mostCodeWords 0)
-
 abbrev pub ranLines : List ℕ → RunOutcome → List ℕ
 ranLines code r = codeLines zero code ++ endLine r ++ storeLines r
 
-abbrev pub compiledLines : Bundle → CompileOutcome → List ℕ
-compiledLines b c =
-    elim (eqb (compiledNumber (c .answer)) 0) [
-      | true ↦ ranLines (compiledCode c) (run (lentTo b) (compiledCode c))
-      | false ↦ refusedLine (compiledNumber (c .answer)) (compiledPlace (c .answer))
-    ]
-
--- 1, then a spare certificate bit, then compile into 768 words, then run
-abbrev pub bundleLines : Option Bundle → List ℕ
-bundleLines none = refusedLine 1 0
-bundleLines (some b) =
-    elim (certificatesClear b) [ true ↦ compiledLines b (compiledFrom b) | false ↦ refusedLine 3 0 ]
+-- what a bundle gives, as lines
+abbrev pub givenLines : Given → List ℕ
+givenLines (refused number place) = refusedLine number place
+givenLines (ran code r) = ranLines code r
 
 unfoldable pub listing : List ℕ → List ℕ
-listing bytes = bundleLines (readBundle bytes)
+listing bytes = givenLines (givenBy bytes)

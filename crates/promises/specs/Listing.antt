@@ -13,7 +13,8 @@ use Rattle.stores.specs.Certificates.{spareOf}
 use Rattle.calls.specs.Compile.{compiledCode}
 use Rattle.calls.specs.Run.{run}
 use Rattle.bundles.specs.Bundle.{Bundle, bundleIn, readBundle, BundleWithin}
-use Rattle.printing.specs.Listing.{endWord, objectWord, messageWord, refusedLine, codeLines, endLine, storeLines, lentTo, compiledFrom, listing}
+use Rattle.bundles.specs.Given.{lentTo, compiledFrom}
+use Rattle.printing.specs.Listing.{endWord, objectWord, messageWord, refusedLine, codeLines, endLine, storeLines, listing}
 use Rattle.promises.specs.Answers.{compileNumber}
 
 -- not 3: no spare certificate bit
