@@ -23,7 +23,7 @@ use Rattle.calls.specs.Compile.{tables}
 use Rattle.promises.specs.Looks.{Known, Look, writes, writes-raw, unset-on-entry, reads, reads-raw, reads-or-creates, sets, sets-raw, wrong-kind, Verdict, passed, stopped, onward, withObject, withRaw, looked, judged, matching, matchingParts, creatingKey, creating, creatingParts, looksOf, knownIn, verdictOf, Looks}
 
 after-verdict : (c : List Line) (E : Emitted) → verdictOf (behind c E) ≡ verdictOf E
-unfolding after
+unfolding behind
 after-verdict c (ok d e) = refl
 after-verdict c (refuse answer) = refl
 
