@@ -15,6 +15,7 @@ pub mod Demand3
 pub mod Demand2
 pub mod NumberLaws
 pub mod Demand1
+pub mod RoundLaws
 pub mod ListingLaws
 pub mod Printed
 pub mod Example

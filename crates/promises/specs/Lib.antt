@@ -6,6 +6,7 @@ pub mod Steps
 pub mod Demand3
 pub mod Demand2
 pub mod Demand1
+pub mod Rounds
 pub mod Listing
 pub mod Example
 pub mod Promises
