@@ -75,7 +75,8 @@ module _ (create : Bool) (pattern kinds : List ℕ) where
   pub same-cells : (objects objects′ named named′ code : List ℕ) → SameSet objects objects′ → SameSet named named′
       → compile create pattern kinds objects named code ≡ compile create pattern kinds objects′ named′ code
   unfolding compile
-  same-cells objects objects′ named named′ code o n = ap (λ r. compileBy create pattern kinds objects named (first r) code) refusals-same ∙ by-refusal (first (refusals create pattern kinds objects′ named′))
+  same-cells objects objects′ named named′ code o n =
+      ap (λ r. compileBy create pattern kinds objects named (first r) code) refusals-same ∙ by-refusal (first (refusals create pattern kinds objects′ named′))
     where
       refusals-same : refusals create pattern kinds objects named ≡ refusals create pattern kinds objects′ named′
       refusals-same = rw (o .same-length, n .same-length, declared-same kinds objects objects′ o)
@@ -88,7 +89,8 @@ module _ (create : Bool) (pattern kinds : List ℕ) where
       by-refusal none = ap (λ E. finished E code) emitted-same
 
   -- two code slices of one length: the same answer, and the same words written
-  pub same-slices : (objects named code code′ : List ℕ) → length code ≡ length code′ → SameCode code code′ (compile create pattern kinds objects named code) (compile create pattern kinds objects named code′)
+  pub same-slices : (objects named code code′ : List ℕ) → length code ≡ length code′
+      → SameCode code code′ (compile create pattern kinds objects named code) (compile create pattern kinds objects named code′)
   unfolding compile
   same-slices objects named code code′ l = by-refusal (first (refusals create pattern kinds objects named))
     where

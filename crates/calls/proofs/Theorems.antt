@@ -4,7 +4,7 @@ use mathlib.Core.Bool.{Bool, true, false}
 use mathlib.Core.Option.{some}
 use mathlib.Core.List.{List}
 use Prim.Native.Nat.{ℕ}
-use lib.ListN.{length, take}
+use lib.ListN.{length}
 use Rattle.answers.specs.declared.Compiled.the-variants.{Done}
 use Rattle.answers.specs.declared.Ran.{Ran}
 use Rattle.stores.specs.Cells.{held}
@@ -12,9 +12,8 @@ use Rattle.patterns.specs.Tree.{patternOf}
 use Rattle.theory.specs.Outcome.{stuck, room}
 use Rattle.theory.specs.RowModel.{rowWorld}
 use Rattle.theory.specs.Machine.{State}
-use Rattle.numbers.specs.Limits.{namedCells}
 use Rattle.theory.specs.Rules.{create}
-use Rattle.calls.specs.Compile.{SameSet, usedPart, compile}
+use Rattle.calls.specs.Compile.{SameSet, compile}
 use Rattle.numbers.specs.Kinds.{kindIn}
 use Rattle.calls.specs.Run.{Lent, lentAfter, stateOf, leftBy, run}
 use Rattle.calls.proofs.SetCells.{SameCode, same-cells, same-slices}
@@ -24,7 +23,7 @@ use Rattle.theory.specs.Meaning.{meaning}
 use Rattle.theory.proofs.RowsKept.{Appended}
 use Rattle.calls.specs.Valid.{Valid}
 use Rattle.calls.proofs.ValidAgain.{stays-valid}
-use Rattle.calls.proofs.Demand3.{MatchEnds, CreateEnds, matching-demand, creating-demand}
+use Rattle.calls.proofs.Demand3.{compiledFor, codeFor, MatchEnds, CreateEnds, matching-demand, creating-demand}
 
 -- Compile depends on nothing but direction, pattern, kinds and which cells are set, and of the code slice on its length.
 pub sees-set-cells : (create : Bool) (pattern kinds objects objects′ named named′ code : List ℕ) → SameSet objects objects′ → SameSet named named′
@@ -38,13 +37,13 @@ sees-slice-length create pattern kinds = same-slices create pattern kinds
 -- Demand 3, from packed words to the figures, for what is lent and good and as many free rows and names as code words: the run of the words that compile wrote
 -- finishes with stores (and message and counter) that the figures give, and gets stuck only where they give nothing. It is never out of room.
 pub demand-3-matching : (pattern slice : List ℕ) (x : Lent) → Valid x → (words row : ℕ) → held (x .accumulator) ≡ some row
-    → compile false pattern (x .kinds) (x .objects) (take namedCells (x .messages)) slice .answer ≡ Done words → Free words words (stateOf x .stores .memory)
-    → MatchEnds x (patternOf pattern) (meaning (x .terms) row) words (usedPart words (compile false pattern (x .kinds) (x .objects) (take namedCells (x .messages)) slice .code)) (run x (usedPart words (compile false pattern (x .kinds) (x .objects) (take namedCells (x .messages)) slice .code)))
+    → compiledFor x false pattern slice .answer ≡ Done words → Free words words (stateOf x .stores .memory)
+    → MatchEnds x (patternOf pattern) (meaning (x .terms) row) words (codeFor x false pattern slice words) (run x (codeFor x false pattern slice words))
 demand-3-matching = matching-demand
 
 pub demand-3-creating : (pattern slice : List ℕ) (x : Lent) → Valid x → (words : ℕ)
-    → compile true pattern (x .kinds) (x .objects) (take namedCells (x .messages)) slice .answer ≡ Done words → Free words words (stateOf x .stores .memory)
-    → CreateEnds x (patternOf pattern) words (usedPart words (compile true pattern (x .kinds) (x .objects) (take namedCells (x .messages)) slice .code)) (run x (usedPart words (compile true pattern (x .kinds) (x .objects) (take namedCells (x .messages)) slice .code)))
+    → compiledFor x true pattern slice .answer ≡ Done words → Free words words (stateOf x .stores .memory)
+    → CreateEnds x (patternOf pattern) words (codeFor x true pattern slice words) (run x (codeFor x true pattern slice words))
 demand-3-creating = creating-demand
 
 -- After a finished run what was lent is good again.

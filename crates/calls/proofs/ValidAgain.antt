@@ -79,7 +79,8 @@ module _ (x : Lent) (a : Valid x) (t : State rowWorld) (v : ValidState (kindIn (
       let inside : o < variables = omega (arith, length-cells 0 variables (t .stores .σ)) in
       rw (getD-cells 0 variables (t .stores .σ) o inside, zero-add o)
       (object-held rows used (kindIn (x .kinds) o) (cellOf (t .stores .σ o)) (tagged (v .table .table)) .1
-      (held-cell (λ row. (row < used) × (tagOf (getD rows row 0) ≡ kindIn (x .kinds) o)) (λ row p. omega (arith, p .0, few)) (t .stores .σ o) (tags (kindIn (x .kinds) o) (t .stores .σ o) (v .objects o))))
+      (held-cell (λ row. (row < used) × (tagOf (getD rows row 0) ≡ kindIn (x .kinds) o)) (λ row p. omega (arith, p .0, few)) (t .stores .σ o)
+      (tags (kindIn (x .kinds) o) (t .stores .σ o) (v .objects o))))
 
   messages-fit : All (UnsetOrUsed used) (cellsFrom 0 namedCells (t .stores .ρ) ++ cellsFrom 0 scratchCells (t .scratches))
   messages-fit =
@@ -97,7 +98,8 @@ module _ (x : Lent) (a : Valid x) (t : State rowWorld) (v : ValidState (kindIn (
     within = record {
       kinds = a .within .kinds;
       objects = length-cells 0 variables (t .stores .σ);
-      messages = length-append (cellsFrom 0 namedCells (t .stores .ρ)) (cellsFrom 0 scratchCells (t .scratches)) ∙ rw (length-cells 0 namedCells (t .stores .ρ), length-cells 0 scratchCells (t .scratches));
+      messages = length-append (cellsFrom 0 namedCells (t .stores .ρ)) (cellsFrom 0 scratchCells (t .scratches))
+          ∙ rw (length-cells 0 namedCells (t .stores .ρ), length-cells 0 scratchCells (t .scratches));
       certificates = a .within .certificates;
       terms = v .table .rowsFew;
       counter = v .table .namesFew;

@@ -79,7 +79,8 @@ module _ (x : Lent) (v : Valid x) where
         objects = object;
       }
     where
-      named : (r : ℕ) → ((i : ℕ) → Held (λ row. row < usedRows (x .terms)) (held (getD (x .messages) i unset))) → Held (λ row. row < usedRows (x .terms)) (held (getD (take namedCells (x .messages)) r unset))
+      named : (r : ℕ) → ((i : ℕ) → Held (λ row. row < usedRows (x .terms)) (held (getD (x .messages) i unset)))
+          → Held (λ row. row < usedRows (x .terms)) (held (getD (take namedCells (x .messages)) r unset))
       named r cells = inside-or-past (λ row. row < usedRows (x .terms)) (take namedCells (x .messages)) r λ h.
           let inside : r < namedCells = omega (arith, simp length-take at h) in
           rw (getD-take namedCells (x .messages) r unset inside) (cells r)

@@ -50,8 +50,10 @@ pub record Orders : Type 0 where
   -- k : keyOf(a): 6k 7a; created 7a 6k
   pub keyOf-both : (refused false (keyOf 1 4 3) (4 ∷ []) [] ≡ some (WrittenWhileSet 1)) × (refused true (keyOf 1 4 3) (4 ∷ []) [] ≡ some (ReadWhileUnset 1))
   -- E(x, p): 6e 7x <1>; created 7x <1> 6e
-  pub encryption-matched : (refused false (encryption 1 7 (plainKey 5) bad) (7 ∷ 11 ∷ []) [] ≡ some (WrittenWhileSet 1)) × (refused false (encryption 1 7 (plainKey 5) bad) (11 ∷ []) [] ≡ some (ReadWhileUnset 1))
-  pub encryption-created : (refused true (encryption 1 7 (plainKey 4) bad) (7 ∷ 11 ∷ []) [] ≡ some (ReadWhileUnset 1)) × (refused true (encryption 1 7 (plainKey 4) bad) (4 ∷ 7 ∷ 11 ∷ []) [] ≡ some (WrittenWhileSet 0))
+  pub encryption-matched : (refused false (encryption 1 7 (plainKey 5) bad) (7 ∷ 11 ∷ []) [] ≡ some (WrittenWhileSet 1))
+      × (refused false (encryption 1 7 (plainKey 5) bad) (11 ∷ []) [] ≡ some (ReadWhileUnset 1))
+  pub encryption-created : (refused true (encryption 1 7 (plainKey 4) bad) (7 ∷ 11 ∷ []) [] ≡ some (ReadWhileUnset 1))
+      × (refused true (encryption 1 7 (plainKey 4) bad) (4 ∷ 7 ∷ 11 ∷ []) [] ≡ some (WrittenWhileSet 0))
   -- E(k : op(K), p), created: (CREATE K) 6k <1> 6e
   pub encryption-op : refused true (encryption 1 7 (opKey 4 5) bad) (4 ∷ 11 ∷ []) [] ≡ some (WrittenWhileSet 1)
   -- E(k : keyOf(a), p), created: 7a 6k <1> 6e
@@ -61,7 +63,8 @@ pub record Orders : Type 0 where
   -- S(k : op(K), r): 6s 7K 6k 7r
   pub signature-op : (refused false (signature 1 8 (opKey 4 5) 0) (4 ∷ []) [] ≡ some (ReadWhileUnset 1)) × (refused false (signature 1 8 (opKey 4 5) 0) (4 ∷ 5 ∷ []) [] ≡ some (WrittenWhileSet 1))
   -- S(k : keyOf(a), r): 6s 7a 6k 7r
-  pub signature-keyOf : (refused false (signature 1 8 (certifiedKey 4 3) 0) (4 ∷ []) [] ≡ some (ReadWhileUnset 1)) × (refused false (signature 1 8 (certifiedKey 4 3) 0) (3 ∷ 4 ∷ []) [] ≡ some (WrittenWhileSet 1))
+  pub signature-keyOf : (refused false (signature 1 8 (certifiedKey 4 3) 0) (4 ∷ []) [] ≡ some (ReadWhileUnset 1))
+      × (refused false (signature 1 8 (certifiedKey 4 3) 0) (3 ∷ 4 ∷ []) [] ≡ some (WrittenWhileSet 1))
   -- H(r): 6h 7r; created 7r 6h
   pub hash-both : (refused false (hash 1 9 0) (9 ∷ []) [] ≡ some (WrittenWhileSet 1)) × (refused true (hash 1 9 0) (9 ∷ []) [] ≡ some (ReadWhileUnset 1))
   -- t : [..]: 6t <1>..<n>; created <1>..<n> 6t

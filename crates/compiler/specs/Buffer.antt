@@ -6,6 +6,7 @@ use mathlib.Core.Option.{Option, none, some}
 use mathlib.Core.List.{List}
 use lib.ListN.{length, take}
 use lib.Dec.{eqb}
+use Rattle.numbers.specs.Limits.{mostCodeWords}
 use Rattle.answers.specs.Numbers.{compiledNumber, compiledPlace}
 use Rattle.answers.specs.declared.Compiled.{Compiled}
 use Rattle.answers.specs.declared.Compiled.the-variants.{Done}
@@ -43,4 +44,4 @@ delivered answer buffer code = cond (eqb (compiledNumber answer) 0) (written (ta
 pub record Compiles (create : Bool) (pattern kinds objects named : List ℕ) (answer : Compiled) (buffer : List ℕ) : Type 0 where
   pub outcome : (code : List ℕ) → delivered answer buffer code ≡ compile create pattern kinds objects named code
   pub few : eqb (compiledNumber answer) 0 ≡ true → compiledPlace answer ≤ 767
-  pub long : eqb (compiledNumber answer) 0 ≡ true → length buffer ≡ 768
+  pub long : eqb (compiledNumber answer) 0 ≡ true → length buffer ≡ mostCodeWords

@@ -3,6 +3,7 @@ ghost use mathlib.Core.Path.{_≡_};
 ghost use mathlib.Core.List.{_++_};
 ghost use Prim.Native.Nat.{_≤_};
 ghost use lib.ListN.{length, drop};
+ghost use Rattle.numbers.specs.Limits.{mostCodeWords};
 ghost use Rattle.calls.specs.Compile.{written};
 use answers::Compiled;
 
@@ -17,7 +18,7 @@ fn copy(words: &[u32], code: &mut [u32])
 
 // 8 where the words do not fit; words past them stay.
 pub fn deliver(words: &[u32], code: &mut [u32]) -> Compiled
-    requires { ⌜ length (now words) ≤ 768 ⌝ }
+    requires { ⌜ length (now words) ≤ mostCodeWords ⌝ }
     ensures { λ r. ⌜ record { answer = r; code = now (code .exit) } ≡ written (now (words .entry)) (now (code .entry)) ⌝ }
 {
     let count = words.len() as u32;

@@ -1,12 +1,14 @@
 // Compile: its checks in their order, then the walk, then the words into the lent slice.
 ghost use mathlib.Core.Path.{_≡_};
 ghost use lib.ListN.{length};
+ghost use Rattle.numbers.specs.Limits.{mostCodeWords};
 ghost use Rattle.calls.specs.Compile.{usedPart, compile};
 ghost use Rattle.compiler.specs.Buffer.{Compiles};
 use answers::Compiled;
 use delivery::deliver;
 use emission::Code;
 use looking::look;
+use numbers::limits::MOST_CODE_WORDS;
 use walking::walk;
 
 pub mod delivery;
@@ -28,7 +30,7 @@ pub fn words(
     named: &[u16],
     buffer: &mut Code,
 ) -> Compiled
-    requires { ⌜ length (now buffer) ≡ 768 ⌝ }
+    requires { ⌜ length (now buffer) ≡ mostCodeWords ⌝ }
     ensures { λ r. ⌜ Compiles create (now (pattern .entry)) (now (kinds .entry)) (now (objects .entry)) (now (named .entry)) r (now (buffer .exit)) ⌝ }
 {
     let found = look(create, pattern, kinds, objects, named);
@@ -49,7 +51,7 @@ pub fn compile(
     ensures { λ r. ⌜ record { answer = r; code = now (code .exit) }
         ≡ compile create (now (pattern .entry)) (now (kinds .entry)) (now (objects .entry)) (now (named .entry)) (now (code .entry)) ⌝ }
 {
-    let mut buffer = [0u32; 768];
+    let mut buffer = [0u32; MOST_CODE_WORDS];
     let answer = words(create, pattern, kinds, objects, named, &mut buffer);
     if answer.number() != 0 {
         return answer;

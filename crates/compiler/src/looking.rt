@@ -2,18 +2,25 @@
 ghost use mathlib.Core.Path.{_≡_};
 ghost use mathlib.Core.Bool.{_&&_};
 ghost use lib.Dec.{eqb, leb};
+ghost use Rattle.numbers.specs.Limits.{variables, mostPatternRows};
 ghost use Rattle.answers.specs.First.{first};
 ghost use Rattle.calls.specs.Compile.{refusals};
 ghost use Rattle.compiler.specs.Buffer.{findingOf};
 use super::Finding;
 use answers::Compiled;
+use numbers::limits::MOST_PATTERN_ROWS;
+use numbers::limits::VARIABLES;
 use word::Place;
 
 // 1.
 fn lengths_fit(pattern: usize, kinds: usize, objects: usize, named: usize) -> bool
-    ensures { λ r. ⌜ r ≡ (leb 1 pattern && leb pattern 96 && eqb kinds 64 && eqb objects 64 && eqb named 64) ⌝ }
+    ensures { λ r. ⌜ r ≡ (leb 1 pattern && leb pattern mostPatternRows && eqb kinds variables && eqb objects variables && eqb named variables) ⌝ }
 {
-    (1 <= pattern) & (pattern <= 96) & (kinds == 64) & (objects == 64) & (named == 64)
+    (1 <= pattern)
+        & (pattern <= MOST_PATTERN_ROWS)
+        & (kinds == VARIABLES)
+        & (objects == VARIABLES)
+        & (named == VARIABLES)
 }
 
 pub fn look(create: bool, pattern: &[u64], kinds: &[u8], objects: &[u16], named: &[u16]) -> Finding

@@ -5,6 +5,7 @@ ghost use mathlib.Core.Option.{none};
 ghost use mathlib.Core.List.{_++_};
 ghost use Prim.Native.Nat.{_+_, _*_, _^_, _<_, _≤_};
 ghost use lib.ListN.{length, getD, drop, replicate};
+ghost use Rattle.numbers.specs.Limits.{variables, mostPatternRows, mostCodeWords};
 ghost use Rattle.stores.specs.Cells.{isSet, unset};
 ghost use Rattle.answers.specs.First.{first};
 ghost use Rattle.calls.specs.Compile.{refusals};
@@ -17,6 +18,8 @@ use emission::Code;
 use emission::Emission;
 use emission::Kinds;
 use emission::Rows;
+use numbers::limits::MOST_PATTERN_ROWS;
+use numbers::limits::VARIABLES;
 
 // The set of the cells so far with one more cell behind them.
 fn with_cell(mask: u64, row: u16) -> u64
@@ -32,7 +35,7 @@ fn with_cell(mask: u64, row: u16) -> u64
 
 // Which cells are set, cell 0 at the most significant bit.
 fn set_cells(cells: &[u16]) -> u64
-    requires { ⌜ length (now cells) ≡ 64 ⌝ }
+    requires { ⌜ length (now cells) ≡ variables ⌝ }
     ensures { λ r. ⌜ known r ≡ (λ v. isSet (getD (now (cells .entry)) v unset)) ⌝ }
 {
     let mut mask: u64 = 0;
@@ -44,15 +47,15 @@ fn set_cells(cells: &[u16]) -> u64
 
 // Zero rows, of which the pattern's take the front.
 fn no_rows() -> Rows
-    ensures { λ r. ⌜ r ≡ replicate 96 0 ⌝ }
+    ensures { λ r. ⌜ r ≡ replicate mostPatternRows 0 ⌝ }
 {
-    [0u64; 96]
+    [0u64; MOST_PATTERN_ROWS]
 }
 
 // The pattern's rows in front, where they are walked: returned, they would stand on the stack twice.
 fn lay_rows(pattern: &[u64], rows: &mut Rows)
-    requires { ⌜ length (now pattern) ≤ 96 ⌝ }
-    requires { ⌜ length (now rows) ≡ 96 ⌝ }
+    requires { ⌜ length (now pattern) ≤ mostPatternRows ⌝ }
+    requires { ⌜ length (now rows) ≡ mostPatternRows ⌝ }
     ensures { λ _. ⌜ now (rows .exit) ≡ now (pattern .entry) ++ drop (length (now (pattern .entry))) (now (rows .entry)) ⌝ }
 {
     for row in 0..pattern.len() {
@@ -62,10 +65,10 @@ fn lay_rows(pattern: &[u64], rows: &mut Rows)
 
 // The kinds as an array: each step of the walk then hands on one word for them.
 fn all_kinds(kinds: &[u8]) -> Kinds
-    requires { ⌜ length (now kinds) ≡ 64 ⌝ }
+    requires { ⌜ length (now kinds) ≡ variables ⌝ }
     ensures { λ r. ⌜ r ≡ now (kinds .entry) ⌝ }
 {
-    let mut all = [0u8; 64];
+    let mut all = [0u8; VARIABLES];
     for v in 0..kinds.len() {
         all[v] = kinds[v];
     }
@@ -74,7 +77,7 @@ fn all_kinds(kinds: &[u8]) -> Kinds
 
 // What emission answers.
 fn answer_of(emission: Emission) -> Compiled
-    requires { ⌜ writtenIn emission ≤ 768 ⌝ }
+    requires { ⌜ writtenIn emission ≤ mostCodeWords ⌝ }
     ensures { λ r. ⌜ r ≡ answerIn emission ⌝ }
 {
     let refusal = emission[emission::REFUSAL];
@@ -116,7 +119,7 @@ pub fn walk(
     buffer: &mut Code,
 ) -> Compiled
     requires { ⌜ first (refusals create (now pattern) (now kinds) (now objects) (now named)) ≡ none ⌝ }
-    requires { ⌜ length (now buffer) ≡ 768 ⌝ }
+    requires { ⌜ length (now buffer) ≡ mostCodeWords ⌝ }
     ensures { λ r. ⌜ Compiles create (now (pattern .entry)) (now (kinds .entry)) (now (objects .entry)) (now (named .entry)) r (now (buffer .exit)) ⌝ }
 {
     let mut rows = no_rows();

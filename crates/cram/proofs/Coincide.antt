@@ -3,7 +3,7 @@ use Prim.Native.Nat.{ℕ}
 use mathlib.Core.Path.{_≡_, sym, _∙_}
 use mathlib.Core.List.{List}
 use Rattle.calls.specs.Run.{Lent}
-use Rattle.cram.specs.Entries.{CompileLeft, compileEntry, RunLeft, runEntry}
+use Rattle.lending.specs.Entries.{CompileLeft, compileEntry, RunLeft, runEntry}
 
 pub compiles-coincide : (create : ℕ) (pattern kinds objects named code : List ℕ) (one other : CompileLeft)
     → one ≡ compileEntry create pattern kinds objects named code → other ≡ compileEntry create pattern kinds objects named code → one ≡ other

@@ -1,28 +1,15 @@
 // The entries for C: plain numbers and byte slices, fields high byte first.
 ghost use mathlib.Core.Path.{_≡_};
-ghost use Rattle.cram.specs.Entries.{compileEntry, runEntry};
+ghost use Rattle.lending.specs.Entries.{compileEntry, runEntry};
 use answers::Compiled;
 use answers::Ran;
+use lending::CompileAnswer;
+use lending::RunAnswer;
+use lending::arrays;
+use lending::compiles;
+use lending::runs;
 
-mod arrays;
-mod compiles;
-mod runs;
-
-#[repr(C)]
-pub struct CompileAnswer {
-    pub number: u32,
-    pub place: u32,
-}
-
-#[repr(C)]
-pub struct RunAnswer {
-    pub number: u32,
-    pub place: u32,
-    pub reason: u32,
-    pub used: u32,
-    pub counter: u32,
-    pub accumulator: u32,
-}
+mod tables;
 
 // The code of a pattern; create is 0 for matching, 1 for creating.
 #[no_mangle]
@@ -94,14 +81,22 @@ pub extern "C" fn cram_run(
     let count = code.len() / 4;
     let pairs = arrays::certificates(certificates);
     let words = arrays::code_words(code);
-    runs::over_table(
+    let object_cells = arrays::cells(objects);
+    let message_cells = arrays::message_cells(messages);
+    let left = tables::over_table(
         kinds,
-        objects,
-        messages,
+        object_cells,
+        message_cells,
         &pairs[..certified],
         accumulator,
         terms,
         counter,
         &words[..count],
-    )
+    );
+    let left_objects = left.objects;
+    let left_messages = left.messages;
+    word::pack_pairs(&left_objects, objects);
+    word::pack_pairs(&left_messages, messages);
+    let answer = left.answer;
+    runs::numbers(answer, left.used as u32, left.counter, left.accumulator)
 }

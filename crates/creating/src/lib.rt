@@ -11,9 +11,10 @@ use emission::instructions;
 use emission::parts_of;
 use emission::scratch;
 use emission::take;
-use numbers::Object;
-use numbers::Raw;
+use numbers::limits::MOST_PARTS;
+use patterns::forms as form;
 ghost use mathlib.Core.Path.{_≡_};
+ghost use Rattle.patterns.specs.Forms.{encryptionForm, signatureForm, tupleForm, letForm};
 ghost use Rattle.patterns.specs.Row.{fieldsOf};
 ghost use Rattle.emission.specs.Budget.{Row, RowAt, Leaf};
 ghost use Rattle.emission.specs.Parts.{PartsAt};
@@ -29,16 +30,16 @@ fn create_signature(
     word: u64,
 )
     requires { ⌜ RowAt (now rows) row word (now emission) ⌝ }
-    requires { ⌜ fieldsOf word .tag ≡ 6 ⌝ }
+    requires { ⌜ fieldsOf word .tag ≡ signatureForm ⌝ }
     ensures { λ _. ⌜ Creates (now (rows .entry)) (now (kinds .entry)) row (now (emission .entry)) (now (code .entry)) (now (emission .exit)) (now (code .exit)) ⌝ }
 {
     let s = patterns::variable(word);
-    let key = patterns::x(word);
+    let key = patterns::key(word);
     let r = patterns::raw(word);
     keys::create_key(kinds, code, emission, row, word);
-    instructions::load(code, emission, row, Raw(r));
-    instructions::sign(code, emission, row, Object(key));
-    instructions::decode(code, emission, row, Object(s));
+    instructions::load(code, emission, row, r);
+    instructions::sign(code, emission, row, key);
+    instructions::decode(code, emission, row, s);
 }
 
 // The pattern of a row with no children.
@@ -57,12 +58,12 @@ fn create_leaf(
     let tag = patterns::tag(word);
     let v = patterns::variable(word);
     match tag {
-        0 => forms::create_object(kinds, code, emission, row, v),
-        1 => instructions::load(code, emission, row, Raw(patterns::raw(word))),
-        2 => forms::create_constant(code, emission, row, v, patterns::x(word)),
-        3 => forms::create_opposite(kinds, code, emission, row, v, patterns::y(word)),
-        4 => keys::certified_key(code, emission, row, v, patterns::y(word)),
-        6 => create_signature(rows, kinds, code, emission, row, word),
+        form::OBJECT_VARIABLE => forms::create_object(kinds, code, emission, row, v),
+        form::RAW_VARIABLE => instructions::load(code, emission, row, patterns::raw(word)),
+        form::CONSTANT => forms::create_constant(code, emission, row, v, patterns::byte(word)),
+        form::OPPOSITE => forms::create_opposite(kinds, code, emission, row, v, patterns::y(word)),
+        form::KEY_OF => keys::certified_key(code, emission, row, v, patterns::y(word)),
+        form::SIGNATURE => create_signature(rows, kinds, code, emission, row, word),
         _ => forms::create_hash(code, emission, row, v, patterns::raw(word)),
     }
 }
@@ -75,9 +76,9 @@ pub fn create_row(rows: &Rows, kinds: &Kinds, code: &mut Code, emission: &mut Em
     let word = rows[row as usize];
     let tag = patterns::tag(word);
     match tag {
-        5 => create_encryption(rows, kinds, code, emission, row, word),
-        8 => create_tuple(rows, kinds, code, emission, row, word),
-        9 => create_let(rows, kinds, code, emission, row, word),
+        form::ENCRYPTION => create_encryption(rows, kinds, code, emission, row, word),
+        form::TUPLE => create_tuple(rows, kinds, code, emission, row, word),
+        form::LET => create_let(rows, kinds, code, emission, row, word),
         _ => create_leaf(rows, kinds, code, emission, row, word),
     }
 }
@@ -92,16 +93,16 @@ fn create_encryption(
     word: u64,
 )
     requires { ⌜ RowAt (now rows) row word (now emission) ⌝ }
-    requires { ⌜ fieldsOf word .tag ≡ 5 ⌝ }
+    requires { ⌜ fieldsOf word .tag ≡ encryptionForm ⌝ }
     ensures { λ _. ⌜ Creates (now (rows .entry)) (now (kinds .entry)) row (now (emission .entry)) (now (code .entry)) (now (emission .exit)) (now (code .exit)) ⌝ }
 {
     let e = patterns::variable(word);
-    let key = patterns::x(word);
+    let key = patterns::key(word);
     let children = patterns::slots(word);
     keys::create_key(kinds, code, emission, row, word);
     create_row(rows, kinds, code, emission, children[0]);
-    instructions::encrypt(code, emission, row, Object(key));
-    instructions::decode(code, emission, row, Object(e));
+    instructions::encrypt(code, emission, row, key);
+    instructions::decode(code, emission, row, e);
 }
 
 // t : [p1 .. pn]
@@ -114,7 +115,7 @@ fn create_tuple(
     word: u64,
 )
     requires { ⌜ RowAt (now rows) row word (now emission) ⌝ }
-    requires { ⌜ fieldsOf word .tag ≡ 8 ⌝ }
+    requires { ⌜ fieldsOf word .tag ≡ tupleForm ⌝ }
     ensures { λ _. ⌜ Creates (now (rows .entry)) (now (kinds .entry)) row (now (emission .entry)) (now (code .entry)) (now (emission .exit)) (now (code .exit)) ⌝ }
 {
     let t = patterns::variable(word);
@@ -130,8 +131,8 @@ fn create_tuple(
         n,
     );
     let cell = scratch(first);
-    instructions::create_tuple(code, emission, row, Object(t), cell, n);
-    instructions::encode(code, emission, row, Object(t));
+    instructions::create_tuple(code, emission, row, t, cell, n);
+    instructions::encode(code, emission, row, t);
 }
 
 // The parts of a tuple, from left to right, each into its scratch cell.
@@ -141,7 +142,7 @@ fn create_parts(
     code: &mut Code,
     emission: &mut Emission,
     row: u8,
-    parts: [Part; 4],
+    parts: [Part; MOST_PARTS],
     n: u8,
 )
     requires { ⌜ PartsAt (now rows) row parts n (now emission) ⌝ }
@@ -166,12 +167,12 @@ fn create_let(
     word: u64,
 )
     requires { ⌜ RowAt (now rows) row word (now emission) ⌝ }
-    requires { ⌜ fieldsOf word .tag ≡ 9 ⌝ }
+    requires { ⌜ fieldsOf word .tag ≡ letForm ⌝ }
     ensures { λ _. ⌜ Creates (now (rows .entry)) (now (kinds .entry)) row (now (emission .entry)) (now (code .entry)) (now (emission .exit)) (now (code .exit)) ⌝ }
 {
     let r = patterns::raw(word);
     let children = patterns::slots(word);
     create_row(rows, kinds, code, emission, children[0]);
-    instructions::store(code, emission, row, Raw(r));
+    instructions::store(code, emission, row, r);
     create_row(rows, kinds, code, emission, children[1]);
 }

@@ -7,12 +7,12 @@ use native.Mathlib.Omega.{arith}
 use Rattle.word.specs.Fields.{join}
 use Rattle.code.specs.Instruction.{wordWidths, fieldsOf, wordOf}
 use Rattle.code.specs.declared.Instruction.{Instruction}
-use Rattle.code.specs.declared.Instruction.the-variants.{Load, Store, StoreConst, Decode, Encode, Create, AnalyzeTuple, CreateTuple, Opposite, KeyOf, Match, Encrypt, Decrypt, Sign, Verify, Hash}
 use Rattle.theory.specs.Machine.{Line, line}
-use Rattle.theory.specs.Emission.{Env, Emitted, ok, andThen, _then_, reads, one, readable, occupied, addObject, addRaw, emit}
-use Rattle.emission.specs.Steps.{writeObject, readRaw, looks}
+use Rattle.theory.specs.Uses.{Used, objectAt, messageAt, messagesAt, usesOf}
+use Rattle.theory.specs.Emission.{Env, Emitted, ok, andThen, _then_, reads, writes, one, reading, writing, readable, occupied, addObject, addRaw, emit}
+use Rattle.emission.specs.Steps.{readObject, looks}
 use Rattle.emission.specs.Meets.{Does, Quiet}
-use Rattle.emission.proofs.MeetsLaws.{then-assoc, then-free, after-nil, does-as, does-seq, does-none}
+use Rattle.emission.proofs.MeetsLaws.{after-nil, does-as, does-seq, does-none}
 
 nothing : {e : List ℕ} → Quiet (ok []) 0 e e
 nothing = record { does = λ code. does-none; place = omega arith; free = omega arith; long = refl }
@@ -26,56 +26,55 @@ quiet-seq k l =
       long = l .long ∙ k .long;
     }
 
--- a variable is read, and then
-then-read : (row : ℕ) (known : Bool) (f : Env → Emitted) (env : Env) → reads row known (f env) ≡ andThen (reads row known (ok [] env)) f
+-- one look, and then
+then-read : (row : ℕ) (known : Bool) (y : Emitted) (f : Env → Emitted) {x : Emitted} → x ≡ andThen y f → reads row known x ≡ andThen (reads row known y) f
 unfolding andThen
-then-read row true f env = sym (after-nil (f env))
-then-read row false f env = refl
+then-read row true y f h = h
+then-read row false y f h = refl
 
-then-read-more : (row : ℕ) (known : Bool) (f g : Env → Emitted) (env : Env) {x : Emitted} → x ≡ andThen (f env) g
-    → reads row known x ≡ andThen (andThen (reads row known (ok [] env)) f) g
-then-read-more row known f g env h =
-    ap (reads row known) h ∙ then-read row known (f then g) env ∙ sym (then-assoc (reads row known (ok [] env)) f g)
-
-then-one : (row : ℕ) (i : Instruction) (env : Env) → one row i env ≡ andThen (ok [] env) (one row i)
+then-write : (row : ℕ) (known : Bool) (y : Emitted) (f : Env → Emitted) {x : Emitted} → x ≡ andThen y f → writes row known x ≡ andThen (writes row known y) f
 unfolding andThen
-then-one row i env = sym (after-nil (one row i env))
+then-write row true y f h = refl
+then-write row false y f h = h
+
+module _ (row : ℕ) (f : Env → Emitted) where
+  then-writing : (us : List Used) (env : Env) → writing row us f env ≡ andThen (writing row us (ok []) env) f
+  unfolding andThen
+  then-writing [] env = sym (after-nil (f env))
+  then-writing (objectAt v ∷ us) env = then-write row (env .objects v) _ f (then-writing us (addObject env v))
+  then-writing (messageAt r ∷ us) env = then-write row (occupied env r) _ f (then-writing us (addRaw env r))
+  then-writing (messagesAt b n ∷ us) env = then-writing us env
+
+  then-reading : (us vs : List Used) (env : Env)
+      → reading row us (writing row vs f) env ≡ andThen (reading row us (writing row vs (ok [])) env) f
+  then-reading [] vs env = then-writing vs env
+  then-reading (objectAt v ∷ us) vs env = then-read row (env .objects v) _ f (then-reading us vs env)
+  then-reading (messageAt r ∷ us) vs env = then-read row (readable env r) _ f (then-reading us vs env)
+  then-reading (messagesAt b n ∷ us) vs env = then-reading us vs env
 
 emit-looks : (row : ℕ) (i : Instruction) (env : Env) → emit row i env ≡ andThen (looks row i env) (one row i)
 unfolding emit
-emit-looks row (Load r) env = then-read row (readable env (r .0)) (one row (Load r)) env
-emit-looks row (Store r) env = then-free row (occupied env (r .0)) (one row (Store r)) (addRaw env (r .0))
-emit-looks row (StoreConst c b) env = then-free row (env .objects (c .0)) (one row (StoreConst c b)) (addObject env (c .0))
-emit-looks row (Decode v) env = then-free row (env .objects (v .0)) (one row (Decode v)) (addObject env (v .0))
-emit-looks row (Encode v) env = then-read row (env .objects (v .0)) (one row (Encode v)) env
-emit-looks row (Create v) env = then-free row (env .objects (v .0)) (one row (Create v)) (addObject env (v .0))
-emit-looks row (AnalyzeTuple t b n) env = then-read row (env .objects (t .0)) (one row (AnalyzeTuple t b n)) env
-emit-looks row (CreateTuple t b n) env = then-free row (env .objects (t .0)) (one row (CreateTuple t b n)) (addObject env (t .0))
-emit-looks row (Opposite K k) env =
-    then-read-more row (env .objects (K .0)) (writeObject row (k .0)) (one row (Opposite K k)) env
-    (then-free row (env .objects (k .0)) (one row (Opposite K k)) (addObject env (k .0)))
-emit-looks row KeyOf env = then-one row KeyOf env
-emit-looks row (Match r) env = then-read row (readable env (r .0)) (one row (Match r)) env
-emit-looks row (Encrypt v) env = then-read row (env .objects (v .0)) (one row (Encrypt v)) env
-emit-looks row (Decrypt v) env = then-read row (env .objects (v .0)) (one row (Decrypt v)) env
-emit-looks row (Sign v) env = then-read row (env .objects (v .0)) (one row (Sign v)) env
-emit-looks row (Verify v r) env =
-    then-read-more row (env .objects (v .0)) (readRaw row (r .0)) (one row (Verify v r)) env
-    (then-read row (readable env (r .0)) (one row (Verify v r)) env)
-emit-looks row (Hash h) env = then-one row (Hash h) env
+emit-looks row i env = then-reading row (one row i) (usesOf i .reads) (usesOf i .writes) env
 
 module _ (row : ℕ) (i : Instruction) (word : ℕ) {e₁ e₂ code code₂ : List ℕ} (spells : word ≡ join wordWidths (fieldsOf i))
     (writes-it : (l : Line) → word ≡ wordOf (l .instruction) → Does (ok (l ∷ [])) 1 0 e₁ code e₂ code₂) where
   -- so it is emitted by what it does before its word
-  pub emitted : {f : Env → Emitted} {e : List ℕ} → Quiet f 0 e e₁ → looks row i ≡ f → Does (emit row i) 1 0 e code e₂ code₂
+  emitted-as : {f : Env → Emitted} {e : List ℕ} → Quiet f 0 e e₁ → ((env : Env) → looks row i env ≡ f env) → Does (emit row i) 1 0 e code e₂ code₂
   unfolding wordOf
-  emitted {f} k same =
-      does-as (λ env. emit-looks row i env ∙ ap (λ (g : Env → Emitted). andThen (g env) (one row i)) same)
+  emitted-as k same =
+      does-as (λ env. emit-looks row i env ∙ ap (λ (x : Emitted). andThen x (one row i)) (same env))
       (does-seq (k .does code) (writes-it (line row i) spells))
 
-  pub emitted-twice : {f g : Env → Emitted} {e e₀ : List ℕ} → Quiet f 0 e e₀ → Quiet g 0 e₀ e₁ → looks row i ≡ (f then g)
-      → Does (emit row i) 1 0 e code e₂ code₂
-  emitted-twice k l same = emitted (quiet-seq k l) same
+  pub emitted : {f : Env → Emitted} {e : List ℕ} → Quiet f 0 e e₁ → looks row i ≡ f → Does (emit row i) 1 0 e code e₂ code₂
+  emitted k same = emitted-as k λ env. ap (λ (g : Env → Emitted). g env) same
+
+  -- by an object variable that it reads, and then
+  pub emitted-twice : {v : ℕ} {g : Env → Emitted} {e e₀ : List ℕ} → Quiet (readObject row v) 0 e e₀ → Quiet g 0 e₀ e₁
+      → looks row i ≡ (λ env. reads row (env .objects v) (g env)) → Does (emit row i) 1 0 e code e₂ code₂
+  unfolding andThen
+  emitted-twice {v} {g} k l same =
+      emitted-as (quiet-seq k l) λ env.
+      ap (λ (h : Env → Emitted). h env) same ∙ then-read row (env .objects v) (ok [] env) g (sym (after-nil (g env)))
 
   pub emitted-blindly : looks row i ≡ ok [] → Does (emit row i) 1 0 e₁ code e₂ code₂
   emitted-blindly same = emitted nothing same

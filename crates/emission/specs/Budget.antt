@@ -4,6 +4,8 @@ use mathlib.Core.Path.{_≡_}
 use mathlib.Core.List.{List}
 use lib.ListN.{length, getD}
 use lib.Dec.{T}
+use Rattle.numbers.specs.Limits.{mostPatternRows, mostCodeWords}
+use Rattle.patterns.specs.Forms.{encryptionForm, tupleForm, letForm}
 use Rattle.patterns.specs.Pattern.{Pattern, Parts, count, size, sizes}
 use Rattle.patterns.specs.Row.{fieldsOf}
 use Rattle.patterns.specs.Rules.{rowFits}
@@ -27,11 +29,11 @@ scratchesOf ps = 2 * sizes ps - count ps
 abbrev pub patternIn : List ℕ → ℕ → Pattern
 patternIn rows row = patternAt (patternsOf rows) row
 
--- a row of the 96, good as those below it are, and room for its pattern
+-- a row of the pattern, good as those below it are, and room for its pattern
 pub record Row (rows : List ℕ) (row : ℕ) (e : List ℕ) : Type 0 where
   pub good : (place : ℕ) → place ≤ row → T (rowFits place (fieldsOf (getD rows place 0)))
   pub inside : row < length rows
-  pub most : row < 96
+  pub most : row < mostPatternRows
   pub room : Room (words (patternIn rows row)) (scratches (patternIn rows row)) e
 
 -- the same, with the row's word
@@ -39,14 +41,14 @@ pub record RowAt (rows : List ℕ) (row word : ℕ) (e : List ℕ) : Type 0 wher
   pub here : word ≡ getD rows row 0
   pub whole : Row rows row e
 
--- the forms with children have tags 5, 8 and 9
+-- no form with children
 pub record Leaf (tag : ℕ) : Type 0 where
-  pub encryption : tag ≡ 5 → ⊥
-  pub tuple : tag ≡ 8 → ⊥
-  pub letIn : tag ≡ 9 → ⊥
+  pub encryption : tag ≡ encryptionForm → ⊥
+  pub tuple : tag ≡ tupleForm → ⊥
+  pub letIn : tag ≡ letForm → ⊥
 
 -- room for the parts of a tuple, whose own scratch numbers are taken already
 pub record RoomParts (ps : Parts) (e : List ℕ) : Type 0 where
   pub long : length e ≡ 5
-  pub place : writtenIn e + wordsOf ps ≤ 768
+  pub place : writtenIn e + wordsOf ps ≤ mostCodeWords
   pub free : nextIn e + 2 * sizes ps ≤ 191 + count ps

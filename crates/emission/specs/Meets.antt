@@ -7,6 +7,7 @@ use mathlib.Core.List.{List, [], _∷_}
 use lib.ListN.{length, getD, set}
 use lib.Seq.{sets}
 use lib.Dec.{eqb}
+use Rattle.numbers.specs.Limits.{mostCodeWords}
 use Rattle.answers.specs.declared.Compiled.{Compiled}
 use Rattle.answers.specs.declared.Compiled.the-variants.{WrongKind, WrittenWhileSet, ReadWhileUnset}
 use Rattle.theory.specs.Machine.{Line}
@@ -15,6 +16,12 @@ use Rattle.calls.specs.Compile.{codeWords}
 use Rattle.emission.specs.Known.{known}
 
 -- the five numbers: known objects, known raws, the next scratch number, the words written, the refusal
+abbrev pub objectsIn : List ℕ → ℕ
+objectsIn e = getD e 0 0
+
+abbrev pub rawsIn : List ℕ → ℕ
+rawsIn e = getD e 1 0
+
 abbrev pub nextIn : List ℕ → ℕ
 nextIn e = getD e 2 0
 
@@ -25,7 +32,7 @@ abbrev pub refusalIn : List ℕ → ℕ
 refusalIn e = getD e 4 0
 
 abbrev pub envOf : List ℕ → Env
-envOf e = record { objects = known (getD e 0 0); raws = known (getD e 1 0); next = nextIn e }
+envOf e = record { objects = known (objectsIn e); raws = known (rawsIn e); next = nextIn e }
 
 -- what emission is refused with, by its number and row; 0 is no refusal
 abbrev pub refusalBy : ℕ → ℕ → Option Compiled
@@ -72,5 +79,5 @@ pub record Quiet (f : Env → Emitted) (m : ℕ) (e e′ : List ℕ) : Type 0 wh
 -- there is room for w words and m scratch numbers
 pub record Room (w m : ℕ) (e : List ℕ) : Type 0 where
   pub long : length e ≡ 5
-  pub place : writtenIn e + w ≤ 768
+  pub place : writtenIn e + w ≤ mostCodeWords
   pub free : nextIn e + m ≤ 191

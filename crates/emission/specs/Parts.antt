@@ -4,6 +4,7 @@ use mathlib.Core.Path.{_≡_}
 use mathlib.Core.List.{List, [], _∷_, map}
 use lib.ListN.{length, getD, take, drop}
 use lib.Dec.{T}
+use Rattle.numbers.specs.Limits.{scratchCells, mostPatternRows, mostParts}
 use Rattle.patterns.specs.Pattern.{Parts}
 use Rattle.patterns.specs.Row.{fieldsOf}
 use Rattle.patterns.specs.Rules.{rowFits}
@@ -33,11 +34,11 @@ partsIn rows parts n k = partsBy (patternIn rows) (map (λ p. p .child) (drop k 
 pub record PartsAt (rows : List ℕ) (row : ℕ) (parts : List Part) (n : ℕ) (e : List ℕ) : Type 0 where
   pub good : (place : ℕ) → place ≤ row → T (rowFits place (fieldsOf (getD rows place 0)))
   pub inside : row < length rows
-  pub most : row < 96
-  pub few : n ≤ 4
+  pub most : row < mostPatternRows
+  pub few : n ≤ mostParts
   pub below : (k : ℕ) → k < n → partAt parts k .child < row
   pub laid : (k : ℕ) → k < n → partAt parts k .scratch ≡ partAt parts 0 .scratch + k
-  pub cells : partAt parts 0 .scratch + n ≤ 192
+  pub cells : partAt parts 0 .scratch + n ≤ scratchCells
   pub room : RoomParts (partsIn rows parts n 0) e
 
 -- what is emitted for the parts, given for their patterns, the tuple's row and the first scratch number

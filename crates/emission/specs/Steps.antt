@@ -2,8 +2,8 @@
 use Prim.Native.Nat.{ℕ, _+_}
 use mathlib.Core.List.{[]}
 use Rattle.code.specs.declared.Instruction.{Instruction}
-use Rattle.code.specs.declared.Instruction.the-variants.{Load, Store, StoreConst, Decode, Encode, Create, AnalyzeTuple, CreateTuple, Opposite, KeyOf, Match, Encrypt, Decrypt, Sign, Verify, Hash}
-use Rattle.theory.specs.Emission.{Env, Emitted, ok, _then_, reads, writes, readable, occupied, addObject, addRaw}
+use Rattle.theory.specs.Uses.{usesOf}
+use Rattle.theory.specs.Emission.{Env, Emitted, ok, reads, writes, readable, occupied, addObject, addRaw, uses}
 
 abbrev pub readObject : ℕ → ℕ → Env → Emitted
 readObject row v e = reads row (e .objects v) (ok [] e)
@@ -27,19 +27,4 @@ raise n e = ok [] (record { objects = e .objects; raws = e .raws; next = e .next
 
 -- what an instruction reads and then writes
 abbrev pub looks : ℕ → Instruction → Env → Emitted
-looks row (Load r) = readRaw row (r .0)
-looks row (Store r) = writeRaw row (r .0)
-looks row (StoreConst c b) = writeObject row (c .0)
-looks row (Decode v) = writeObject row (v .0)
-looks row (Encode v) = readObject row (v .0)
-looks row (Create v) = writeObject row (v .0)
-looks row (AnalyzeTuple t b n) = readObject row (t .0)
-looks row (CreateTuple t b n) = writeObject row (t .0)
-looks row (Opposite K k) = readObject row (K .0) then writeObject row (k .0)
-looks row KeyOf = ok []
-looks row (Match r) = readRaw row (r .0)
-looks row (Encrypt v) = readObject row (v .0)
-looks row (Decrypt v) = readObject row (v .0)
-looks row (Sign v) = readObject row (v .0)
-looks row (Verify v r) = readObject row (v .0) then readRaw row (r .0)
-looks row (Hash h) = ok []
+looks row i = uses row (usesOf i) (ok [])

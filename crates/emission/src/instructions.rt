@@ -12,6 +12,7 @@ use numbers::Object;
 use numbers::Raw;
 ghost use mathlib.Core.Path.{_≡_};
 ghost use Prim.Native.Nat.{_<_};
+ghost use Rattle.numbers.specs.Limits.{variables};
 ghost use Rattle.word.specs.Fields.{join};
 ghost use Rattle.code.specs.Instruction.{wordWidths, fieldsOf};
 ghost use Rattle.code.specs.declared.Instruction.the-variants.{Load, Store, StoreConst, Decode, Encode, Create, AnalyzeTuple, CreateTuple, Opposite, KeyOf, Match, Encrypt, Decrypt, Sign, Verify, Hash};
@@ -46,7 +47,7 @@ fn emit_writing(
     word: u32,
 )
     requires { ⌜ Room 1 0 (now emission) ⌝ }
-    requires { ⌜ v .0 < 64 ⌝ }
+    requires { ⌜ v .0 < variables ⌝ }
     requires { ⌜ (looks row instruction ≡ writeObject row (v .0)) × (word ≡ join wordWidths (fieldsOf instruction)) ⌝ }
     ensures { λ _. ⌜ Does (emit row instruction) 1 0 (now (emission .entry)) (now (code .entry)) (now (emission .exit)) (now (code .exit)) ⌝ }
 {
@@ -88,7 +89,7 @@ pub fn store(code: &mut Code, emission: &mut Emission, row: u8, r: Raw)
 
 pub fn store_const(code: &mut Code, emission: &mut Emission, row: u8, c: Object, byte: u8)
     requires { ⌜ Room 1 0 (now emission) ⌝ }
-    requires { ⌜ c .0 < 64 ⌝ }
+    requires { ⌜ c .0 < variables ⌝ }
     ensures { λ _. ⌜ Does (emit row (StoreConst c byte)) 1 0 (now (emission .entry)) (now (code .entry)) (now (emission .exit)) (now (code .exit)) ⌝ }
 {
     emit_writing(
@@ -103,7 +104,7 @@ pub fn store_const(code: &mut Code, emission: &mut Emission, row: u8, c: Object,
 
 pub fn decode(code: &mut Code, emission: &mut Emission, row: u8, v: Object)
     requires { ⌜ Room 1 0 (now emission) ⌝ }
-    requires { ⌜ v .0 < 64 ⌝ }
+    requires { ⌜ v .0 < variables ⌝ }
     ensures { λ _. ⌜ Does (emit row (Decode v)) 1 0 (now (emission .entry)) (now (code .entry)) (now (emission .exit)) (now (code .exit)) ⌝ }
 {
     emit_writing(
@@ -132,7 +133,7 @@ pub fn encode(code: &mut Code, emission: &mut Emission, row: u8, v: Object)
 
 pub fn create(code: &mut Code, emission: &mut Emission, row: u8, v: Object)
     requires { ⌜ Room 1 0 (now emission) ⌝ }
-    requires { ⌜ v .0 < 64 ⌝ }
+    requires { ⌜ v .0 < variables ⌝ }
     ensures { λ _. ⌜ Does (emit row (Create v)) 1 0 (now (emission .entry)) (now (code .entry)) (now (emission .exit)) (now (code .exit)) ⌝ }
 {
     emit_writing(
@@ -168,7 +169,7 @@ pub fn analyze_tuple(
 
 pub fn create_tuple(code: &mut Code, emission: &mut Emission, row: u8, t: Object, first: Raw, n: u8)
     requires { ⌜ Room 1 0 (now emission) ⌝ }
-    requires { ⌜ t .0 < 64 ⌝ }
+    requires { ⌜ t .0 < variables ⌝ }
     ensures { λ _. ⌜ Does (emit row (CreateTuple t first n)) 1 0 (now (emission .entry)) (now (code .entry)) (now (emission .exit)) (now (code .exit)) ⌝ }
 {
     emit_writing(
@@ -183,7 +184,7 @@ pub fn create_tuple(code: &mut Code, emission: &mut Emission, row: u8, t: Object
 
 pub fn opposite(code: &mut Code, emission: &mut Emission, row: u8, private: Object, public: Object)
     requires { ⌜ Room 1 0 (now emission) ⌝ }
-    requires { ⌜ public .0 < 64 ⌝ }
+    requires { ⌜ public .0 < variables ⌝ }
     ensures { λ _. ⌜ Does (emit row (Opposite private public)) 1 0 (now (emission .entry)) (now (code .entry)) (now (emission .exit)) (now (code .exit)) ⌝ }
 {
     read_object(emission, row, private);

@@ -3,11 +3,16 @@ pub mod instructions;
 
 use numbers::Object;
 use numbers::Raw;
+use numbers::limits::MOST_CODE_WORDS;
+use numbers::limits::MOST_PARTS;
+use numbers::limits::MOST_PATTERN_ROWS;
+use numbers::limits::VARIABLES;
 ghost use mathlib.Core.Path.{_≡_};
 ghost use mathlib.Core.Bool.{true, false};
 ghost use mathlib.Core.List.{[], _∷_};
 ghost use Prim.Native.Nat.{_+_, _*_, _<_};
 ghost use lib.ListN.{length};
+ghost use Rattle.numbers.specs.Limits.{variables, scratchCells};
 ghost use Rattle.answers.specs.declared.Compiled.the-variants.{WrongKind};
 ghost use Rattle.code.specs.Instruction.{wordOf};
 ghost use Rattle.theory.specs.Store.{put};
@@ -15,7 +20,7 @@ ghost use Rattle.theory.specs.Machine.{Line, scratch};
 ghost use Rattle.theory.specs.Emission.{ok, refuse};
 ghost use Rattle.emission.specs.Known.{known};
 ghost use Rattle.emission.specs.Steps.{readObject, writeObject, readRaw, writeRaw, freeRaw, raise};
-ghost use Rattle.emission.specs.Meets.{nextIn, refusing, Does, Quiet, Room};
+ghost use Rattle.emission.specs.Meets.{objectsIn, rawsIn, nextIn, refusing, Does, Quiet, Room};
 ghost use Rattle.emission.specs.Parts.{partsFrom};
 
 // The numbers at OBJECTS, RAWS, NEXT, WRITTEN and REFUSAL.
@@ -33,19 +38,19 @@ pub const WRITTEN: usize = 3;
 pub const REFUSAL: usize = 4;
 
 // The pattern's rows, and zero rows behind them.
-pub type Rows = [u64; 96];
+pub type Rows = [u64; MOST_PATTERN_ROWS];
 
 // The kinds of the object variables.
-pub type Kinds = [u8; 64];
+pub type Kinds = [u8; VARIABLES];
 
 // Room for the longest code.
-pub type Code = [u32; 768];
+pub type Code = [u32; MOST_CODE_WORDS];
 
 // Whether a set of 64 bits has a variable.
-pub fn is_known(mask: u64, v: u8) -> bool
+fn is_known(mask: u64, v: u8) -> bool
     ensures { λ r. ⌜ r ≡ known mask v ⌝ }
 {
-    if v < 64 {
+    if (v as usize) < VARIABLES {
         (mask >> (63 - v)) % 2 == 1
     } else {
         false
@@ -53,11 +58,27 @@ pub fn is_known(mask: u64, v: u8) -> bool
 }
 
 // The set with a variable that it does not have yet.
-pub fn with_known(mask: u64, v: u8) -> u64
-    requires { ⌜ (v < 64) × (known mask v ≡ false) ⌝ }
+fn with_known(mask: u64, v: u8) -> u64
+    requires { ⌜ (v < variables) × (known mask v ≡ false) ⌝ }
     ensures { λ r. ⌜ known r ≡ put (known mask) v true ⌝ }
 {
     mask + (1u64 << (63 - v))
+}
+
+// Whether an object variable is set.
+pub fn object_known(emission: &Emission, v: Object) -> bool
+    requires { ⌜ length (now emission) ≡ 5 ⌝ }
+    ensures { λ r. ⌜ r ≡ known (objectsIn (now (emission .entry))) (v .0) ⌝ }
+{
+    is_known(emission[OBJECTS], v.0)
+}
+
+// Whether a named message cell is set.
+pub fn raw_known(emission: &Emission, r: Raw) -> bool
+    requires { ⌜ length (now emission) ≡ 5 ⌝ }
+    ensures { λ t. ⌜ t ≡ known (rawsIn (now (emission .entry))) (r .0) ⌝ }
+{
+    is_known(emission[RAWS], r.0)
 }
 
 // The first refusal is the answer.
@@ -74,20 +95,19 @@ fn read_object(emission: &mut Emission, row: u8, v: Object)
     requires { ⌜ length (now emission) ≡ 5 ⌝ }
     ensures { λ _. ⌜ Quiet (readObject row (v .0)) 0 (now (emission .entry)) (now (emission .exit)) ⌝ }
 {
-    if is_known(emission[OBJECTS], v.0) {} else {
+    if object_known(emission, v) {} else {
         refuse(emission, 7, row);
     }
 }
 
 fn write_object(emission: &mut Emission, row: u8, v: Object)
-    requires { ⌜ (length (now emission) ≡ 5) × (v .0 < 64) ⌝ }
+    requires { ⌜ (length (now emission) ≡ 5) × (v .0 < variables) ⌝ }
     ensures { λ _. ⌜ Quiet (writeObject row (v .0)) 0 (now (emission .entry)) (now (emission .exit)) ⌝ }
 {
-    let objects = emission[OBJECTS];
-    if is_known(objects, v.0) {
+    if object_known(emission, v) {
         refuse(emission, 6, row);
     } else {
-        emission[OBJECTS] = with_known(objects, v.0);
+        emission[OBJECTS] = with_known(emission[OBJECTS], v.0);
     }
 }
 
@@ -96,8 +116,8 @@ fn read_raw(emission: &mut Emission, row: u8, r: Raw)
     requires { ⌜ length (now emission) ≡ 5 ⌝ }
     ensures { λ _. ⌜ Quiet (readRaw row (r .0)) 0 (now (emission .entry)) (now (emission .exit)) ⌝ }
 {
-    if r.0 < 64 {
-        if is_known(emission[RAWS], r.0) {} else {
+    if (r.0 as usize) < VARIABLES {
+        if raw_known(emission, r) {} else {
             refuse(emission, 7, row);
         }
     }
@@ -107,22 +127,21 @@ fn write_raw(emission: &mut Emission, row: u8, r: Raw)
     requires { ⌜ length (now emission) ≡ 5 ⌝ }
     ensures { λ _. ⌜ Quiet (writeRaw row (r .0)) 0 (now (emission .entry)) (now (emission .exit)) ⌝ }
 {
-    if r.0 < 64 {
-        let raws = emission[RAWS];
-        if is_known(raws, r.0) {
+    if (r.0 as usize) < VARIABLES {
+        if raw_known(emission, r) {
             refuse(emission, 6, row);
         } else {
-            emission[RAWS] = with_known(raws, r.0);
+            emission[RAWS] = with_known(emission[RAWS], r.0);
         }
     }
 }
 
 // A raw variable must be unset, and stays so.
-pub fn free_raw(emission: &mut Emission, row: u8, r: u8)
+pub fn free_raw(emission: &mut Emission, row: u8, r: Raw)
     requires { ⌜ length (now emission) ≡ 5 ⌝ }
-    ensures { λ _. ⌜ Quiet (freeRaw row r) 0 (now (emission .entry)) (now (emission .exit)) ⌝ }
+    ensures { λ _. ⌜ Quiet (freeRaw row (r .0)) 0 (now (emission .entry)) (now (emission .exit)) ⌝ }
 {
-    if is_known(emission[RAWS], r) {
+    if raw_known(emission, r) {
         refuse(emission, 6, row);
     }
 }
@@ -137,7 +156,7 @@ pub fn wrong_kind(emission: &mut Emission, row: u8)
 
 // The first of n scratch numbers that are taken together.
 pub fn take(emission: &mut Emission, n: u8) -> u8
-    requires { ⌜ (length (now emission) ≡ 5) × (nextIn (now emission) < 192) ⌝ }
+    requires { ⌜ (length (now emission) ≡ 5) × (nextIn (now emission) < scratchCells) ⌝ }
     ensures { λ r. ⌜ (r ≡ nextIn (now (emission .entry))) × Quiet (raise n) n (now (emission .entry)) (now (emission .exit)) ⌝ }
 {
     let next = emission[NEXT];
@@ -147,10 +166,10 @@ pub fn take(emission: &mut Emission, n: u8) -> u8
 
 // The message cell of a scratch number.
 pub fn scratch(number: u8) -> Raw
-    requires { ⌜ number < 192 ⌝ }
+    requires { ⌜ number < scratchCells ⌝ }
     ensures { λ r. ⌜ r ≡ scratch number ⌝ }
 {
-    Raw(64 + number)
+    Raw(VARIABLES as u8 + number)
 }
 
 // A part of a tuple: its row, and the scratch number that holds it.
@@ -159,8 +178,8 @@ pub struct Part {
     pub scratch: u8,
 }
 
-pub fn parts_of(children: [u8; 4], first: u8) -> [Part; 4]
-    requires { ⌜ first < 192 ⌝ }
+pub fn parts_of(children: [u8; MOST_PARTS], first: u8) -> [Part; MOST_PARTS]
+    requires { ⌜ first < scratchCells ⌝ }
     ensures { λ r. ⌜ r ≡ partsFrom children first ⌝ }
 {
     [

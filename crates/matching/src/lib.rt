@@ -11,9 +11,10 @@ use emission::parts_of;
 use emission::scratch;
 use emission::take;
 use emission::wrong_kind;
-use numbers::Object;
-use numbers::Raw;
+use numbers::limits::MOST_PARTS;
+use patterns::forms as form;
 ghost use mathlib.Core.Path.{_≡_};
+ghost use Rattle.patterns.specs.Forms.{encryptionForm, signatureForm, tupleForm, letForm};
 ghost use Rattle.patterns.specs.Row.{fieldsOf};
 ghost use Rattle.emission.specs.Budget.{Row, RowAt, Leaf};
 ghost use Rattle.emission.specs.Parts.{PartsAt};
@@ -22,16 +23,23 @@ ghost use Rattle.matching.specs.Matches.{Matches, MatchesParts};
 // s : S(key, r)
 fn match_signature(rows: &Rows, code: &mut Code, emission: &mut Emission, row: u8, word: u64)
     requires { ⌜ RowAt (now rows) row word (now emission) ⌝ }
-    requires { ⌜ fieldsOf word .tag ≡ 6 ⌝ }
+    requires { ⌜ fieldsOf word .tag ≡ signatureForm ⌝ }
     ensures { λ _. ⌜ Matches (now (rows .entry)) row (now (emission .entry)) (now (code .entry)) (now (emission .exit)) (now (code .exit)) ⌝ }
 {
-    instructions::decode(code, emission, row, Object(patterns::variable(word)));
-    let key = patterns::x(word);
+    instructions::decode(code, emission, row, patterns::variable(word));
+    let key = patterns::key(word);
     let r = patterns::raw(word);
-    let form = patterns::key_form(word);
-    match form {
-        0 => instructions::verify(code, emission, row, Object(key), Raw(r)),
-        1 => forms::verify_opposite(code, emission, row, key, patterns::y(word), r),
+    let by = patterns::key_form(word);
+    match by {
+        form::PLAIN_KEY => instructions::verify(code, emission, row, key, r),
+        form::OPPOSITE_KEY => forms::verify_opposite(
+            code,
+            emission,
+            row,
+            key,
+            patterns::y(word),
+            r,
+        ),
         _ => forms::verify_certified(code, emission, row, key, patterns::y(word), r),
     }
 }
@@ -45,12 +53,12 @@ fn match_leaf(rows: &Rows, code: &mut Code, emission: &mut Emission, row: u8, wo
     let tag = patterns::tag(word);
     let v = patterns::variable(word);
     match tag {
-        0 => forms::match_object(code, emission, row, v),
-        1 => forms::match_raw(code, emission, row, patterns::raw(word)),
-        2 => forms::match_constant(code, emission, row, v, patterns::x(word)),
-        3 => forms::match_opposite(code, emission, row, v, patterns::y(word)),
-        4 => forms::match_key_of(code, emission, row, v, patterns::y(word)),
-        6 => match_signature(rows, code, emission, row, word),
+        form::OBJECT_VARIABLE => forms::match_object(code, emission, row, v),
+        form::RAW_VARIABLE => forms::match_raw(code, emission, row, patterns::raw(word)),
+        form::CONSTANT => forms::match_constant(code, emission, row, v, patterns::byte(word)),
+        form::OPPOSITE => forms::match_opposite(code, emission, row, v, patterns::y(word)),
+        form::KEY_OF => forms::match_key_of(code, emission, row, v, patterns::y(word)),
+        form::SIGNATURE => match_signature(rows, code, emission, row, word),
         _ => forms::match_hash(code, emission, row, v, patterns::raw(word)),
     }
 }
@@ -63,9 +71,9 @@ pub fn match_row(rows: &Rows, code: &mut Code, emission: &mut Emission, row: u8)
     let word = rows[row as usize];
     let tag = patterns::tag(word);
     match tag {
-        5 => match_encryption(rows, code, emission, row, word),
-        8 => match_tuple(rows, code, emission, row, word),
-        9 => match_let(rows, code, emission, row, word),
+        form::ENCRYPTION => match_encryption(rows, code, emission, row, word),
+        form::TUPLE => match_tuple(rows, code, emission, row, word),
+        form::LET => match_let(rows, code, emission, row, word),
         _ => match_leaf(rows, code, emission, row, word),
     }
 }
@@ -73,12 +81,12 @@ pub fn match_row(rows: &Rows, code: &mut Code, emission: &mut Emission, row: u8)
 // e : E(key, p)
 fn match_encryption(rows: &Rows, code: &mut Code, emission: &mut Emission, row: u8, word: u64)
     requires { ⌜ RowAt (now rows) row word (now emission) ⌝ }
-    requires { ⌜ fieldsOf word .tag ≡ 5 ⌝ }
+    requires { ⌜ fieldsOf word .tag ≡ encryptionForm ⌝ }
     ensures { λ _. ⌜ Matches (now (rows .entry)) row (now (emission .entry)) (now (code .entry)) (now (emission .exit)) (now (code .exit)) ⌝ }
 {
-    if patterns::key_form(word) == 0 {
-        instructions::decode(code, emission, row, Object(patterns::variable(word)));
-        instructions::decrypt(code, emission, row, Object(patterns::x(word)));
+    if patterns::key_form(word) == form::PLAIN_KEY {
+        instructions::decode(code, emission, row, patterns::variable(word));
+        instructions::decrypt(code, emission, row, patterns::key(word));
         let children = patterns::slots(word);
         match_row(rows, code, emission, children[0]);
     } else {
@@ -89,14 +97,14 @@ fn match_encryption(rows: &Rows, code: &mut Code, emission: &mut Emission, row: 
 // t : [p1 .. pn]
 fn match_tuple(rows: &Rows, code: &mut Code, emission: &mut Emission, row: u8, word: u64)
     requires { ⌜ RowAt (now rows) row word (now emission) ⌝ }
-    requires { ⌜ fieldsOf word .tag ≡ 8 ⌝ }
+    requires { ⌜ fieldsOf word .tag ≡ tupleForm ⌝ }
     ensures { λ _. ⌜ Matches (now (rows .entry)) row (now (emission .entry)) (now (code .entry)) (now (emission .exit)) (now (code .exit)) ⌝ }
 {
     let t = patterns::variable(word);
     let n = patterns::count(word);
-    instructions::decode(code, emission, row, Object(t));
+    instructions::decode(code, emission, row, t);
     let first = take(emission, n);
-    instructions::analyze_tuple(code, emission, row, Object(t), scratch(first), n);
+    instructions::analyze_tuple(code, emission, row, t, scratch(first), n);
     match_parts(
         rows,
         code,
@@ -113,7 +121,7 @@ fn match_parts(
     code: &mut Code,
     emission: &mut Emission,
     row: u8,
-    parts: [Part; 4],
+    parts: [Part; MOST_PARTS],
     n: u8,
 )
     requires { ⌜ PartsAt (now rows) row parts n (now emission) ⌝ }
@@ -131,13 +139,13 @@ fn match_parts(
 // let r = p1 in p2: p2 first, which must set r, and then p1 on what r holds.
 fn match_let(rows: &Rows, code: &mut Code, emission: &mut Emission, row: u8, word: u64)
     requires { ⌜ RowAt (now rows) row word (now emission) ⌝ }
-    requires { ⌜ fieldsOf word .tag ≡ 9 ⌝ }
+    requires { ⌜ fieldsOf word .tag ≡ letForm ⌝ }
     ensures { λ _. ⌜ Matches (now (rows .entry)) row (now (emission .entry)) (now (code .entry)) (now (emission .exit)) (now (code .exit)) ⌝ }
 {
     let r = patterns::raw(word);
     let children = patterns::slots(word);
     free_raw(emission, row, r);
     match_row(rows, code, emission, children[1]);
-    instructions::load(code, emission, row, Raw(r));
+    instructions::load(code, emission, row, r);
     match_row(rows, code, emission, children[0]);
 }

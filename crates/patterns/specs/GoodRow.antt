@@ -4,7 +4,9 @@ use mathlib.Core.Path.{_≡_}
 use mathlib.Core.Logic.{_⊎_}
 use mathlib.Core.List.{List, [], _∷_}
 use lib.ListN.{length, getD, drop}
+use Rattle.numbers.specs.Limits.{mostParts}
 use Rattle.word.specs.All.{All}
+use Rattle.patterns.specs.Forms.{objectForm, rawForm, constantForm, oppositeForm, keyOfForm, encryptionForm, signatureForm, hashForm, tupleForm, letForm, formCount, plainForm, certifiedForm}
 use Rattle.patterns.specs.Row.{Fields, fieldsOf, children, childrenOf}
 
 -- fields that a form does not use
@@ -13,22 +15,22 @@ Zero fields = All (λ field. field ≡ 0) fields
 
 -- F=0 variable X; F=1 X : op(Y); F=2 X : keyOf(Y); F=3 is bad. X above 63 is bad in a key
 pub record GoodKey (row : Fields) : Type 0 where
-  pub form : row .f ≤ 2
+  pub form : row .f ≤ certifiedForm
   pub variable : row .x ≤ 63
-  pub alone : row .f ≡ 0 → row .y ≡ 0
+  pub alone : row .f ≡ plainForm → row .y ≡ 0
 
 pub record GoodRow (place : ℕ) (row : Fields) : Type 0 where
-  pub tag : row .tag < 10
-  pub object : row .tag ≡ 0 → Zero (row .f ∷ row .x ∷ row .y ∷ row .r ∷ row .n ∷ [])
-  pub raw : row .tag ≡ 1 → Zero (row .v ∷ row .f ∷ row .x ∷ row .y ∷ row .n ∷ [])
-  pub constant : row .tag ≡ 2 → Zero (row .f ∷ row .y ∷ row .r ∷ row .n ∷ [])
-  pub opposite : row .tag ≡ 3 → Zero (row .f ∷ row .x ∷ row .r ∷ row .n ∷ [])
-  pub keyOf : row .tag ≡ 4 → Zero (row .f ∷ row .x ∷ row .r ∷ row .n ∷ [])
-  pub encryption : row .tag ≡ 5 → GoodKey row × (row .n ≡ 1) × Zero (row .r ∷ [])
-  pub signature : row .tag ≡ 6 → GoodKey row × Zero (row .n ∷ [])
-  pub hash : row .tag ≡ 7 → Zero (row .f ∷ row .x ∷ row .y ∷ row .n ∷ [])
-  pub tuple : row .tag ≡ 8 → (row .n ≤ 4) × Zero (row .f ∷ row .x ∷ row .y ∷ row .r ∷ [])
-  pub letIn : row .tag ≡ 9 → (row .n ≡ 2) × Zero (row .v ∷ row .f ∷ row .x ∷ row .y ∷ [])
+  pub tag : row .tag < formCount
+  pub object : row .tag ≡ objectForm → Zero (row .f ∷ row .x ∷ row .y ∷ row .r ∷ row .n ∷ [])
+  pub raw : row .tag ≡ rawForm → Zero (row .v ∷ row .f ∷ row .x ∷ row .y ∷ row .n ∷ [])
+  pub constant : row .tag ≡ constantForm → Zero (row .f ∷ row .y ∷ row .r ∷ row .n ∷ [])
+  pub opposite : row .tag ≡ oppositeForm → Zero (row .f ∷ row .x ∷ row .r ∷ row .n ∷ [])
+  pub keyOf : row .tag ≡ keyOfForm → Zero (row .f ∷ row .x ∷ row .r ∷ row .n ∷ [])
+  pub encryption : row .tag ≡ encryptionForm → GoodKey row × (row .n ≡ 1) × Zero (row .r ∷ [])
+  pub signature : row .tag ≡ signatureForm → GoodKey row × Zero (row .n ∷ [])
+  pub hash : row .tag ≡ hashForm → Zero (row .f ∷ row .x ∷ row .y ∷ row .n ∷ [])
+  pub tuple : row .tag ≡ tupleForm → (row .n ≤ mostParts) × Zero (row .f ∷ row .x ∷ row .y ∷ row .r ∷ [])
+  pub letIn : row .tag ≡ letForm → (row .n ≡ 2) × Zero (row .v ∷ row .f ∷ row .x ∷ row .y ∷ [])
   -- slots past the children, and the last bit
   pub rest : Zero (drop (row .n) (row .slots))
   pub spare : row .spare ≡ 0

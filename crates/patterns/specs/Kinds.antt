@@ -4,21 +4,22 @@ use mathlib.Core.Bool.{Bool, true, false, not, _&&_}
 use mathlib.Core.Option.{Option}
 use mathlib.Core.List.{List, [], _∷_}
 use lib.Dec.{eqb, leb, T}
+use Rattle.numbers.specs.Kinds.{byteKind, agentKind, publicKey, privateKey, sharedKey, encryptionKind, signatureKind, hashKind, tupleKind}
 use Rattle.word.specs.Lowest.{lowest, oneOf}
 use Rattle.patterns.specs.Pattern.{Key, plainKey, opKey, certifiedKey, Pattern, object, raw, constant, opposite, keyOf, encryption, signature, hash, tuple, letIn, Parts, end, part}
 use Rattle.patterns.specs.Tree.{patternsOf}
 
 -- what opens or signs is private or shared: the key of a matched E or a created S
 abbrev pub privateSide : (ℕ → ℕ) → Key → Bool
-privateSide kind (plainKey x) = oneOf (5 ∷ 6 ∷ []) (kind x)
+privateSide kind (plainKey x) = oneOf (privateKey ∷ sharedKey ∷ []) (kind x)
 privateSide kind (opKey k K) = false
 privateSide kind (certifiedKey k a) = false
 
 -- what seals or verifies is public or shared: the key of a created E or a matched S
 abbrev pub publicSide : (ℕ → ℕ) → Key → Bool
-publicSide kind (plainKey x) = oneOf (4 ∷ 6 ∷ []) (kind x)
-publicSide kind (opKey k K) = eqb (kind k) 4 && eqb (kind K) 5
-publicSide kind (certifiedKey k a) = eqb (kind k) 4 && eqb (kind a) 3
+publicSide kind (plainKey x) = oneOf (publicKey ∷ sharedKey ∷ []) (kind x)
+publicSide kind (opKey k K) = eqb (kind k) publicKey && eqb (kind K) privateKey
+publicSide kind (certifiedKey k a) = eqb (kind k) publicKey && eqb (kind a) agentKind
 
 -- the key of E, and of S, for creating and for matching
 abbrev pub encryptionKey : Bool → (ℕ → ℕ) → Key → Bool
@@ -31,15 +32,15 @@ signatureKey false kind key = publicSide kind key
 
 -- the kinds that the form at the root of a pattern wants; a bare object variable has 1..9
 abbrev pub formKinds : Bool → (ℕ → ℕ) → Pattern → Bool
-formKinds create kind (object row v) = leb 1 (kind v) && leb (kind v) 9
+formKinds create kind (object row v) = leb byteKind (kind v) && leb (kind v) hashKind
 formKinds create kind (raw row r) = true
-formKinds create kind (constant row c b) = eqb (kind c) 1
-formKinds create kind (opposite row k K) = eqb (kind k) 4 && eqb (kind K) 5
-formKinds create kind (keyOf row k a) = eqb (kind k) 4 && eqb (kind a) 3
-formKinds create kind (encryption row e key p) = eqb (kind e) 7 && encryptionKey create kind key
-formKinds create kind (signature row s key r) = eqb (kind s) 8 && signatureKey create kind key
-formKinds create kind (hash row h r) = eqb (kind h) 9
-formKinds create kind (tuple row t ps) = eqb (kind t) 10
+formKinds create kind (constant row c b) = eqb (kind c) byteKind
+formKinds create kind (opposite row k K) = eqb (kind k) publicKey && eqb (kind K) privateKey
+formKinds create kind (keyOf row k a) = eqb (kind k) publicKey && eqb (kind a) agentKind
+formKinds create kind (encryption row e key p) = eqb (kind e) encryptionKind && encryptionKey create kind key
+formKinds create kind (signature row s key r) = eqb (kind s) signatureKind && signatureKey create kind key
+formKinds create kind (hash row h r) = eqb (kind h) hashKind
+formKinds create kind (tuple row t ps) = eqb (kind t) tupleKind
 formKinds create kind (letIn row r p q) = true
 
 -- 5: the lowest row with a wrong kind

@@ -1,5 +1,6 @@
 -- Figure 1: patterns, from rows to the tree.
 pub mod Pattern
+pub mod Forms
 pub mod Row
 pub mod Rules
 pub mod GoodRow

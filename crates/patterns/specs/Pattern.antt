@@ -1,5 +1,6 @@
 -- Figure 1. The first number of each form is its row.
 use Prim.Native.Nat.{ℕ, zero, suc, _+_, _<_, _≤_}
+use Rattle.numbers.specs.Limits.{mostParts}
 
 -- the key of E and S: a variable, k : op(K) or k : keyOf(a)
 pub data Key : Type 0 where
@@ -86,7 +87,7 @@ unfoldable mutual
   Packed (encryption row e key p) = Packed p
   Packed (signature row s key r) = Unit {0}
   Packed (hash row h r) = Unit {0}
-  Packed (tuple row t ps) = (count ps ≤ 4) × PackedParts ps
+  Packed (tuple row t ps) = (count ps ≤ mostParts) × PackedParts ps
   Packed (letIn row r p₁ p₂) = Packed p₁ × Packed p₂
 
   pub PackedParts : Parts → Type 0

@@ -4,6 +4,7 @@ use mathlib.Core.Bool.{Bool, true, _&&_}
 use mathlib.Core.List.{[], _∷_}
 use lib.ListN.{getD}
 use lib.Dec.{eqb, leb}
+use Rattle.numbers.specs.Kinds.{byteKind, agentKind, publicKey, privateKey, encryptionKind, signatureKind, hashKind, tupleKind}
 use Rattle.patterns.specs.Row.{Fields}
 use Rattle.patterns.specs.Tree.{keyBy}
 use Rattle.patterns.specs.Kinds.{encryptionKey, signatureKey}
@@ -12,18 +13,18 @@ use Rattle.patterns.specs.Kinds.{encryptionKey, signatureKey}
 unfoldable pub kindsBy : Bool → (ℕ → ℕ) → Fields → ℕ → Bool
 kindsBy create kind row tag =
     getD
-    ((leb 1 (kind (row .v)) && leb (kind (row .v)) 9)
+    ((leb byteKind (kind (row .v)) && leb (kind (row .v)) hashKind)
     ∷ true
-    ∷ eqb (kind (row .v)) 1
-    ∷ (eqb (kind (row .v)) 4 && eqb (kind (row .y)) 5)
-    ∷ (eqb (kind (row .v)) 4 && eqb (kind (row .y)) 3)
-    ∷ (eqb (kind (row .v)) 7 && encryptionKey create kind (keyBy row))
-    ∷ (eqb (kind (row .v)) 8 && signatureKey create kind (keyBy row))
-    ∷ eqb (kind (row .v)) 9
-    ∷ eqb (kind (row .v)) 10
+    ∷ eqb (kind (row .v)) byteKind
+    ∷ (eqb (kind (row .v)) publicKey && eqb (kind (row .y)) privateKey)
+    ∷ (eqb (kind (row .v)) publicKey && eqb (kind (row .y)) agentKind)
+    ∷ (eqb (kind (row .v)) encryptionKind && encryptionKey create kind (keyBy row))
+    ∷ (eqb (kind (row .v)) signatureKind && signatureKey create kind (keyBy row))
+    ∷ eqb (kind (row .v)) hashKind
+    ∷ eqb (kind (row .v)) tupleKind
     ∷ true
     ∷ [])
-    tag (leb 1 (kind (row .v)) && leb (kind (row .v)) 9)
+    tag (leb byteKind (kind (row .v)) && leb (kind (row .v)) hashKind)
 
 abbrev pub rowKinds : Bool → (ℕ → ℕ) → Fields → Bool
 rowKinds create kind row = kindsBy create kind row (row .tag)

@@ -5,7 +5,9 @@ use mathlib.Core.Option.{Option, none, some}
 use mathlib.Core.List.{List, [], _∷_, flatMap}
 use lib.ListN.{length, getD, take, drop}
 use lib.Dec.{eqb, leb, ltb}
+use Rattle.numbers.specs.Limits.{mostParts}
 use Rattle.word.specs.Lowest.{lowest, each, oneOf}
+use Rattle.patterns.specs.Forms.{opForm, certifiedForm, formCount}
 use Rattle.patterns.specs.Row.{Fields, fieldsOf, children, childrenOf}
 
 -- the fields that a form uses, and how many children it has
@@ -30,10 +32,10 @@ forms f =
     ∷ form true false true false false 0 0
     ∷ form true false false true false 0 0
     ∷ form true false false true false 0 0
-    ∷ form true true true (leb 1 f) false 1 1
-    ∷ form true true true (leb 1 f) true 0 0
+    ∷ form true true true (leb opForm f) false 1 1
+    ∷ form true true true (leb opForm f) true 0 0
     ∷ form true false false false true 0 0
-    ∷ form true false false false false 0 4
+    ∷ form true false false false false 0 mostParts
     ∷ form false false false false true 2 2
     ∷ []
 
@@ -52,7 +54,7 @@ countFits form row = leb (form .least) (row .n) && leb (row .n) (form .most)
 
 -- F=3 is bad; X above 63 is bad in a key
 abbrev pub keyFits : Form → Fields → Bool
-keyFits form row = not (form .usesF) || (leb (row .f) 2 && leb (row .x) 63)
+keyFits form row = not (form .usesF) || (leb (row .f) certifiedForm && leb (row .x) 63)
 
 -- a child has a smaller number than its owner
 abbrev pub childrenBelow : ℕ → Fields → Bool
@@ -62,7 +64,7 @@ abbrev pub formFits : ℕ → Fields → Form → Bool
 formFits place row form = unusedZero form row && countFits form row && keyFits form row && childrenBelow place row
 
 abbrev pub rowFits : ℕ → Fields → Bool
-rowFits place row = ltb (row .tag) 10 && formFits place row (getD (forms (row .f)) (row .tag) (form false false false false false 0 0))
+rowFits place row = ltb (row .tag) formCount && formFits place row (getD (forms (row .f)) (row .tag) (form false false false false false 0 0))
 
 -- a child is named that is already taken, by a row before or by a slot before
 unfoldable pub repeats : List ℕ → List ℕ → Bool

@@ -1,6 +1,8 @@
 // The fields of a pattern row.
 ghost use mathlib.Core.Path.{_≡_};
 ghost use Rattle.patterns.specs.Row.{fieldsOf};
+use numbers::Object;
+use numbers::Raw;
 
 pub fn tag(word: u64) -> u8
     ensures { λ r. ⌜ r ≡ fieldsOf word .tag ⌝ }
@@ -9,10 +11,10 @@ pub fn tag(word: u64) -> u8
 }
 
 // V, the variable before the colon.
-pub fn variable(word: u64) -> u8
-    ensures { λ r. ⌜ r ≡ fieldsOf word .v ⌝ }
+pub fn variable(word: u64) -> Object
+    ensures { λ r. ⌜ r .0 ≡ fieldsOf word .v ⌝ }
 {
-    ((word >> 54) % 64) as u8
+    Object(((word >> 54) % 64) as u8)
 }
 
 // F, the form of a key.
@@ -22,23 +24,32 @@ pub fn key_form(word: u64) -> u8
     ((word >> 52) % 4) as u8
 }
 
-pub fn x(word: u64) -> u8
+// X, the byte of a constant.
+pub fn byte(word: u64) -> u8
     ensures { λ r. ⌜ r ≡ fieldsOf word .x ⌝ }
 {
     ((word >> 44) % 256) as u8
 }
 
-pub fn y(word: u64) -> u8
-    ensures { λ r. ⌜ r ≡ fieldsOf word .y ⌝ }
+// X, the variable of a key.
+pub fn key(word: u64) -> Object
+    ensures { λ r. ⌜ r .0 ≡ fieldsOf word .x ⌝ }
 {
-    ((word >> 38) % 64) as u8
+    Object(byte(word))
+}
+
+// Y, what a key is the opposite or the agent's key of.
+pub fn y(word: u64) -> Object
+    ensures { λ r. ⌜ r .0 ≡ fieldsOf word .y ⌝ }
+{
+    Object(((word >> 38) % 64) as u8)
 }
 
 // R, the raw variable.
-pub fn raw(word: u64) -> u8
-    ensures { λ r. ⌜ r ≡ fieldsOf word .r ⌝ }
+pub fn raw(word: u64) -> Raw
+    ensures { λ r. ⌜ r .0 ≡ fieldsOf word .r ⌝ }
 {
-    ((word >> 32) % 64) as u8
+    Raw(((word >> 32) % 64) as u8)
 }
 
 // n, the number of children.

@@ -4,11 +4,14 @@ ghost use mathlib.Core.Bool.{true, false, not};
 ghost use Prim.Native.Nat.{_-_, _≤_};
 ghost use lib.ListN.{length, getD, take, drop};
 ghost use lib.Dec.{eqb, ltb};
+ghost use Rattle.numbers.specs.Limits.{mostPatternRows};
 ghost use Rattle.word.specs.Lowest.{lowest, each, placeOf};
 ghost use Rattle.patterns.specs.Row.{fieldsOf, childrenOf};
 ghost use Rattle.patterns.specs.Rules.{form, formFits, rowFits, badPattern};
 ghost use Rattle.patterns.specs.Marks.{taking, takeAll};
+use crate::forms;
 use crate::row;
+use numbers::limits::MOST_PARTS;
 use word::Place;
 
 // Slots past the children are zero.
@@ -37,15 +40,15 @@ fn form_fits(place: usize, word: u64, uses: [bool; 5], least: u8, most: u8) -> b
 {
     let n = row::count(word);
     let children = row::slots(word);
-    let unused = (uses[0] | (row::variable(word) == 0))
+    let unused = (uses[0] | (row::variable(word).0 == 0))
         & (uses[1] | (row::key_form(word) == 0))
-        & (uses[2] | (row::x(word) == 0))
-        & (uses[3] | (row::y(word) == 0))
-        & (uses[4] | (row::raw(word) == 0))
+        & (uses[2] | (row::byte(word) == 0))
+        & (uses[3] | (row::y(word).0 == 0))
+        & (uses[4] | (row::raw(word).0 == 0))
         & rest_zero(n, children)
         & (row::spare(word) == 0);
     let counted = (least <= n) & (n <= most);
-    let key = !uses[1] | ((row::key_form(word) <= 2) & (row::x(word) <= 63));
+    let key = !uses[1] | ((row::key_form(word) <= forms::CERTIFIED_KEY) & (row::key(word).0 <= 63));
     unused & counted & key & all_below(place, n, children)
 }
 
@@ -54,19 +57,19 @@ pub fn row_fits(place: usize, word: u64) -> bool
     ensures { λ r. ⌜ r ≡ rowFits place (fieldsOf word) ⌝ }
 {
     // In a key Y is used where F is 1 or 2.
-    let uses_y = 1 <= row::key_form(word);
+    let uses_y = forms::OPPOSITE_KEY <= row::key_form(word);
     let form = row::tag(word);
     match form {
-        0 => form_fits(place, word, [true, false, false, false, false], 0, 0),
-        1 => form_fits(place, word, [false, false, false, false, true], 0, 0),
-        2 => form_fits(place, word, [true, false, true, false, false], 0, 0),
-        3 => form_fits(place, word, [true, false, false, true, false], 0, 0),
-        4 => form_fits(place, word, [true, false, false, true, false], 0, 0),
-        5 => form_fits(place, word, [true, true, true, uses_y, false], 1, 1),
-        6 => form_fits(place, word, [true, true, true, uses_y, true], 0, 0),
-        7 => form_fits(place, word, [true, false, false, false, true], 0, 0),
-        8 => form_fits(place, word, [true, false, false, false, false], 0, 4),
-        9 => form_fits(place, word, [false, false, false, false, true], 2, 2),
+        forms::OBJECT_VARIABLE => form_fits(place, word, [true, false, false, false, false], 0, 0),
+        forms::RAW_VARIABLE => form_fits(place, word, [false, false, false, false, true], 0, 0),
+        forms::CONSTANT => form_fits(place, word, [true, false, true, false, false], 0, 0),
+        forms::OPPOSITE => form_fits(place, word, [true, false, false, true, false], 0, 0),
+        forms::KEY_OF => form_fits(place, word, [true, false, false, true, false], 0, 0),
+        forms::ENCRYPTION => form_fits(place, word, [true, true, true, uses_y, false], 1, 1),
+        forms::SIGNATURE => form_fits(place, word, [true, true, true, uses_y, true], 0, 0),
+        forms::HASH => form_fits(place, word, [true, false, false, false, true], 0, 0),
+        forms::TUPLE => form_fits(place, word, [true, false, false, false, false], 0, 4),
+        forms::LET => form_fits(place, word, [false, false, false, false, true], 2, 2),
         _ => false,
     }
 }
@@ -76,7 +79,7 @@ fn child_count(word: u64) -> usize
     ensures { λ r. ⌜ r ≡ length (childrenOf word) ⌝ }
 {
     let n = row::count(word) as usize;
-    if n < 4 { n } else { 4 }
+    if n < MOST_PARTS { n } else { MOST_PARTS }
 }
 
 // Marks the children of a row; whether one was marked already.
@@ -99,7 +102,7 @@ fn take_children(marks: &mut [bool], word: u64) -> bool
 
 // The lowest row but the root, the last, that is nobody's child.
 fn first_unnamed(marks: [bool; 128], count: usize) -> Place
-    requires { ⌜ count ≤ 96 ⌝ }
+    requires { ⌜ count ≤ mostPatternRows ⌝ }
     ensures { λ r. ⌜ r ≡ placeOf (lowest (λ place mark. not mark) (take (count - 1) marks)) ⌝ }
 {
     let mut place = 0;
@@ -114,7 +117,7 @@ fn first_unnamed(marks: [bool; 128], count: usize) -> Place
 
 // 4: the lowest row bad in itself or naming a child already taken, else the lowest row nobody names.
 pub fn first_bad_pattern(rows: &[u64]) -> Place
-    requires { ⌜ length (now rows) ≤ 96 ⌝ }
+    requires { ⌜ length (now rows) ≤ mostPatternRows ⌝ }
     ensures { λ r. ⌜ r ≡ placeOf (badPattern (now (rows .entry))) ⌝ }
 {
     let mut marks = [false; 128];

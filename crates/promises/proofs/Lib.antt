@@ -1,6 +1,9 @@
 -- Each claim, proved.
+pub mod WordLaws
+pub mod RowLaws
 pub mod StepLaws
 pub mod RunLaws
+pub mod ReasonLaws
 pub mod WalkLaws
 pub mod ConditionLaws
 pub mod ReadingLaws
@@ -14,6 +17,8 @@ pub mod TableLaws
 pub mod Demand3
 pub mod Demand2
 pub mod NumberLaws
+pub mod ReasonTable
+pub mod VocabularyLaws
 pub mod Demand1
 pub mod RoundLaws
 pub mod ListingLaws

@@ -1,12 +1,15 @@
 -- Each number exactly where its condition holds and no earlier one does.
-use Prim.Native.Nat.{ℕ}
-use mathlib.Core.Path.{_≡_, sym, _∙_, ap, subst}
-use mathlib.Core.Logic.{_↔_}
+use Prim.Native.Nat.{ℕ, _≤_}
+use mathlib.Core.Path.{_≡_, refl, sym, _∙_, ap, subst}
+use mathlib.Core.Logic.{_↔_, _≢_, _⊎_, inl, inr}
 use mathlib.Core.Bool.{Bool}
 use mathlib.Core.List.{List}
+use native.Mathlib.Omega.{arith}
 use lib.Dec.{T}
 use Rattle.word.proofs.TestLaws.{stable}
-use Rattle.answers.specs.Numbers.{compiledNumber, compiledPlace, reasonOf, ranNumber, ranPlace, ranReason}
+use Rattle.answers.specs.Numbers.{compiledNumber, compiledPlace, reasonNumber, reasonOf, ranNumber, ranPlace, ranReason}
+use Rattle.answers.specs.declared.Reason.{Reason}
+use Rattle.answers.specs.declared.Reason.the-variants as Reasons
 use Rattle.answers.specs.declared.Compiled.{Compiled}
 use Rattle.answers.specs.declared.Compiled.the-variants as Compiled
 use Rattle.answers.specs.declared.Ran.{Ran}
@@ -33,6 +36,53 @@ use Rattle.promises.proofs.WalkLaws.{after-all, at-stuck, at-room}
 use Rattle.promises.proofs.ConditionLaws.{bad-variable}
 use Rattle.promises.proofs.CompileLaws.{CompileGives, compiledOf, compile-answered, gives-compile, compile-unchanged}
 use Rattle.promises.proofs.TableLaws.{done-after, stuck-there, room-there}
+
+-- the numbers that come back
+compiled-range : (answer : Compiled) → (compiledNumber answer ≤ 8) × (compiledNumber answer ≢ 2)
+compiled-range (Compiled.Done words) = omega arith
+compiled-range Compiled.Limit = omega arith
+compiled-range Compiled.BadStore = omega arith
+compiled-range (Compiled.BadPattern row) = omega arith
+compiled-range (Compiled.WrongKind row) = omega arith
+compiled-range (Compiled.WrittenWhileSet row) = omega arith
+compiled-range (Compiled.ReadWhileUnset row) = omega arith
+compiled-range (Compiled.CodeTooShort words) = omega arith
+
+ran-range : (answer : Ran) → (ranNumber answer ≤ 3) ⊎ ((9 ≤ ranNumber answer) × (ranNumber answer ≤ 11))
+ran-range (Ran.Done words) = inl (omega arith)
+ran-range Ran.Limit = inl (omega arith)
+ran-range (Ran.BadTerm row) = inl (omega arith)
+ran-range Ran.BadStore = inl (omega arith)
+ran-range (Ran.BadWord word) = inr (omega arith)
+ran-range (Ran.Stuck word reason) = inr (omega arith)
+ran-range (Ran.NoRoom word) = inr (omega arith)
+
+reason-range : (reason : Reason) → (1 ≤ reasonNumber reason) × (reasonNumber reason ≤ 7)
+reason-range Reasons.Unset = omega arith
+reason-range Reasons.OtherKind = omega arith
+reason-range Reasons.Differs = omega arith
+reason-range Reasons.PartCount = omega arith
+reason-range Reasons.NoCertificate = omega arith
+reason-range Reasons.NotOpened = omega arith
+reason-range Reasons.NotVerified = omega arith
+
+ran-reason : (answer : Ran) → ranNumber answer ≡ 10 → (1 ≤ ranReason answer) × (ranReason answer ≤ 7)
+ran-reason (Ran.Done words) e = absurd (omega arith)
+ran-reason Ran.Limit e = absurd (omega arith)
+ran-reason (Ran.BadTerm row) e = absurd (omega arith)
+ran-reason Ran.BadStore e = absurd (omega arith)
+ran-reason (Ran.BadWord word) e = absurd (omega arith)
+ran-reason (Ran.Stuck word reason) e = reason-range reason
+ran-reason (Ran.NoRoom word) e = absurd (omega arith)
+
+ran-no-reason : (answer : Ran) → ranNumber answer ≢ 10 → ranReason answer ≡ 0
+ran-no-reason (Ran.Done words) d = refl
+ran-no-reason Ran.Limit d = refl
+ran-no-reason (Ran.BadTerm row) d = refl
+ran-no-reason Ran.BadStore d = refl
+ran-no-reason (Ran.BadWord word) d = refl
+ran-no-reason (Ran.Stuck word reason) d = absurd (d refl)
+ran-no-reason (Ran.NoRoom word) d = refl
 
 module _ (create : Bool) (pattern kinds objects named slice : List ℕ) where
   abbrev outcome : CompileOutcome
@@ -103,6 +153,7 @@ module _ (create : Bool) (pattern kinds objects named slice : List ℕ) where
           λ h. says (Compiled.Done words) (gives (Compiled.Done words) (checked .1 (h .0), h .1, h .2)),
         );
         left = compile-unchanged create pattern kinds objects named slice;
+        range = compiled-range (compile create pattern kinds objects named slice .answer);
       }
 
 module _ (x : Lent) (code : List ℕ) where
@@ -161,4 +212,7 @@ module _ (x : Lent) (code : List ℕ) where
           λ h. comes (Ran.Done words) (gives (Ran.Done words) (passed .1 (h .0), h .1, (h .2 .0, after-all x code (subst (λ n. After x code n (h .2 .0)) (h .1) (h .2 .1))))),
         );
         left = run-unchanged x code;
+        range = ran-range (run x code .answer);
+        reason = ran-reason (run x code .answer);
+        no-reason = ran-no-reason (run x code .answer);
       }

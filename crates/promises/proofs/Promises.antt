@@ -1,6 +1,10 @@
 -- All promises, each by the page that proves it.
 use Rattle.calls.proofs.Cases.{worked}
 use Rattle.promises.specs.Promises.{Promises}
+use Rattle.promises.proofs.WordLaws.{words}
+use Rattle.promises.proofs.RowLaws.{rows}
+use Rattle.promises.proofs.ReasonTable.{reason-table}
+use Rattle.promises.proofs.VocabularyLaws.{vocabulary}
 use Rattle.promises.proofs.Demand1.{demand-1}
 use Rattle.promises.proofs.Demand2.{demand-2}
 use Rattle.promises.proofs.Demand3.{demand-3}
@@ -11,6 +15,10 @@ use Rattle.promises.proofs.Printed.{printed}
 pub promises : Promises
 promises = record {
   demand-1 = demand-1;
+  words = words;
+  rows = rows;
+  reasons = reason-table;
+  vocabulary = vocabulary;
   demand-2 = demand-2;
   demand-3 = demand-3;
   example = example;

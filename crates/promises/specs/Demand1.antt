@@ -1,10 +1,11 @@
 -- Demand 1: document 01's table of numbers, exactly. A number is given where its condition holds and no earlier one does, at its place; with any answer but 0 all that was lent is as on entry.
 use Prim.Native.Nat.{ℕ, _<_, _≤_}
 use mathlib.Core.Path.{_≡_}
-use mathlib.Core.Logic.{_↔_, _≢_}
+use mathlib.Core.Logic.{_↔_, _≢_, _⊎_}
 use mathlib.Core.Bool.{Bool}
 use mathlib.Core.List.{List}
 use lib.ListN.{length}
+use Rattle.answers.specs.Numbers.{ranReason}
 use Rattle.answers.specs.declared.Compiled.{Compiled}
 use Rattle.answers.specs.declared.Compiled.the-variants.{WrittenWhileSet, ReadWhileUnset}
 use Rattle.terms.specs.Table.{ValidTable}
@@ -46,6 +47,8 @@ module _ (create : Bool) (pattern kinds objects named slice : List ℕ) where
     pub too-short : (words : ℕ) → CompileAnswers compiled 8 words ↔ (Checked × needs words × (length slice < words))
     pub done : (words : ℕ) → CompileAnswers compiled 0 words ↔ (Checked × needs words × (words ≤ length slice))
     pub left : compileNumber compiled ≢ 0 → compiled .code ≡ slice
+    -- 0, 1 or 3 to 8
+    pub range : (compileNumber compiled ≤ 8) × (compileNumber compiled ≢ 2)
 
 -- Run looks in the order 1, 2, 3, 9, then steps.
 module _ (x : Lent) (code : List ℕ) where
@@ -58,6 +61,10 @@ module _ (x : Lent) (code : List ℕ) where
     pub no-room : (word : ℕ) → RunAnswers (run x code) 11 word 0 ↔ (RunChecked x code × At x code word (room word))
     pub done : (words : ℕ) → RunAnswers (run x code) 0 words 0 ↔ (RunChecked x code × (words ≡ length code) × ((t : State rowWorld) × After x code words t))
     pub left : runNumber (run x code) ≢ 0 → run x code ≡ unchanged (run x code .answer) x
+    -- 0 to 3 or 9 to 11; a reason of 1 to 7 where it is stuck, else 0
+    pub range : (runNumber (run x code) ≤ 3) ⊎ ((9 ≤ runNumber (run x code)) × (runNumber (run x code) ≤ 11))
+    pub reason : runNumber (run x code) ≡ 10 → (1 ≤ ranReason (run x code .answer)) × (ranReason (run x code .answer) ≤ 7)
+    pub no-reason : runNumber (run x code) ≢ 10 → ranReason (run x code .answer) ≡ 0
 
 -- Outcomes that a call's promise allows for one input coincide.
 pub record Demand1 : Type 0 where

@@ -1,8 +1,4 @@
 -- Laws of a run.
-pub mod ClearLaws
-pub mod CellLaws
-pub mod WordLaws
-pub mod GoingLaws
-pub mod LookLaws
-pub mod AttemptLaws
+pub mod ReadyLaws
+pub mod EndLaws
 pub mod Coincide

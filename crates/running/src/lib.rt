@@ -1,50 +1,56 @@
 // Run: its checks in their order, then a step for each word on copies of the cells.
 ghost use mathlib.Core.Path.{_≡_};
 ghost use Rattle.calls.specs.Run.{run};
-ghost use Rattle.running.specs.Steps.{cellsOf};
+ghost use Rattle.looking.specs.Found.{usedWith};
 use answers::Ran;
 use cells::copy;
 use cells::message_cells;
 use cells::object_cells;
-use looking::look;
+use looking::Finding;
 use machine::Registers;
 use numbers::TermRow;
-use words::steps;
+use numbers::limits::MESSAGE_CELLS;
+use numbers::limits::VARIABLES;
 
 mod cells;
-mod looking;
-mod words;
 
-// What is found before the steps: the answer of a refusal, or the number of used rows.
-pub enum Finding {
-    Refused(Ran),
-    Accepted(u16),
-}
-
+// The answer, with the used rows, accumulator and name counter afterwards; used rows are 0 with answer 1.
 pub struct Ended {
     pub answer: Ran,
+    pub used: u16,
     pub accumulator: u32,
     pub counter: u32,
 }
 
-// Run over cells that may be lost where it is not done.
-pub fn attempt(
+// What a run leaves, with its cells.
+pub struct Outcome {
+    pub answer: Ran,
+    pub objects: [u16; VARIABLES],
+    pub messages: [u16; MESSAGE_CELLS],
+    pub used: u16,
+    pub accumulator: u32,
+    pub counter: u32,
+}
+
+// Run with the cells by value: those on entry come back unless it is done.
+pub fn run_cells(
     kinds: &[u8],
-    objects: &mut [u16],
-    messages: &mut [u16],
+    objects: [u16; VARIABLES],
+    messages: [u16; MESSAGE_CELLS],
     certificates: &[u64],
     accumulator: u32,
     terms: &mut [u64],
     counter: u32,
     code: &[u32],
-) -> Ended
-    ensures { λ r. ⌜ record { answer = r .answer; objects = cellsOf (r .answer) (now (objects .entry)) (now (objects .exit)); messages = cellsOf (r .answer) (now (messages .entry)) (now (messages .exit)); accumulator = r .accumulator; terms = now (terms .exit); counter = r .counter }
-        ≡ run (record { kinds = now (kinds .entry); objects = now (objects .entry); messages = now (messages .entry); certificates = now (certificates .entry); accumulator = accumulator; terms = now (terms .entry); counter = counter }) (now (code .entry)) ⌝ }
+) -> Outcome
+    ensures { λ r. ⌜ (record { answer = r .answer; objects = r .objects; messages = r .messages; accumulator = r .accumulator; terms = now (terms .exit); counter = r .counter }
+        ≡ run (record { kinds = now (kinds .entry); objects = objects; messages = messages; certificates = now (certificates .entry); accumulator = accumulator; terms = now (terms .entry); counter = counter }) (now (code .entry)))
+        × (r .used ≡ usedWith (r .answer) (now (terms .exit))) ⌝ }
 {
-    let found = look(
+    let found = looking::look(
         kinds,
-        objects,
-        messages,
+        &objects,
+        &messages,
         certificates,
         accumulator,
         terms,
@@ -52,8 +58,11 @@ pub fn attempt(
         code,
     );
     match found {
-        Finding::Refused(answer) => Ended {
-            answer: answer,
+        Finding::Refused(refusal, counted) => Outcome {
+            answer: refusal,
+            objects: objects,
+            messages: messages,
+            used: counted,
             accumulator: accumulator,
             counter: counter,
         },
@@ -64,12 +73,35 @@ pub fn attempt(
                 used: used,
                 counter: counter,
             };
-            let left = steps(start, kinds, objects, messages, certificates, terms, code);
+            let mut new_objects = objects;
+            let mut new_messages = messages;
+            let left = execution::steps(
+                start,
+                kinds,
+                &mut new_objects,
+                &mut new_messages,
+                certificates,
+                terms,
+                code,
+            );
             let answer = left.answer;
             let registers = left.registers;
             let row = registers.accumulator;
-            Ended {
+            if answer.number() != 0 {
+                return Outcome {
+                    answer: answer,
+                    objects: objects,
+                    messages: messages,
+                    used: registers.used,
+                    accumulator: row.0 as u32,
+                    counter: registers.counter,
+                };
+            }
+            Outcome {
                 answer: answer,
+                objects: new_objects,
+                messages: new_messages,
+                used: registers.used,
                 accumulator: row.0 as u32,
                 counter: registers.counter,
             }
@@ -87,33 +119,40 @@ pub fn run(
     counter: u32,
     code: &[u32],
 ) -> Ended
-    ensures { λ r. ⌜ record { answer = r .answer; objects = now (objects .exit); messages = now (messages .exit); accumulator = r .accumulator; terms = now (terms .exit); counter = r .counter }
-        ≡ run (record { kinds = now (kinds .entry); objects = now (objects .entry); messages = now (messages .entry); certificates = now (certificates .entry); accumulator = accumulator; terms = now (terms .entry); counter = counter }) (now (code .entry)) ⌝ }
+    ensures { λ r. ⌜ (record { answer = r .answer; objects = now (objects .exit); messages = now (messages .exit); accumulator = r .accumulator; terms = now (terms .exit); counter = r .counter }
+        ≡ run (record { kinds = now (kinds .entry); objects = now (objects .entry); messages = now (messages .entry); certificates = now (certificates .entry); accumulator = accumulator; terms = now (terms .entry); counter = counter }) (now (code .entry)))
+        × (r .used ≡ usedWith (r .answer) (now (terms .exit))) ⌝ }
 {
-    let whole = (objects.len() == 64) & (messages.len() == 256);
+    let whole = (objects.len() == VARIABLES) & (messages.len() == MESSAGE_CELLS);
     if !whole {
         return Ended {
             answer: Ran::Limit,
+            used: 0,
             accumulator: accumulator,
             counter: counter,
         };
     }
-    let mut new_objects = object_cells(objects);
-    let mut new_messages = message_cells(messages);
-    let ended = attempt(
+    let given_objects = object_cells(objects);
+    let given_messages = message_cells(messages);
+    let left = run_cells(
         kinds,
-        &mut new_objects,
-        &mut new_messages,
+        given_objects,
+        given_messages,
         certificates,
         accumulator,
         terms,
         counter,
         code,
     );
-    let answer = ended.answer;
-    if answer.number() == 0 {
-        copy(&new_objects, objects);
-        copy(&new_messages, messages);
+    let left_objects = left.objects;
+    let left_messages = left.messages;
+    copy(&left_objects, objects);
+    copy(&left_messages, messages);
+    let answer = left.answer;
+    Ended {
+        answer: answer,
+        used: left.used,
+        accumulator: left.accumulator,
+        counter: left.counter,
     }
-    ended
 }

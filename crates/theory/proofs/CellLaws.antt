@@ -1,10 +1,11 @@
 -- Message cells by their numbers: named below 64, scratch from there on.
-use Prim.Native.Nat.{ℕ, zero, suc, _+_, _<_}
-use mathlib.Core.Path.{_≡_, refl}
-use mathlib.Core.Bool.{true, false}
+use Prim.Native.Nat.{ℕ, zero, suc, _+_, _-_, _<_, _≤_}
+use mathlib.Core.Path.{_≡_, refl, _∙_, subst}
+use mathlib.Core.Bool.{Bool, true, false, cond}
 use mathlib.Core.Option.{some}
 use mathlib.Core.List.{List, _∷_}
 use native.Mathlib.Nat.{add-assoc, add-suc, add-sub-cancel-left}
+use native.Mathlib.Decide.{decLt}
 use native.Mathlib.Omega.{arith}
 use borrow.Author.Tests.{lt-ltb, le-ltb}
 use lib.Dec.{ltb}
@@ -14,6 +15,7 @@ use Rattle.theory.specs.World.{World}
 use Rattle.numbers.specs.Limits.{namedCells}
 use Rattle.theory.specs.Machine.{State, setRaw, withStores, withScratch, message, setMessage, setMessages, messages}
 use Rattle.theory.specs.Emission.{Env, readable, occupied, addRaw}
+use Rattle.theory.proofs.StoreLaws.{put-other}
 
 named-cell : (r : ℕ) → r < namedCells → ltb r namedCells ≡ true
 named-cell r below = lt-ltb r namedCells below
@@ -53,6 +55,37 @@ module _ (W : World) (s : State W) where
       → messages W place s (namedCells + suc b) n ≡ done ms → messages W place s (namedCells + b) (suc n) ≡ done (m ∷ ms)
   unfolding messages
   messages-scratch place b n m ms p q = rw (message-scratch W s b, p, ← add-suc namedCells b, q)
+
+-- writing messages leaves the memory
+module _ (W : World) where
+  pub memory-set : (s : State W) (cell : ℕ) (m : W .Msg) → setMessage W s cell m .stores .memory ≡ s .stores .memory
+  unfolding setMessage
+  memory-set s cell m = go (ltb cell namedCells)
+    where
+      go : (named : Bool) → (cond named (withStores W s (setRaw W (s .stores) cell m)) (withScratch W s (cell - namedCells) m)) .stores .memory ≡ s .stores .memory
+      go true = refl
+      go false = refl
+
+  pub memory-kept : (s : State W) (first n : ℕ) (g : ℕ → W .Msg) → setMessages W s first n g .stores .memory ≡ s .stores .memory
+  unfolding setMessages
+  memory-kept s first zero g = refl
+  memory-kept s first (suc n) g = memory-set (setMessages W s first n g) (first + n) (g n) ∙ memory-kept s first n g
+
+-- writing a message writes no named cell past the last
+module _ (W : World) (r : ℕ) (past : namedCells ≤ r) where
+  pub set-past : (s : State W) (cell : ℕ) (m : W .Msg) → setMessage W s cell m .stores .ρ r ≡ s .stores .ρ r
+  set-past s cell m = go (decLt cell namedCells)
+    where
+      go : Dec (cell < namedCells) → setMessage W s cell m .stores .ρ r ≡ s .stores .ρ r
+      go (yes named) = rw (setMessage-named W s cell m named) (put-other (s .stores .ρ) cell r (some m) λ e. omega arith)
+      go (no other) =
+          let e : namedCells + (cell - namedCells) ≡ cell = omega arith in
+          subst (λ n. setMessage W s n m .stores .ρ r ≡ s .stores .ρ r) e (rw (setMessage-scratch W s (cell - namedCells) m))
+
+  pub sets-past : (s : State W) (first n : ℕ) (g : ℕ → W .Msg) → setMessages W s first n g .stores .ρ r ≡ s .stores .ρ r
+  unfolding setMessages
+  sets-past s first zero g = refl
+  sets-past s first (suc n) g = set-past (setMessages W s first n g) (first + n) (g n) ∙ sets-past s first n g
 
 module _ (e : Env) where
   pub readable-named : (r : ℕ) → r < namedCells → readable e r ≡ e .raws r

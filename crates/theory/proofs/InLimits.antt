@@ -17,14 +17,14 @@ use Rattle.answers.specs.declared.Compiled.the-variants.{WrittenWhileSet, ReadW
 use Rattle.numbers.specs.Sorts.{asObject}
 use Rattle.code.specs.Words.{hasKind}
 use Rattle.code.specs.declared.Instruction.{Instruction}
-use Rattle.code.specs.declared.Instruction.the-variants.{Load, Store, StoreConst, Decode, Encode, Create, AnalyzeTuple, CreateTuple, Opposite, KeyOf, Match, Encrypt, Decrypt, Sign, Verify, Hash}
 use Rattle.patterns.specs.Pattern.{Key, plainKey, opKey, certifiedKey, Pattern, object, raw, constant, opposite, keyOf, encryption, signature, hash, tuple, letIn, Parts, end, part, count, size, sizes, RawsBelow, PartsBelow, Packed, PackedParts}
 use Rattle.patterns.specs.Kinds.{RightKinds, RightParts, privateSide, publicSide}
 use Rattle.patterns.proofs.PatternLaws.{size-positive, count-sizes}
 use Rattle.theory.specs.Store.{put}
 use Rattle.theory.specs.World.{creatable}
 use Rattle.theory.specs.Machine.{Line, line, named, scratch}
-use Rattle.theory.specs.Emission.{Env, Emitted, ok, refuse, after, andThen, addObject, readable, occupied, addRaw, reads, writes, one, emit, _then_}
+use Rattle.theory.specs.Emission.{Env, Emitted, ok, refuse, after, andThen, addObject, readable, occupied, addRaw, writes, one, reading, writing, emit, _then_}
+use Rattle.theory.specs.Uses.{Used, objectAt, messageAt, messagesAt, usesOf}
 use Rattle.theory.specs.Bounds.{InRange, AllInRange, InLimits}
 use Rattle.theory.specs.Compilers.{compile↓, compile↓parts, compile↑, compile↑parts, compile↑K, keyVar, creating, verifying, LOAD, STORE, DECODE, ENCODE, ANALYZE-TUPLE, OPPOSITE, KEY-OF, MATCH, VERIFY}
 
@@ -78,37 +78,30 @@ added e cell = go (ltb cell 64)
     go true = refl
     go false = refl
 
-module _ (kind : ℕ → ℕ) (row n : ℕ) (e : Env) (h : e .next ≤ n) where
-  reads-word : (b : Bool) (i : Instruction) → InRange kind i → Takes kind 1 n (reads row b (one row i e))
-  reads-word b i f = choice kind b 1 n _ _ (λ _. one-word kind row i e e n refl h f) (refused kind 1 n read)
+module _ (kind : ℕ → ℕ) (row n : ℕ) (i : Instruction) (f : InRange kind i) where
+  -- its uses refuse, or go on with as many scratch numbers
+  writes-word : (us : List Used) (e : Env) → e .next ≤ n → Takes kind 1 n (writing row us (one row i) e)
+  writes-word [] e h = one-word kind row i e e n refl h f
+  writes-word (objectAt v ∷ us) e h = choice kind (e .objects v) 1 n _ _ (λ _. refused kind 1 n written) (writes-word us (addObject e v) h)
+  writes-word (messageAt r ∷ us) e h =
+      choice kind (occupied e r) 1 n _ _ (λ _. refused kind 1 n written) (writes-word us (addRaw e r) (rw (added e r) h))
+  writes-word (messagesAt b k ∷ us) e h = writes-word us e h
 
-  writes-word : (b : Bool) (i : Instruction) (e′ : Env) → e′ .next ≡ e .next → InRange kind i → Takes kind 1 n (writes row b (one row i e′))
-  writes-word b i e′ p f = choice kind b 1 n _ _ (λ _. refused kind 1 n written) (one-word kind row i e e′ n p h f)
+  reads-word : (us vs : List Used) (e : Env) → e .next ≤ n → Takes kind 1 n (reading row us (writing row vs (one row i)) e)
+  reads-word [] vs e h = writes-word vs e h
+  reads-word (objectAt v ∷ us) vs e h = choice kind (e .objects v) 1 n _ _ (λ _. reads-word us vs e h) (refused kind 1 n read)
+  reads-word (messageAt r ∷ us) vs e h = choice kind (readable e r) 1 n _ _ (λ _. reads-word us vs e h) (refused kind 1 n read)
+  reads-word (messagesAt b k ∷ us) vs e h = reads-word us vs e h
 
-  emit-word : (i : Instruction) → InRange kind i → Takes kind 1 n (emit row i e)
+  emit-word : (e : Env) → e .next ≤ n → Takes kind 1 n (emit row i e)
   unfolding emit
-  emit-word (Load r) = reads-word (readable e (r .0)) (Load r)
-  emit-word (Store r) = writes-word (occupied e (r .0)) (Store r) (addRaw e (r .0)) (added e (r .0))
-  emit-word (StoreConst c b) = writes-word (e .objects (c .0)) (StoreConst c b) (addObject e (c .0)) refl
-  emit-word (Decode v) = writes-word (e .objects (v .0)) (Decode v) (addObject e (v .0)) refl
-  emit-word (Encode v) = reads-word (e .objects (v .0)) (Encode v)
-  emit-word (Create v) = writes-word (e .objects (v .0)) (Create v) (addObject e (v .0)) refl
-  emit-word (AnalyzeTuple t b k) = reads-word (e .objects (t .0)) (AnalyzeTuple t b k)
-  emit-word (CreateTuple t b k) = writes-word (e .objects (t .0)) (CreateTuple t b k) (addObject e (t .0)) refl
-  emit-word (Opposite K k) = λ f.
-      choice kind (e .objects (K .0)) 1 n _ _ (λ _. writes-word (e .objects (k .0)) (Opposite K k) (addObject e (k .0)) refl f) (refused kind 1 n read)
-  emit-word KeyOf = one-word kind row KeyOf e e n refl h
-  emit-word (Match r) = reads-word (readable e (r .0)) (Match r)
-  emit-word (Encrypt v) = reads-word (e .objects (v .0)) (Encrypt v)
-  emit-word (Decrypt v) = reads-word (e .objects (v .0)) (Decrypt v)
-  emit-word (Sign v) = reads-word (e .objects (v .0)) (Sign v)
-  emit-word (Verify v r) = λ f. choice kind (e .objects (v .0)) 1 n _ _ (λ _. reads-word (readable e (r .0)) (Verify v r) f) (refused kind 1 n read)
-  emit-word (Hash v) = one-word kind row (Hash v) e e n refl h
+  emit-word e h = reads-word (usesOf i .reads) (usesOf i .writes) e h
 
 -- an instruction, and then; and the last one
 module _ (kind : ℕ → ℕ) (row : ℕ) where
-  first : (i : Instruction) → InRange kind i → (m w n : ℕ) (K : Env → Emitted) (e : Env) → 1 ≤ w → e .next ≤ m → ((e′ : Env) → e′ .next ≤ m → Takes kind (w - 1) n (K e′)) → Takes kind w n (andThen (emit row i e) K)
-  first i f m w n K e l h k = follows kind 1 m w n (emit row i e) K l (emit-word kind row m e h i f) k
+  first : (i : Instruction) → InRange kind i → (m w n : ℕ) (K : Env → Emitted) (e : Env) → 1 ≤ w → e .next ≤ m
+      → ((e′ : Env) → e′ .next ≤ m → Takes kind (w - 1) n (K e′)) → Takes kind w n (andThen (emit row i e) K)
+  first i f m w n K e l h k = follows kind 1 m w n (emit row i e) K l (emit-word kind row m i f e h) k
 
   wider : (v w n : ℕ) (C : Emitted) → v ≤ w → Takes kind v n C → Takes kind w n C
   unfolding TakesT
@@ -116,7 +109,7 @@ module _ (kind : ℕ → ℕ) (row : ℕ) where
   wider v w n (refuse answer) l t = record { taken = t .taken }
 
   final : (i : Instruction) → InRange kind i → (w n : ℕ) (e : Env) → 1 ≤ w → e .next ≤ n → Takes kind w n (emit row i e)
-  final i f w n e l h = wider 1 w n (emit row i e) l (emit-word kind row n e h i f)
+  final i f w n e l h = wider 1 w n (emit row i e) l (emit-word kind row n i f e h)
 
 -- kinds that operands have: a variable past the kinds is undeclared
 module _ (kind : ℕ → ℕ) (declared : (v : ℕ) → 64 ≤ v → kind v ≡ 0) where
@@ -266,7 +259,8 @@ module _ (kind : ℕ → ℕ) (declared : (v : ℕ) → 64 ≤ v → kind v ≡ 
         takes↓ p₁ _ n e₂ (k .0) (d .1) (b .0) m (omega arith) (omega arith))
 
     -- a part adds its LOAD, and its scratch number is taken already
-    takes↓parts : (ps : Parts) (row i w n : ℕ) (e : Env) → RightParts false kind ps → PartsBelow 64 ps → PackedParts ps → n ≤ 191 → i + count ps ≤ 191 → 8 * sizes ps ≤ w → e .next + 2 * sizes ps ≤ n + count ps
+    takes↓parts : (ps : Parts) (row i w n : ℕ) (e : Env) → RightParts false kind ps → PartsBelow 64 ps → PackedParts ps
+        → n ≤ 191 → i + count ps ≤ 191 → 8 * sizes ps ≤ w → e .next + 2 * sizes ps ≤ n + count ps
         → Takes kind w n (compile↓parts ps row i e)
     takes↓parts end row i w n e k r b m g l h = nothing kind w n e (omega arith)
     takes↓parts (part p ps) row i w n e k r b m g l h =
@@ -363,7 +357,8 @@ module _ (kind : ℕ → ℕ) (declared : (v : ℕ) → 64 ≤ v → kind v ≡ 
         takes↑ p₂ _ n e₂ (k .1) (d .2) (b .1) m (omega arith) (omega arith)
 
     -- a part adds its STORE, and its scratch number is taken already
-    takes↑parts : (ps : Parts) (row i w n : ℕ) (e : Env) → RightParts true kind ps → PartsBelow 64 ps → PackedParts ps → n ≤ 191 → i + count ps ≤ 191 → 8 * sizes ps ≤ w → e .next + 2 * sizes ps ≤ n + count ps
+    takes↑parts : (ps : Parts) (row i w n : ℕ) (e : Env) → RightParts true kind ps → PartsBelow 64 ps → PackedParts ps
+        → n ≤ 191 → i + count ps ≤ 191 → 8 * sizes ps ≤ w → e .next + 2 * sizes ps ≤ n + count ps
         → Takes kind w n (compile↑parts kind ps row i e)
     takes↑parts end row i w n e k r b m g l h = nothing kind w n e (omega arith)
     takes↑parts (part p ps) row i w n e k r b m g l h =
@@ -381,7 +376,8 @@ module _ (kind : ℕ → ℕ) (declared : (v : ℕ) → 64 ≤ v → kind v ≡ 
   pub matching-in-limits : (p : Pattern) (e e′ : Env) (c : List Line) → RightKinds false kind p → RawsBelow 64 p → Packed p → size p ≤ 96 → e .next ≡ 0 → compile↓ p e ≡ ok c e′ → InLimits kind c e′
   matching-in-limits p e e′ c k r b s z q = within _ c e′ (takes↓ p 767 191 e k r b (omega arith) (omega arith) (omega arith)) q
 
-  pub creating-in-limits : (p : Pattern) (e e′ : Env) (c : List Line) → RightKinds true kind p → RawsBelow 64 p → Packed p → size p ≤ 96 → e .next ≡ 0 → compile↑ kind p e ≡ ok c e′ → InLimits kind c e′
+  pub creating-in-limits : (p : Pattern) (e e′ : Env) (c : List Line) → RightKinds true kind p → RawsBelow 64 p → Packed p → size p ≤ 96 → e .next ≡ 0
+      → compile↑ kind p e ≡ ok c e′ → InLimits kind c e′
   creating-in-limits p e e′ c k r b s z q = within _ c e′ (takes↑ p 767 191 e k r b (omega arith) (omega arith) (omega arith)) q
 
   -- and where it refuses, that is with 6 or 7
@@ -392,5 +388,6 @@ module _ (kind : ℕ → ℕ) (declared : (v : ℕ) → 64 ≤ v → kind v ≡ 
   pub matching-refuses : (p : Pattern) (e : Env) (answer : Compiled) → RightKinds false kind p → RawsBelow 64 p → Packed p → size p ≤ 96 → e .next ≡ 0 → compile↓ p e ≡ refuse answer → Refusal answer
   matching-refuses p e answer k r b s z q = refusal _ answer (takes↓ p 767 191 e k r b (omega arith) (omega arith) (omega arith)) q
 
-  pub creating-refuses : (p : Pattern) (e : Env) (answer : Compiled) → RightKinds true kind p → RawsBelow 64 p → Packed p → size p ≤ 96 → e .next ≡ 0 → compile↑ kind p e ≡ refuse answer → Refusal answer
+  pub creating-refuses : (p : Pattern) (e : Env) (answer : Compiled) → RightKinds true kind p → RawsBelow 64 p → Packed p → size p ≤ 96 → e .next ≡ 0
+      → compile↑ kind p e ≡ refuse answer → Refusal answer
   creating-refuses p e answer k r b s z q = refusal _ answer (takes↑ p 767 191 e k r b (omega arith) (omega arith) (omega arith)) q

@@ -1,6 +1,8 @@
 -- The theorems of the paper.
 pub mod StoreLaws
 pub mod CellLaws
+pub mod Ends
+pub mod StepEnds
 pub mod Reasons
 pub mod Models
 pub mod Simulation
@@ -24,7 +26,6 @@ pub mod Meaning
 pub mod ValidMemory
 pub mod RowsAreTerms
 pub mod RowsRunAsTerms
-pub mod RowSteps
 pub mod Room
 pub mod Theorems
 pub mod RowsKept

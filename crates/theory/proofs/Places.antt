@@ -16,6 +16,12 @@ module _ {A : Type 0} where
   movedTo place (stuck other why) = stuck place why
   movedTo place (room other) = room place
 
+  -- done, stuck or out of room: what moving keeps
+  abbrev pub form : Outcome A → ℕ
+  form (done a) = 0
+  form (stuck place why) = 1
+  form (room place) = 2
+
 module _ {A B : Type 0} (place : ℕ) where
   moved-bind : (x : Outcome A) (f : A → Outcome B) → movedTo place (bind x f) ≡ bind (movedTo place x) (λ a. movedTo place (f a))
   moved-bind (done a) f = refl

@@ -16,6 +16,7 @@ use Rattle.theory.specs.World.{World, Op, Test, creatable}
 use Rattle.theory.specs.World as Voc
 use Rattle.numbers.specs.Limits.{namedCells}
 use Rattle.theory.specs.Machine.{Line, State, message, messages, setMessage, setMessages, setObject, setRaw, setMemory, withAccumulator, withStores, withScratch, makeAccumulator, makeObject, step, exec}
+use Rattle.theory.proofs.CellLaws.{memory-kept}
 use Rattle.theory.proofs.Fitting.{Fits}
 use Rattle.theory.proofs.Related.{EachR, nil, cons, CellR, set, AnswerR, OutcomeR, dones, bind-related, need-related, at-related, cell-map}
 
@@ -94,21 +95,6 @@ module _ {A B : Type 0} (R : ℕ → A → B → Type 0) where
       go : (t : Bool) → (T t → v ≡ i) → CellR (R i) (cond t (some a) (f i)) (cond t (some b) (g i))
       go true e = rw (← (e tt)) (set r)
       go false e = h i
-
--- writing messages leaves the memory
-module _ (W : World) where
-  pub memory-set : (s : State W) (cell : ℕ) (m : W .Msg) → setMessage W s cell m .stores .memory ≡ s .stores .memory
-  unfolding setMessage
-  memory-set s cell m = go (ltb cell namedCells)
-    where
-      go : (named : Bool) → (cond named (withStores W s (setRaw W (s .stores) cell m)) (withScratch W s (cell - namedCells) m)) .stores .memory ≡ s .stores .memory
-      go true = refl
-      go false = refl
-
-  pub memory-kept : (s : State W) (first n : ℕ) (g : ℕ → W .Msg) → setMessages W s first n g .stores .memory ≡ s .stores .memory
-  unfolding setMessages
-  memory-kept s first zero g = refl
-  memory-kept s first (suc n) g = memory-set (setMessages W s first n g) (first + n) (g n) ∙ memory-kept s first n g
 
 module _ {W T : World} (F : Reading W T) (kind : ℕ → ℕ) where
   -- what a cell holds; an object cell's message has its variable's kind

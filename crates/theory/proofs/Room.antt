@@ -13,14 +13,16 @@ use Rattle.terms.specs.Row.{wordOf}
 use Rattle.terms.specs.Finder.{locate}
 use Rattle.terms.proofs.FinderLaws.{located-as}
 use Rattle.theory.specs.Outcome.{room}
-use Rattle.theory.specs.RowModel.{Table, withCounter, name, placed, rowWorld}
+use Rattle.theory.specs.RowModel.{Table, withCounter, name, placed, rowModel, rowWorld}
 use Rattle.numbers.specs.Limits.{mostNames}
 use Rattle.theory.specs.Machine.{Line, State, exec}
 use Rattle.theory.specs.TermModel.{termWorld}
 use Rattle.theory.proofs.Fitting.{ByteFits}
 use Rattle.theory.proofs.Related.{SameEnd, same-end}
 use Rattle.theory.proofs.RowsRunAsTerms.{Reads, rows-run-as-terms}
-use Rattle.theory.proofs.RowSteps.{Answers, gets, Ends, ends, overflows, Any, ends-bind, answers-then, Moves, step-moves}
+use Rattle.theory.proofs.Ends.{Any, Answers, gets, Ends, ends, overflows, ends-bind, answers-then}
+use Rattle.theory.proofs.StepEnds.{Moves, step-ends}
+use Rattle.theory.proofs.Models.{making-moves}
 
 -- so many rows and so many names are free
 abbrev pub Free : ℕ → ℕ → Table → Type 0
@@ -28,35 +30,36 @@ Free rows names x = (x .used + rows ≤ length (x .rows)) × (x .counter + names
 
 -- a row is taken, or none
 placed-free : (rows names : ℕ) (x : Table) (word : ℕ) → Free (suc rows) names x
-    → Answers ⊥ (λ r. Free rows names (r .1)) (placed x (locate (x .rows) (x .used) word))
+    → Answers Any ⊥ (λ r. Free rows names (r .1)) (placed x (locate (x .rows) (x .used) word))
 placed-free rows names x word free =
-    located-as (x .rows) (x .used) word (omega arith) (λ l. Answers ⊥ (λ r. Free rows names (r .1)) (placed x l)) (λ row l e. gets (omega arith))
+    located-as (x .rows) (x .used) word (omega arith) (λ l. Answers Any ⊥ (λ r. Free rows names (r .1)) (placed x l)) (λ row l e. gets (omega arith))
     (λ absent l. gets (rw length-set (omega arith), free .1)) (λ absent l. absurd (omega arith))
 
 -- a name is taken
-fresh-free : (rows names : ℕ) (x : Table) → Free rows (suc names) x → Answers ⊥ (λ r. Free rows names (r .1)) (name (x .counter) (withCounter x))
+fresh-free : (rows names : ℕ) (x : Table) → Free rows (suc names) x → Answers Any ⊥ (λ r. Free rows names (r .1)) (name (x .counter) (withCounter x))
 fresh-free rows names x free = rw (lt-ltb (x .counter) mostNames (omega arith)) (gets {a = (x .counter, withCounter x (suc (x .counter)))} (omega arith))
 
 -- one row and one name fewer are free after a step
-moves-free : (n : ℕ) (x : Table) → Free (suc n) (suc n) x → Moves ⊥ (Free n n) x
-moves-free n x free = record {
-  left = omega arith;
-  makes = λ shape. placed-free n n x (wordOf shape) (omega arith);
-  creates = λ kind. answers-then _ (fresh-free (suc n) n x free) λ r h. placed-free n n (r .1) (wordOf (atom kind (r .0))) h;
-}
+moves-free : (n : ℕ) (x : Table) → Free (suc n) (suc n) x → Moves Any ⊥ rowWorld (Free n n) x
+moves-free n x free = making-moves rowModel (λ why own. tt)
+    (record {
+      left = omega arith;
+      makes = λ shape. placed-free n n x (wordOf shape) (omega arith);
+      creates = λ kind. answers-then _ (fresh-free (suc n) n x free) λ r h. placed-free n n (r .1) (wordOf (atom kind (r .0))) h;
+    })
 
 module _ (kind : ℕ → ℕ) where
-  exec-free : (code : List Line) (s : State rowWorld) → Free (length code) (length code) (s .stores .memory) → Ends ⊥ Any (exec rowWorld kind code s)
+  exec-free : (code : List Line) (s : State rowWorld) → Free (length code) (length code) (s .stores .memory) → Ends Any Any ⊥ Any (exec rowWorld kind code s)
   exec-free [] s free = ends tt
   exec-free (l ∷ code) s free =
-      ends-bind _ (step-moves ⊥ kind (l .place) s (moves-free (length code) (s .stores .memory) free) (l .instruction)) λ t h. exec-free code t h
+      ends-bind _ (step-ends tt kind (l .place) tt s (moves-free (length code) (s .stores .memory) free) (l .instruction)) λ t h. exec-free code t (h .memory)
 
   pub never-room : (code : List Line) (s : State rowWorld) → Free (length code) (length code) (s .stores .memory)
       → (place : ℕ) → exec rowWorld kind code s ≢ room place
   never-room code s free place e = go (rw e at (exec-free code s free))
     where
-      go : Ends ⊥ {A = State rowWorld} Any (room place) → ⊥
-      go (overflows f) = f
+      go : Ends Any Any ⊥ {A = State rowWorld} Any (room place) → ⊥
+      go (overflows _ f) = f
 
   -- then rows and terms have the same end
   pub rows-end-as-terms : (code : List Line) (s : State rowWorld) (t : State termWorld)

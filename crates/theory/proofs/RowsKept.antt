@@ -12,10 +12,12 @@ use Rattle.terms.specs.Row.{wordOf}
 use Rattle.terms.specs.Finder.{locate}
 use Rattle.terms.proofs.FinderLaws.{located-as}
 use Rattle.theory.specs.Outcome.{done, got, full}
-use Rattle.theory.specs.RowModel.{Table, withCounter, name, placed, rowWorld}
+use Rattle.theory.specs.RowModel.{Table, withCounter, name, placed, rowModel, rowWorld}
 use Rattle.numbers.specs.Limits.{mostNames}
 use Rattle.theory.specs.Machine.{Line, State, exec}
-use Rattle.theory.proofs.RowSteps.{Answers, gets, fills, Ends, ends, answers-then, Moves, exec-moves}
+use Rattle.theory.proofs.Ends.{Any, Answers, gets, fills, Ends, ends, answers-then}
+use Rattle.theory.proofs.StepEnds.{Moves, Leaves, exec-ends}
+use Rattle.theory.proofs.Models.{making-moves}
 
 pub record Appended (x y : Table) : Type 0 where
   pub same-length : length (y .rows) ≡ length (x .rows)
@@ -27,10 +29,10 @@ pub record Appended (x y : Table) : Type 0 where
   pub certificates : y .certificates ≡ x .certificates
 
 module _ (x : Table) where
-  placed-appends : (y : Table) (word : ℕ) → Appended x y → Answers (Unit {0}) (λ r. Appended x (r .1)) (placed y (locate (y .rows) (y .used) word))
+  placed-appends : (y : Table) (word : ℕ) → Appended x y → Answers Any (Unit {0}) (λ r. Appended x (r .1)) (placed y (locate (y .rows) (y .used) word))
   placed-appends y word a =
       let fits : y .used ≤ length (y .rows) = omega (arith, a .inside, a .same-length) in
-      located-as (y .rows) (y .used) word fits (λ l. Answers (Unit {0}) (λ r. Appended x (r .1)) (placed y l))
+      located-as (y .rows) (y .used) word fits (λ l. Answers Any (Unit {0}) (λ r. Appended x (r .1)) (placed y l))
       (λ row l e. gets a)
       (λ absent l. gets (record {
         same-length = length-set (y .rows) (y .used) word ∙ a .same-length;
@@ -43,26 +45,43 @@ module _ (x : Table) where
       }))
       (λ absent l. fills tt)
 
-  named-appends : (y : Table) → Appended x y → Answers (Unit {0}) (λ r. Appended x (r .1)) (name (y .counter) (withCounter y))
+  named-appends : (y : Table) → Appended x y → Answers Any (Unit {0}) (λ r. Appended x (r .1)) (name (y .counter) (withCounter y))
   named-appends y a = go (ltb (y .counter) mostNames)
     where
-      go : (b : Bool) → Answers (Unit {0}) (λ (r : ℕ × Table). Appended x (r .1)) (cond b (got (y .counter, withCounter y (suc (y .counter)))) full)
-      go true = gets {a = (y .counter, withCounter y (suc (y .counter)))} (record { same-length = a .same-length; kept = a .kept; rest = a .rest; more = a .more; inside = a .inside; names = omega (arith, a .names); certificates = a .certificates })
+      go : (b : Bool) → Answers Any (Unit {0}) (λ (r : ℕ × Table). Appended x (r .1)) (cond b (got (y .counter, withCounter y (suc (y .counter)))) full)
+      go true =
+          gets {a = (y .counter, withCounter y (suc (y .counter)))}
+          (record {
+            same-length = a .same-length;
+            kept = a .kept;
+            rest = a .rest;
+            more = a .more;
+            inside = a .inside;
+            names = omega (arith, a .names);
+            certificates = a .certificates;
+          })
       go false = fills tt
 
-  moves-append : (y : Table) → Appended x y → Moves (Unit {0}) (Appended x) y
-  moves-append y a = record {
-    left = a;
-    makes = λ shape. placed-appends y (wordOf shape) a;
-    creates = λ kind. answers-then _ (named-appends y a) λ r h. placed-appends (r .1) (wordOf (atom kind (r .0))) h;
-  }
+  moves-append : (y : Table) → Appended x y → Moves Any (Unit {0}) rowWorld (Appended x) y
+  moves-append y a = making-moves rowModel (λ why own. tt)
+      (record {
+        left = a;
+        makes = λ shape. placed-appends y (wordOf shape) a;
+        creates = λ kind. answers-then _ (named-appends y a) λ r h. placed-appends (r .1) (wordOf (atom kind (r .0))) h;
+      })
 
 pub appended-none : (x : Table) → x .used ≤ length (x .rows) → Appended x x
 appended-none x h = record { same-length = refl; kept = λ row l. refl; rest = λ row l. refl; more = omega arith; inside = h; names = omega arith; certificates = refl }
 
 pub exec-appends : (kind : ℕ → ℕ) (code : List Line) (s t : State rowWorld) → s .stores .memory .used ≤ length (s .stores .memory .rows)
     → exec rowWorld kind code s ≡ done t → Appended (s .stores .memory) (t .stores .memory)
-exec-appends kind code s t h e = go (rw e at (exec-moves (Unit {0}) kind (Appended (s .stores .memory)) (moves-append (s .stores .memory)) code s (appended-none (s .stores .memory) h)))
+exec-appends kind code s t h e = go (rw e at left)
   where
-    go : Ends (Unit {0}) (λ (u : State rowWorld). Appended (s .stores .memory) (u .stores .memory)) (done t) → Appended (s .stores .memory) (t .stores .memory)
-    go (ends a) = a
+    x : Table
+    x = s .stores .memory
+
+    left : Ends Any Any (Unit {0}) (Leaves rowWorld (Appended x) s) (exec rowWorld kind code s)
+    left = exec-ends tt kind (λ place. tt) (moves-append x) code s (appended-none x h)
+
+    go : Ends Any Any (Unit {0}) (Leaves rowWorld (Appended x) s) (done t) → Appended x (t .stores .memory)
+    go (ends l) = l .memory

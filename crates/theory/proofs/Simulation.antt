@@ -15,7 +15,8 @@ use Rattle.theory.specs.Machine.{Line, line, State, step, exec}
 use Rattle.theory.specs.Emission.{Env, Emitted, ok, refuse, after, andThen, addObject, reads, writes}
 use Rattle.theory.proofs.StoreLaws.{put-other, put-known, put-held, puts-below}
 use Rattle.theory.proofs.CellLaws.{withRaw}
-use Rattle.theory.proofs.Reasons.{OutcomeWithin, done-within, stuck-within, room-within, WorldWithin}
+use Rattle.theory.proofs.Ends.{ends, sticks, overflows}
+use Rattle.theory.proofs.Reasons.{OutcomeWithin, WorldWithin}
 
 -- the same end on both sides; stuck for allowed reasons alone
 pub data Alike {A B : Type 0} (Allowed : ℕ → Type 0) (R : A → B → Type 0) : Outcome A → Outcome B → Type 0 where
@@ -54,9 +55,9 @@ module _ {Allowed : ℕ → Type 0} where
 
   alike-same : {A D E : Type 0} {S : D → E → Type 0} {x : Outcome A} (f : A → Outcome D) (g : A → Outcome E)
       → OutcomeWithin Allowed x → ((a : A) → Alike Allowed S (f a) (g a)) → Alike Allowed S (bind x f) (bind x g)
-  alike-same f g (done-within {a = a}) h = h a
-  alike-same f g (stuck-within within) h = both-stuck within
-  alike-same f g room-within h = both-room
+  alike-same f g (ends {a = a} _) h = h a
+  alike-same f g (sticks _ within) h = both-stuck within
+  alike-same f g (overflows _ _) h = both-room
 
   alike-not-done : {A B D : Type 0} {R : A → B → Type 0} {x : Outcome A} {y : Outcome B} {g : B → Outcome D}
       → Alike Allowed R x y → ((a : A) (b : B) → R a b → NotDone (g b)) → NotDone (bind y g)
@@ -234,9 +235,9 @@ module _ {Allowed : ℕ → Type 0} {W : World} {calm : WorldWithin Allowed W} {
       → Simulates calm kind Φ agree s (after (line row i ∷ []) code) (bind x g)
   unfolding RunsAlike after
   shares row i (ok c e) t g within p h = record { run = rw (p, bind-assoc) (alike-same _ _ within λ a. h a .run) }
-  shares row i (refuse answer) t g done-within p h = record { run = h _ .run }
-  shares row i (refuse answer) t g (stuck-within within) p h = record { run = is-stuck }
-  shares row i (refuse answer) t g room-within p h = record { run = is-room }
+  shares row i (refuse answer) t g (ends _) p h = record { run = h _ .run }
+  shares row i (refuse answer) t g (sticks _ within) p h = record { run = is-stuck }
+  shares row i (refuse answer) t g (overflows _ _) p h = record { run = is-room }
 
   -- an instruction of which the rule knows nothing
   pub silent : {s : State W} (t : State W) (row : ℕ) (i : Instruction) (code : Emitted) {y : Outcome B} → step W kind row i s ≡ done t

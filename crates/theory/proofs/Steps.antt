@@ -14,7 +14,8 @@ use Rattle.theory.specs.Machine.{line, named, scratch, State, step, setO
 use Rattle.theory.specs.Emission.{Env, Emitted, ok, refuse, after, andThen, addObject, emit}
 use Rattle.theory.specs.Compilers.{LOAD, STORE, STORE-CONST, DECODE, ENCODE, CREATE, ANALYZE-TUPLE, CREATE-TUPLE, OPPOSITE, KEY-OF, MATCH, ENCRYPT, DECRYPT, SIGN, VERIFY, HASH}
 use Rattle.theory.proofs.CellLaws.{message-named, message-scratch, setMessage-named, setMessage-scratch, withScratches, setMessages-scratch, readable-named, readable-scratch, occupied-named, occupied-scratch, withRaw, addRaw-named, addRaw-scratch}
-use Rattle.theory.proofs.Reasons.{ReadWithin, WorldWithin, at-within}
+use Rattle.theory.proofs.Ends.{ends-at}
+use Rattle.theory.proofs.Reasons.{ReadWithin, WorldWithin}
 use Rattle.theory.proofs.Simulation.{both-stuck, is-stuck, Frame, fits-object, fits-raw, fits-scratch, fits-scratches, RunsAlike, Simulates, reads-it, reads-known, writes-it, writes-known, shares, silent}
 use Rattle.theory.proofs.Goes.{Goes, goes}
 
@@ -49,20 +50,20 @@ module _ {Allowed : ℕ → Type 0} {W : World} {calm : WorldWithin Allowed W} {
       → step W kind row i s ≡ makeObject W kind row s v o
       → ((made : W .Msg × W .Mem) → Simulates calm kind Φ agree (withObject s v made) code (g made))
       → Simulates calm kind Φ agree s (after (line row i ∷ []) code) (bind (at row (W .apply o (s .stores .memory))) g)
-  makes-object row v i {code} o p h = shares row i code _ _ (at-within row (calm .apply o _)) p h
+  makes-object row v i {code} o p h = shares row i code _ _ (ends-at row tt (calm .apply o _)) p h
 
   makes-accumulator : (row : ℕ) (i : Instruction) {code : Emitted} {s : State W} (o : Op (W .Msg)) {g : W .Msg × W .Mem → Outcome B}
       → step W kind row i s ≡ makeAccumulator W kind row s o
       → ((made : W .Msg × W .Mem) → Simulates calm kind Φ agree (withMade s made) code (g made))
       → Simulates calm kind Φ agree s (after (line row i ∷ []) code) (bind (at row (W .apply o (s .stores .memory))) g)
-  makes-accumulator row i {code} o p h = shares row i code _ _ (at-within row (calm .apply o _)) p h
+  makes-accumulator row i {code} o p h = shares row i code _ _ (ends-at row tt (calm .apply o _)) p h
 
   -- an instruction that puts a message to a test
   tests : (row : ℕ) (i : Instruction) {code : Emitted} {s t : State W} (c : Test (W .Msg)) {y : Outcome B}
       → step W kind row i s ≡ bind (at row (W .test c (s .stores .memory))) (λ _. done t)
       → Simulates calm kind Φ agree t code y
       → Simulates calm kind Φ agree s (after (line row i ∷ []) code) (bind (at row (W .test c (s .stores .memory))) λ _. y)
-  tests row i {code} {t = t} c p h = shares row i code (λ _. t) _ (at-within row (calm .test c _)) p λ _. h
+  tests row i {code} {t = t} c p h = shares row i code (λ _. t) _ (ends-at row tt (calm .test c _)) p λ _. h
 
   -- the message becomes the value of a variable: the rule reads it, or it is known
   pub decode : (row v : ℕ) (rest : Env → Emitted) {e : Env} {s : State W} {g : W .Msg → Outcome B} → ReadWithin Allowed (s .accumulator)
@@ -298,5 +299,5 @@ module _ {Allowed : ℕ → Type 0} {W : World} {calm : WorldWithin Allowed W} {
   unfolding andThen emit
   analyze-tuple row t b n m rest {s = s} above q h = goes λ F.
       reads-known row _ rest (F .objects t ∙ ap isSome q)
-      (shares row (ANALYZE-TUPLE t (scratch b) n) _ _ _ (at-within row (calm .parts m n _)) (rw q (simp setMessages-scratch)) λ parts.
+      (shares row (ANALYZE-TUPLE t (scratch b) n) _ _ _ (ends-at row tt (calm .parts m n _)) (rw q (simp setMessages-scratch)) λ parts.
       h parts .go (fits-scratches F b n (λ i. some (parts i)) above))

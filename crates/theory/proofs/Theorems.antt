@@ -22,10 +22,10 @@ use Rattle.theory.specs.Compilers.{compile↓, compile↑}
 use Rattle.theory.specs.Rules.{Made, match, create}
 use Rattle.theory.specs.Figure2.{TermStores, Matches}
 use Rattle.theory.specs.Figure3.{Creates}
-use Rattle.theory.proofs.Compiled.{known, knownFrom, storesOf, messageOf, madeOf, Keeps, matching-runs, matching-refused, matching-keeps, matching-reads-set, creating-runs, creating-refused, creating-keeps, creating-reads-set}
+use Rattle.theory.proofs.Compiled.{known, knownFrom, storesOf, messageOf, madeOf, Keeps, matching-runs, matching-refused, matching-keeps, matching-scratch-free, matching-reads-set, creating-runs, creating-refused, creating-keeps, creating-scratch-free, creating-reads-set}
 use Rattle.theory.proofs.Models.{calm-rows}
-use Rattle.theory.proofs.MatchingRules.{matches-is-done, done-is-matches}
-use Rattle.theory.proofs.CreatingRules.{creates-is-done, done-is-creates}
+use Rattle.theory.proofs.MatchingRules.{matches-is-done, done-is-matches, matches-once}
+use Rattle.theory.proofs.CreatingRules.{creates-is-done, done-is-creates, creates-once}
 use Rattle.theory.specs.Bounds.{InLimits}
 use Rattle.theory.proofs.InLimits.{matching-in-limits, creating-in-limits}
 use Rattle.theory.proofs.Fitting.{ByteFits}
@@ -60,6 +60,15 @@ module _ (W : World) (kind : ℕ → ℕ) (p : Pattern) (below : RawsBelow 64 p)
   pub kept-creating : (b : ℕ) (s t : State W) {c : List Line} {e : Env} → compile↑ kind p (knownFrom W b (s .stores)) ≡ ok c e → exec W kind c s ≡ done t → Keeps W b s t
   kept-creating b s t q r = creating-keeps W kind p below b s t q r
 
+  -- What scratch held on entry does not matter.
+  pub scratch-free-matching : (s t : State W) {c : List Line} {e : Env} → s .accumulator ≡ t .accumulator → s .stores ≡ t .stores
+      → compile↓ p (known W (s .stores)) ≡ ok c e → bind (exec W kind c s) (storesOf W) ≡ bind (exec W kind c t) (storesOf W)
+  scratch-free-matching s t a n q = matching-scratch-free W kind p below s t a n q
+
+  pub scratch-free-creating : (s t : State W) {c : List Line} {e : Env} → s .stores ≡ t .stores
+      → compile↑ kind p (known W (s .stores)) ≡ ok c e → bind (exec W kind c s) (messageOf W) ≡ bind (exec W kind c t) (messageOf W)
+  scratch-free-creating s t n q = creating-scratch-free W kind p below s t n q
+
 -- Compiled code never reads a cell that is unset: for matching where the accumulator is set, for creating always.
 pub reads-set-matching : (kind : ℕ → ℕ) (p : Pattern) → RawsBelow 64 p → (s : State rowWorld) (m : ℕ) {c : List Line} {e : Env}
     → s .accumulator ≡ some m → compile↓ p (known rowWorld (s .stores)) ≡ ok c e → (place : ℕ) → exec rowWorld kind c s ≡ stuck place (reasonNumber Unset) → ⊥
@@ -82,6 +91,14 @@ module _ (kind : ℕ → ℕ) where
 
   pub create-then-figure3 : (p : Pattern) (n n′ : TermStores) (m : Term) → RightKinds true kind p → create termWorld kind p n ≡ done (m, n′) → Creates kind n p m n′
   create-then-figure3 p n n′ m right h = done-is-creates kind p n n′ m right h
+
+  -- The figures give at most one end.
+  pub figure2-once : {n n₁ n₂ : TermStores} {p : Pattern} {m : Term} → RightKinds false kind p → Matches kind n p m n₁ → Matches kind n p m n₂ → n₁ ≡ n₂
+  figure2-once right one other = matches-once kind right one other
+
+  pub figure3-once : {n n₁ n₂ : TermStores} {p : Pattern} {m₁ m₂ : Term} → RightKinds true kind p → Creates kind n p m₁ n₁ → Creates kind n p m₂ n₂
+      → (m₁ ≡ m₂) × (n₁ ≡ n₂)
+  figure3-once right one other = creates-once kind right one other
 
   -- The same code on rows and on what they mean ends the same, unless the rows run out of room; a finished run leaves a valid state.
   pub rows-as-terms : (code : List Line) (s : State rowWorld) (t : State termWorld)

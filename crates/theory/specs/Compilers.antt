@@ -10,7 +10,7 @@ use Rattle.code.specs.declared.Instruction.the-variants.{Load, Store, StoreCons
 use Rattle.patterns.specs.Pattern.{Key, plainKey, opKey, certifiedKey, Pattern, object, raw, constant, opposite, keyOf, encryption, signature, hash, tuple, letIn, Parts, end, part, count}
 use Rattle.theory.specs.World.{creatable}
 use Rattle.theory.specs.Machine.{named, scratch}
-use Rattle.theory.specs.Emission.{Env, Emitted, ok, refuse, emit, take, writes, _then_}
+use Rattle.theory.specs.Emission.{Env, rawCell, Emitted, ok, refuse, emit, take, writes, _then_}
 
 -- the paper's names of the instructions
 abbrev pub LOAD : Raw → Instruction
@@ -99,7 +99,13 @@ abbrev mutual
   compile↓parts end row rˢ = ok []
   compile↓parts (part p ps) row rˢ = emit row (LOAD (scratch rˢ)) then compile↓ p then compile↓parts ps row (suc rˢ)
 
--- Figure 6
+-- Figure 6. A raw variable comes from its cell, or goes to it
+abbrev pub loadRaw : ℕ → ℕ → Env → Emitted
+loadRaw row r e = emit row (LOAD (rawCell e r)) e
+
+abbrev pub storeRaw : ℕ → ℕ → Env → Emitted
+storeRaw row r e = emit row (STORE (rawCell e r)) e
+
 abbrev pub keyVar : Key → ℕ
 keyVar (plainKey v) = v
 keyVar (opKey k K) = k
@@ -118,17 +124,17 @@ module _ (kind : ℕ → ℕ) where
   abbrev mutual
     pub compile↑ : Pattern → Env → Emitted
     compile↑ (object row v) = creating row v then emit row (ENCODE v)
-    compile↑ (raw row r) = emit row (LOAD (named r))
+    compile↑ (raw row r) = loadRaw row r
     compile↑ (constant row c b) = emit row (STORE-CONST c b) then emit row (ENCODE c)
     compile↑ (opposite row k K) = compile↑K row (opKey k K) then emit row (ENCODE k)
     compile↑ (keyOf row k a) = compile↑K row (certifiedKey k a)
     compile↑ (encryption row e key p) = compile↑K row key then compile↑ p then emit row (ENCRYPT (keyVar key)) then emit row (DECODE e)
     compile↑ (signature row s key r) =
-        compile↑K row key then emit row (LOAD (named r)) then emit row (SIGN (keyVar key)) then emit row (DECODE s)
-    compile↑ (hash row h r) = emit row (LOAD (named r)) then emit row (HASH h) then emit row (DECODE h)
+        compile↑K row key then loadRaw row r then emit row (SIGN (keyVar key)) then emit row (DECODE s)
+    compile↑ (hash row h r) = loadRaw row r then emit row (HASH h) then emit row (DECODE h)
     compile↑ (tuple row t ps) =
         take (count ps) λ rˢ. compile↑parts ps row rˢ then emit row (CREATE-TUPLE t (scratch rˢ) (count ps)) then emit row (ENCODE t)
-    compile↑ (letIn row r p₁ p₂) = compile↑ p₁ then emit row (STORE (named r)) then compile↑ p₂
+    compile↑ (letIn row r p₁ p₂) = compile↑ p₁ then storeRaw row r then compile↑ p₂
 
     pub compile↑parts : Parts → ℕ → ℕ → Env → Emitted
     compile↑parts end row rˢ = ok []

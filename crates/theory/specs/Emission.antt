@@ -1,14 +1,15 @@
--- Emission: 6 and 7 are decided where an instruction is emitted, reads before the write.
+-- Emission: 6 and 7 are decided where an instruction is emitted, its reads before its writes.
 use Prim.Native.Nat.{ℕ, _+_}
 use mathlib.Core.Bool.{Bool, true, false, cond}
 use mathlib.Core.List.{List, [], _∷_, _++_}
 use lib.Dec.{ltb}
 use Rattle.answers.specs.declared.Compiled.{Compiled}
 use Rattle.answers.specs.declared.Compiled.the-variants.{WrittenWhileSet, ReadWhileUnset}
+use Rattle.numbers.specs.declared.Raw.{Raw}
 use Rattle.code.specs.declared.Instruction.{Instruction}
-use Rattle.code.specs.declared.Instruction.the-variants.{Load, Store, StoreConst, Decode, Encode, Create, AnalyzeTuple, CreateTuple, Opposite, KeyOf, Match, Encrypt, Decrypt, Sign, Verify, Hash}
 use Rattle.theory.specs.Store.{put}
-use Rattle.theory.specs.Machine.{Line, line}
+use Rattle.theory.specs.Machine.{Line, line, named}
+use Rattle.theory.specs.Uses.{Used, objectAt, messageAt, messagesAt, Uses, usesOf}
 use Rattle.numbers.specs.Limits.{namedCells}
 
 -- which variables are set, and the next scratch number not taken
@@ -16,6 +17,10 @@ pub record Env : Type 0 where
   pub objects : ℕ → Bool
   pub raws : ℕ → Bool
   pub next : ℕ
+
+-- the message cell in which a raw variable stands
+abbrev pub rawCell : Env → ℕ → Raw
+rawCell e r = named r
 
 -- code and the environment after it, or a refusal
 pub data Emitted : Type 0 where
@@ -57,25 +62,25 @@ writes row known c = cond known (refuse (WrittenWhileSet row)) c
 abbrev pub one : ℕ → Instruction → Env → Emitted
 one row i e = ok (line row i ∷ []) e
 
--- one instruction for a pattern row
+-- what is read is looked at, then what is written, which is set from then on; a tuple's slots are scratch
+abbrev pub reading : ℕ → List Used → (Env → Emitted) → Env → Emitted
+reading row [] f e = f e
+reading row (objectAt v ∷ us) f e = reads row (e .objects v) (reading row us f e)
+reading row (messageAt r ∷ us) f e = reads row (readable e r) (reading row us f e)
+reading row (messagesAt b n ∷ us) f e = reading row us f e
+
+abbrev pub writing : ℕ → List Used → (Env → Emitted) → Env → Emitted
+writing row [] f e = f e
+writing row (objectAt v ∷ us) f e = writes row (e .objects v) (writing row us f (addObject e v))
+writing row (messageAt r ∷ us) f e = writes row (occupied e r) (writing row us f (addRaw e r))
+writing row (messagesAt b n ∷ us) f e = writing row us f e
+
+abbrev pub uses : ℕ → Uses → (Env → Emitted) → Env → Emitted
+uses row u f = reading row (u .reads) (writing row (u .writes) f)
+
+-- one instruction for a pattern row: its uses, and then one word
 unfoldable pub emit : ℕ → Instruction → Env → Emitted
-emit row (Load r) e = reads row (readable e (r .0)) (one row (Load r) e)
-emit row (Store r) e = writes row (occupied e (r .0)) (one row (Store r) (addRaw e (r .0)))
-emit row (StoreConst c b) e = writes row (e .objects (c .0)) (one row (StoreConst c b) (addObject e (c .0)))
-emit row (Decode v) e = writes row (e .objects (v .0)) (one row (Decode v) (addObject e (v .0)))
-emit row (Encode v) e = reads row (e .objects (v .0)) (one row (Encode v) e)
-emit row (Create v) e = writes row (e .objects (v .0)) (one row (Create v) (addObject e (v .0)))
-emit row (AnalyzeTuple t b n) e = reads row (e .objects (t .0)) (one row (AnalyzeTuple t b n) e)
-emit row (CreateTuple t b n) e = writes row (e .objects (t .0)) (one row (CreateTuple t b n) (addObject e (t .0)))
-emit row (Opposite K k) e =
-    reads row (e .objects (K .0)) (writes row (e .objects (k .0)) (one row (Opposite K k) (addObject e (k .0))))
-emit row KeyOf e = one row KeyOf e
-emit row (Match r) e = reads row (readable e (r .0)) (one row (Match r) e)
-emit row (Encrypt v) e = reads row (e .objects (v .0)) (one row (Encrypt v) e)
-emit row (Decrypt v) e = reads row (e .objects (v .0)) (one row (Decrypt v) e)
-emit row (Sign v) e = reads row (e .objects (v .0)) (one row (Sign v) e)
-emit row (Verify v r) e = reads row (e .objects (v .0)) (reads row (readable e (r .0)) (one row (Verify v r) e))
-emit row (Hash h) e = one row (Hash h) e
+emit row i = uses row (usesOf i) (one row i)
 
 -- n scratch numbers are taken together
 abbrev pub take : ℕ → (ℕ → Env → Emitted) → Env → Emitted

@@ -7,6 +7,7 @@ pub mod RowModel
 pub mod TermModel
 pub mod Meaning
 pub mod Machine
+pub mod Uses
 pub mod Emission
 pub mod Bounds
 pub mod Compilers

@@ -11,7 +11,7 @@ use Rattle.word.specs.Bytes.{elements}
 use Rattle.answers.specs.Numbers.{compiledNumber}
 use Rattle.compiler.specs.Buffer.{Compiles}
 use Rattle.compiler.proofs.DeliveryLaws.{few-words, buffer-length}
-use Rattle.cram.proofs.CompileLaws.{Fitting, fitting, compile-limit, entry-refused, entry-done}
+use Rattle.lending.proofs.CompileLaws.{Fitting, fitting, compile-limit, entry-refused, entry-done}
 use Rattle.cram.proofs.cram_compile.Statement.{statement}
 use Rattle.cram.proofs.cram_compile.Tie as tie
 

@@ -1,11 +1,11 @@
--- What fits is unpacked and run; what does not is 1.
+-- What fits is unpacked, run over its table, and packed back; what does not is 1.
 use mathlib.Core.Path.{sym, _∙_}
 use native.Mathlib.Omega.{arith}
 use borrow.Author.Needs.{needs}
 use borrow.Author.Tests.{not-true, not-false}
 use lib.Seq.{length-take-le}
 use Rattle.calls.specs.Run.{Lent}
-use Rattle.cram.proofs.RunLaws.{Fitting, fitting, run-limit, run-fits}
+use Rattle.lending.proofs.RunLaws.{Fitting, fitting, run-limit, lent-elements, run-packed}
 use Rattle.cram.proofs.cram_run.Statement.{statement}
 use Rattle.cram.proofs.cram_run.Tie as tie
 
@@ -49,22 +49,44 @@ certificates-requires c κs = fits c .few-certificates
 code-words-requires : tie.Need-code-words-requires
 code-words-requires c κs = fits (c .before) .few-words
 
+cells-requires : tie.Need-cells-requires
+cells-requires c κs = fits (c .before .before .before) .object-bytes
+
+message-cells-requires : tie.Need-message-cells-requires
+message-cells-requires c κs = fits (c .before .before .before .before .before) .message-bytes
+
 array-share-prefix-pairs : tie.Need-array-share-prefix-pairs
-array-share-prefix-pairs c = omega (arith, fits (c .before .before .before .before) .few-certificates)
+array-share-prefix-pairs c = omega (arith, fits (c .before .before .before .before .before .before) .few-certificates)
 
 slice-aggregate-over-table : tie.Need-slice-aggregate-over-table
 slice-aggregate-over-table c = sym (length-take-le _ _ (array-share-prefix-pairs (c .before)))
 
 array-share-prefix-words : tie.Need-array-share-prefix-words
-array-share-prefix-words c = omega (arith, fits (c .before .before .before .before .before .before) .few-words)
+array-share-prefix-words c = omega (arith, fits (c .before .before .before .before .before .before .before .before) .few-words)
 
 slice-aggregate-over-table-2 : tie.Need-slice-aggregate-over-table-2
 slice-aggregate-over-table-2 c = sym (length-take-le _ _ (array-share-prefix-words (c .before)))
 
 over-table-requires : tie.Need-over-table-requires
-over-table-requires c κs =
-    let f = fits (c .before .before .before .before .before .before .before) in
-    ((f .object-bytes, f .message-bytes), (f .row-bytes, f .few-rows))
+over-table-requires c κs = let f = fits (c .before .before .before .before .before .before .before .before .before) in (f .row-bytes, f .few-rows)
+
+slice-aggregate-pack-pairs : tie.Need-slice-aggregate-pack-pairs
+slice-aggregate-pack-pairs c = search needs
+
+pack-pairs-requires : tie.Need-pack-pairs-requires
+pack-pairs-requires c κs = omega (arith, slice-aggregate-pack-pairs (c .before), fits (c .before .before .before .before .before .before .before .before .before .before .before .before .before .before .before .before) .object-bytes)
+
+slice-aggregate-pack-pairs-2 : tie.Need-slice-aggregate-pack-pairs-2
+slice-aggregate-pack-pairs-2 c = search needs
+
+pack-pairs-requires-2 : tie.Need-pack-pairs-requires-2
+pack-pairs-requires-2 c κs = omega (arith, slice-aggregate-pack-pairs-2 (c .before), fits (c .before .before .before .before .before .before .before .before .before .before .before .before .before .before .before .before .before .before .before .before .before) .message-bytes)
+
+cast-numbers : tie.Need-cast-numbers
+cast-numbers c = search needs
+
+numbers-requires-2 : tie.Need-numbers-requires-2
+numbers-requires-2 c κs = search needs
 
 same-length : tie.Need-same-length
 same-length c = search needs
@@ -77,11 +99,16 @@ same-length-3 c = search needs
 
 returns-2 : tie.Need-returns-2
 returns-2 c =
-    let ran = c .before .before .before .before .before .before in
-    let words = ran .before .before .before .before .before .before in
+    let ran = c .before .before .before .before .before .before .before .before .before .before .before .before .before .before .before .before in
+    let messages = ran .before .before .before .before in
+    let objects = messages .before .before in
+    let words = objects .before .before in
     let here = words .before .before in
-    run-fits (lent (start here)) (start here .args .code .now) (fits here .all-whole) (words .before .certificates .ensures)
-    (words .code-words .ensures) (ran .over-table .ensures)
+    let s = start here in
+    run-packed (lent s) (s .args .code .now) (fits here .all-whole)
+    (lent-elements (lent s) (s .args .code .now) (objects .cells .ensures) (messages .message-cells .ensures) (words .before .certificates .ensures) (words .code-words .ensures))
+    (ran .over-table .ensures .0) (ran .over-table .ensures .1)
+    (c .before .before .before .before .before .before .before .before .before .pack-pairs .ensures) (c .before .before .before .before .pack-pairs2 .ensures) (c .numbers2 .ensures)
 
 pub cram-run-spec : {M : Type 1} → statement M
 cram-run-spec =
@@ -92,11 +119,19 @@ cram-run-spec =
     returns
     certificates-requires
     code-words-requires
+    cells-requires
+    message-cells-requires
     array-share-prefix-pairs
     slice-aggregate-over-table
     array-share-prefix-words
     slice-aggregate-over-table-2
     over-table-requires
+    slice-aggregate-pack-pairs
+    pack-pairs-requires
+    slice-aggregate-pack-pairs-2
+    pack-pairs-requires-2
+    cast-numbers
+    numbers-requires-2
     same-length
     same-length-2
     same-length-3

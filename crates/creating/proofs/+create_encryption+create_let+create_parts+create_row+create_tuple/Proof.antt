@@ -42,7 +42,7 @@ use Rattle.patterns.proofs.raw.Reads as raw-reads
 use Rattle.patterns.proofs.slots.Reads as slots-reads
 use Rattle.patterns.proofs.tag.Reads as tag-reads
 use Rattle.patterns.proofs.variable.Reads as variable-reads
-use Rattle.patterns.proofs.x.Reads as x-reads
+use Rattle.patterns.proofs.key.Reads as key-reads
 use Rattle.creating.proofs.+create_encryption+create_let+create_parts+create_row+create_tuple.{
   statement,
 }
@@ -130,13 +130,13 @@ create-parts-μ-loop rows kinds code₀ emission₀ row n parts k₀ code emissi
 module _ (t : ℕ) where
   abbrev create-encryption-callees : create-encryption-lts.Claims
   create-encryption-callees =
-      (variable-reads.Asked, variable-reads.Learnt, x-reads.Asked, x-reads.Learnt, slots-reads.Asked, slots-reads.Learnt, create-key-reads.Asked, create-key-reads.Learnt, create-row-below t, create-row.Post, encrypt-reads.Asked, encrypt-reads.Learnt, decode-reads.Asked, decode-reads.Learnt)
+      (variable-reads.Asked, variable-reads.Learnt, key-reads.Asked, key-reads.Learnt, slots-reads.Asked, slots-reads.Learnt, create-key-reads.Asked, create-key-reads.Learnt, create-row-below t, create-row.Post, encrypt-reads.Asked, encrypt-reads.Learnt, decode-reads.Asked, decode-reads.Learnt)
 
   create-encryption-variable-requires : create-encryption-lts.Need-variable-requires create-encryption-callees (create-encryption-at t) create-encryption.Post
   create-encryption-variable-requires c κs = search needs
 
-  create-encryption-x-requires : create-encryption-lts.Need-x-requires create-encryption-callees (create-encryption-at t) create-encryption.Post
-  create-encryption-x-requires c κs = search needs
+  create-encryption-key-requires : create-encryption-lts.Need-key-requires create-encryption-callees (create-encryption-at t) create-encryption.Post
+  create-encryption-key-requires c κs = search needs
 
   create-encryption-slots-requires : create-encryption-lts.Need-slots-requires create-encryption-callees (create-encryption-at t) create-encryption.Post
   create-encryption-slots-requires c κs = search needs
@@ -171,7 +171,7 @@ module _ (t : ℕ) where
   create-encryption-returns c =
       let asked = c .before .before .before .before .before .before .before .before .before .before .before .before .before .before .before .pre .1 in
       let first = slot _ _ 0 (c .before .before .before .before .before .before .before .before .before .before .before .before .slots .ensures) in
-      encryption-done _ _ _ (asked .0) (asked .1) _ first _ _ _ (c .before .before .before .before .before .before .before .before .before .before .before .before .before .before .variable .ensures) (c .before .before .before .before .before .before .before .before .before .before .before .before .before .x .ensures) (c .before .before .before .before .before .before .before .before .before .create-key .ensures) (c .before .before .before .before .before .before .create-row .ensures)
+      encryption-done _ _ _ (asked .0) (asked .1) _ first _ _ _ (c .before .before .before .before .before .before .before .before .before .before .before .before .before .before .variable .ensures) (c .before .before .before .before .before .before .before .before .before .before .before .before .before .key .ensures) (c .before .before .before .before .before .before .before .before .before .create-key .ensures) (c .before .before .before .before .before .before .create-row .ensures)
       (c .before .before .before .encrypt .ensures) (c .decode .ensures)
 
   abbrev create-let-callees : create-let-lts.Claims
@@ -378,7 +378,7 @@ pub +create-encryption+create-let+create-parts+create-row+create-tuple-spec :
     (create-encryption-at t)
     create-encryption.Post
     (create-encryption-variable-requires t)
-    (create-encryption-x-requires t)
+    (create-encryption-key-requires t)
     (create-encryption-slots-requires t)
     (create-encryption-create-key-requires t)
     (create-encryption-array-read-create-row t)

@@ -18,8 +18,8 @@ raw-requires c κs = search needs
 load-requires : tie.Need-load-requires
 load-requires c κs = search leaf-asks
 
-x-requires : tie.Need-x-requires
-x-requires c κs = search needs
+byte-requires : tie.Need-byte-requires
+byte-requires c κs = search needs
 
 create-constant-requires : tie.Need-create-constant-requires
 create-constant-requires c κs = search leaf-asks
@@ -79,7 +79,7 @@ create-leaf-spec =
     create-object-requires
     raw-requires
     load-requires
-    x-requires
+    byte-requires
     create-constant-requires
     y-requires
     create-opposite-requires

@@ -8,8 +8,8 @@ use Rattle.creating.proofs.create_signature.Tie as tie
 variable-requires : tie.Need-variable-requires
 variable-requires c κs = search needs
 
-x-requires : tie.Need-x-requires
-x-requires c κs = search needs
+key-requires : tie.Need-key-requires
+key-requires c κs = search needs
 
 raw-requires : tie.Need-raw-requires
 raw-requires c κs = search needs
@@ -34,7 +34,7 @@ create-signature-spec =
     tie.close
     (tie.spec
     variable-requires
-    x-requires
+    key-requires
     raw-requires
     create-key-requires
     load-requires

@@ -3,11 +3,8 @@ use borrow.Author.Needs.{needs}
 use Rattle.emission.proofs.free_raw.Statement.{statement}
 use Rattle.emission.proofs.free_raw.Tie as tie
 
-element-copy-out-is-known : tie.Need-element-copy-out-is-known
-element-copy-out-is-known c = search needs
-
-is-known-requires : tie.Need-is-known-requires
-is-known-requires c κs = search needs
+raw-known-requires : tie.Need-raw-known-requires
+raw-known-requires c κs = search needs
 
 refuse-requires : tie.Need-refuse-requires
 refuse-requires c κs = search needs
@@ -21,4 +18,4 @@ returns-2 c = search free-ways
 pub free-raw-spec : {M : Type 1} → statement M
 free-raw-spec =
     tie.close
-    (tie.spec element-copy-out-is-known is-known-requires refuse-requires returns returns-2)
+    (tie.spec raw-known-requires refuse-requires returns returns-2)

@@ -3,11 +3,11 @@ use borrow.Author.Needs.{needs}
 use Rattle.emission.proofs.read_raw.Statement.{statement}
 use Rattle.emission.proofs.read_raw.Tie as tie
 
-element-copy-out-is-known : tie.Need-element-copy-out-is-known
-element-copy-out-is-known c = search needs
+cast-if1 : tie.Need-cast-if1
+cast-if1 c = search needs
 
-is-known-requires : tie.Need-is-known-requires
-is-known-requires c κs = search needs
+raw-known-requires : tie.Need-raw-known-requires
+raw-known-requires c κs = search needs
 
 refuse-requires : tie.Need-refuse-requires
 refuse-requires c κs = search needs
@@ -25,8 +25,8 @@ pub read-raw-spec : {M : Type 1} → statement M
 read-raw-spec =
     tie.close
     (tie.spec
-    element-copy-out-is-known
-    is-known-requires
+    cast-if1
+    raw-known-requires
     refuse-requires
     returns
     returns-2

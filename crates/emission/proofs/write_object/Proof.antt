@@ -4,17 +4,17 @@ use borrow.Author.Needs.{needs}
 use Rattle.emission.proofs.write_object.Statement.{statement}
 use Rattle.emission.proofs.write_object.Tie as tie
 
-element-copy-out-objects : tie.Need-element-copy-out-objects
-element-copy-out-objects c = search needs
-
-is-known-requires : tie.Need-is-known-requires
-is-known-requires c κs = search needs
+object-known-requires : tie.Need-object-known-requires
+object-known-requires c κs = search needs
 
 refuse-requires : tie.Need-refuse-requires
 refuse-requires c κs = search needs
 
+element-copy-out-with-known : tie.Need-element-copy-out-with-known
+element-copy-out-with-known c = search needs
+
 with-known-requires : tie.Need-with-known-requires
-with-known-requires c κs = (search needs, sym (c .before .is-known .ensures) ∙ c .if1 .left)
+with-known-requires c κs = (search needs, sym (c .before .before .object-known .ensures) ∙ c .before .if1 .left)
 
 element-write-emission : tie.Need-element-write-emission
 element-write-emission c = search needs
@@ -29,9 +29,9 @@ pub write-object-spec : {M : Type 1} → statement M
 write-object-spec =
     tie.close
     (tie.spec
-    element-copy-out-objects
-    is-known-requires
+    object-known-requires
     refuse-requires
+    element-copy-out-with-known
     with-known-requires
     element-write-emission
     returns

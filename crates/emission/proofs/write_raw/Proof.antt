@@ -4,17 +4,20 @@ use borrow.Author.Needs.{needs}
 use Rattle.emission.proofs.write_raw.Statement.{statement}
 use Rattle.emission.proofs.write_raw.Tie as tie
 
-element-copy-out-raws : tie.Need-element-copy-out-raws
-element-copy-out-raws c = search needs
+cast-if1 : tie.Need-cast-if1
+cast-if1 c = search needs
 
-is-known-requires : tie.Need-is-known-requires
-is-known-requires c κs = search needs
+raw-known-requires : tie.Need-raw-known-requires
+raw-known-requires c κs = search needs
 
 refuse-requires : tie.Need-refuse-requires
 refuse-requires c κs = search needs
 
+element-copy-out-with-known : tie.Need-element-copy-out-with-known
+element-copy-out-with-known c = search needs
+
 with-known-requires : tie.Need-with-known-requires
-with-known-requires c κs = (search needs, sym (c .before .is-known .ensures) ∙ c .if2 .left)
+with-known-requires c κs = (search needs, sym (c .before .before .raw-known .ensures) ∙ c .before .if2 .left)
 
 element-write-emission : tie.Need-element-write-emission
 element-write-emission c = search needs
@@ -32,9 +35,10 @@ pub write-raw-spec : {M : Type 1} → statement M
 write-raw-spec =
     tie.close
     (tie.spec
-    element-copy-out-raws
-    is-known-requires
+    cast-if1
+    raw-known-requires
     refuse-requires
+    element-copy-out-with-known
     with-known-requires
     element-write-emission
     returns

@@ -42,7 +42,7 @@ use Rattle.patterns.proofs.raw.Reads as raw-reads
 use Rattle.patterns.proofs.slots.Reads as slots-reads
 use Rattle.patterns.proofs.tag.Reads as tag-reads
 use Rattle.patterns.proofs.variable.Reads as variable-reads
-use Rattle.patterns.proofs.x.Reads as x-reads
+use Rattle.patterns.proofs.key.Reads as key-reads
 use Rattle.matching.proofs.+match_encryption+match_let+match_parts+match_row+match_tuple.{
   statement,
 }
@@ -120,7 +120,7 @@ match-parts-μ-loop rows code₀ emission₀ row n parts k₀ code emission k = 
 module _ (t : ℕ) where
   abbrev match-encryption-callees : match-encryption-lts.Claims
   match-encryption-callees =
-      (key-form-reads.Asked, key-form-reads.Learnt, variable-reads.Asked, variable-reads.Learnt, decode-reads.Asked, decode-reads.Learnt, x-reads.Asked, x-reads.Learnt, decrypt-reads.Asked, decrypt-reads.Learnt, slots-reads.Asked, slots-reads.Learnt, match-row-below t, match-row.Post, wrong-kind-reads.Asked, wrong-kind-reads.Learnt)
+      (key-form-reads.Asked, key-form-reads.Learnt, variable-reads.Asked, variable-reads.Learnt, decode-reads.Asked, decode-reads.Learnt, key-reads.Asked, key-reads.Learnt, decrypt-reads.Asked, decrypt-reads.Learnt, slots-reads.Asked, slots-reads.Learnt, match-row-below t, match-row.Post, wrong-kind-reads.Asked, wrong-kind-reads.Learnt)
 
   match-encryption-key-form-requires : match-encryption-lts.Need-key-form-requires match-encryption-callees (match-encryption-at t) match-encryption.Post
   match-encryption-key-form-requires c κs = search needs
@@ -131,8 +131,8 @@ module _ (t : ℕ) where
   match-encryption-decode-requires : match-encryption-lts.Need-decode-requires match-encryption-callees (match-encryption-at t) match-encryption.Post
   match-encryption-decode-requires c κs = (room-le (lit≤ tt) (lit≤ tt) (leaf-room _ _ _ _ (c .before .before .before .before .before .pre .1 .0)), variable-low _ _ (c .variable .ensures))
 
-  match-encryption-x-requires : match-encryption-lts.Need-x-requires match-encryption-callees (match-encryption-at t) match-encryption.Post
-  match-encryption-x-requires c κs = search needs
+  match-encryption-key-requires : match-encryption-lts.Need-key-requires match-encryption-callees (match-encryption-at t) match-encryption.Post
+  match-encryption-key-requires c κs = search needs
 
   match-encryption-decrypt-requires : match-encryption-lts.Need-decrypt-requires match-encryption-callees (match-encryption-at t) match-encryption.Post
   match-encryption-decrypt-requires c κs = room-then (lit≤ tt) (lit≤ tt) (leaf-room _ _ _ _ (c .before .before .before .before .before .before .before .before .before .pre .1 .0)) (c .before .before .before .decode .ensures)
@@ -156,7 +156,7 @@ module _ (t : ℕ) where
   match-encryption-returns c =
       let s = c .before .before .before .before .before .before .before .before .before .before .before .before .before .before in
       let child = slot _ _ 0 (c .before .before .before .slots .ensures) in
-      encryption-done _ _ _ (s .pre .1 .0) (s .pre .1 .1) _ child _ (c .before .before .before .before .before .before .before .before .before .before .before .before .before .key-form .ensures) _ _ (c .before .before .before .before .before .before .before .before .before .variable .ensures) (c .before .before .before .before .before .x .ensures) (c .before .before .before .before .before .before .before .before .before .before .before .before .if1 .taken)
+      encryption-done _ _ _ (s .pre .1 .0) (s .pre .1 .1) _ child _ (c .before .before .before .before .before .before .before .before .before .before .before .before .before .key-form .ensures) _ _ (c .before .before .before .before .before .before .before .before .before .variable .ensures) (c .before .before .before .before .before .key .ensures) (c .before .before .before .before .before .before .before .before .before .before .before .before .if1 .taken)
       (c .before .before .before .before .before .before .before .before .decode .ensures) (c .before .before .before .before .decrypt .ensures) (c .match-row .ensures)
 
   match-encryption-returns-2 : match-encryption-lts.Need-returns-2 match-encryption-callees (match-encryption-at t) match-encryption.Post
@@ -374,7 +374,7 @@ pub +match-encryption+match-let+match-parts+match-row+match-tuple-spec : {M : Ty
     (match-encryption-key-form-requires t)
     (match-encryption-variable-requires t)
     (match-encryption-decode-requires t)
-    (match-encryption-x-requires t)
+    (match-encryption-key-requires t)
     (match-encryption-decrypt-requires t)
     (match-encryption-slots-requires t)
     (match-encryption-array-read-match-row t)

@@ -18,8 +18,8 @@ raw-requires c κs = search needs
 match-raw-requires : tie.Need-match-raw-requires
 match-raw-requires c κs = search leaf-asks
 
-x-requires : tie.Need-x-requires
-x-requires c κs = search needs
+byte-requires : tie.Need-byte-requires
+byte-requires c κs = search needs
 
 match-constant-requires : tie.Need-match-constant-requires
 match-constant-requires c κs = search leaf-asks
@@ -79,7 +79,7 @@ match-leaf-spec =
     match-object-requires
     raw-requires
     match-raw-requires
-    x-requires
+    byte-requires
     match-constant-requires
     y-requires
     match-opposite-requires

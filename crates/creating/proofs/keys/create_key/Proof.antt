@@ -4,8 +4,8 @@ use borrow.Author.Needs.{needs}
 use Rattle.creating.proofs.keys.create_key.Statement.{statement}
 use Rattle.creating.proofs.keys.create_key.Tie as tie
 
-x-requires : tie.Need-x-requires
-x-requires c κs = search needs
+key-requires : tie.Need-key-requires
+key-requires c κs = search needs
 
 key-form-requires : tie.Need-key-form-requires
 key-form-requires c κs = search needs
@@ -17,7 +17,7 @@ y-requires : tie.Need-y-requires
 y-requires c κs = search needs
 
 opposite-key-requires : tie.Need-opposite-key-requires
-opposite-key-requires c κs = ((key-low _ (c .before .before .before .before .before .before .pre .0) _ (c .before .before .before .before .before .x .ensures), second-low _ _ (c .y .ensures)), c .before .before .before .before .before .before .pre .1)
+opposite-key-requires c κs = ((key-low _ (c .before .before .before .before .before .before .pre .0) _ (c .before .before .before .before .before .key .ensures), second-low _ _ (c .y .ensures)), c .before .before .before .before .before .before .pre .1)
 
 y-requires-2 : tie.Need-y-requires-2
 y-requires-2 c κs = search needs
@@ -35,14 +35,14 @@ returns-3 : tie.Need-returns-3
 returns-3 c =
     let read = c .before .before .before .before .before in
     let n = c .before .before .before .before .match .rest in
-    key-certified _ _ _ _ _ (read .before .x .ensures) (read .key-form .ensures) _ (c .before .y2 .ensures) (read .before .before .pre .0) (n .0 .1) (n .1)
+    key-certified _ _ _ _ _ (read .before .key .ensures) (read .key-form .ensures) _ (c .before .y2 .ensures) (read .before .before .pre .0) (n .0 .1) (n .1)
     (c .certified-key .ensures _)
 
 pub create-key-spec : {M : Type 1} → statement M
 create-key-spec =
     tie.close
     (tie.spec
-    x-requires
+    key-requires
     key-form-requires
     get-variable-requires
     y-requires

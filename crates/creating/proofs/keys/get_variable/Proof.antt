@@ -3,11 +3,8 @@ use borrow.Author.Needs.{needs}
 use Rattle.creating.proofs.keys.get_variable.Statement.{statement}
 use Rattle.creating.proofs.keys.get_variable.Tie as tie
 
-element-copy-out-is-known : tie.Need-element-copy-out-is-known
-element-copy-out-is-known c = search needs
-
-is-known-requires : tie.Need-is-known-requires
-is-known-requires c κs = search needs
+object-known-requires : tie.Need-object-known-requires
+object-known-requires c κs = search needs
 
 creatable-requires : tie.Need-creatable-requires
 creatable-requires c κs = search needs
@@ -31,8 +28,7 @@ pub get-variable-spec : {M : Type 1} → statement M
 get-variable-spec =
     tie.close
     (tie.spec
-    element-copy-out-is-known
-    is-known-requires
+    object-known-requires
     creatable-requires
     create-requires
     refuse-requires

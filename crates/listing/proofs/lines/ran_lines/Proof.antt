@@ -76,7 +76,7 @@ returns c =
     let start = kinds .before .before .before .before in
     let lent =
     run-lent _ (start .pre .0) _ (kinds .kinds .ensures) (objects .objects .ensures) (messages .messages .ensures) (pairs .certificates .ensures) (terms .terms .ensures)
-    (ran .run .ensures) in
+    (ran .run .ensures .0) in
     ran-listed _ _ lent (c .before .before .ran .ensures)
 
 pub ran-lines-spec : {M : Type 1} → statement M

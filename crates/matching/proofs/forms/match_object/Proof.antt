@@ -3,11 +3,8 @@ use borrow.Author.Needs.{needs}
 use Rattle.matching.proofs.forms.match_object.Statement.{statement}
 use Rattle.matching.proofs.forms.match_object.Tie as tie
 
-element-copy-out-is-known : tie.Need-element-copy-out-is-known
-element-copy-out-is-known c = search needs
-
-is-known-requires : tie.Need-is-known-requires
-is-known-requires c κs = search needs
+object-known-requires : tie.Need-object-known-requires
+object-known-requires c κs = search needs
 
 take-requires : tie.Need-take-requires
 take-requires c κs = search needs
@@ -37,8 +34,7 @@ pub match-object-spec : {M : Type 1} → statement M
 match-object-spec =
     tie.close
     (tie.spec
-    element-copy-out-is-known
-    is-known-requires
+    object-known-requires
     take-requires
     scratch-requires
     store-requires

@@ -3,11 +3,8 @@ use borrow.Author.Needs.{needs}
 use Rattle.matching.proofs.forms.match_raw.Statement.{statement}
 use Rattle.matching.proofs.forms.match_raw.Tie as tie
 
-element-copy-out-is-known : tie.Need-element-copy-out-is-known
-element-copy-out-is-known c = search needs
-
-is-known-requires : tie.Need-is-known-requires
-is-known-requires c κs = search needs
+raw-known-requires : tie.Need-raw-known-requires
+raw-known-requires c κs = search needs
 
 compare-requires : tie.Need-compare-requires
 compare-requires c κs = search needs
@@ -25,8 +22,7 @@ pub match-raw-spec : {M : Type 1} → statement M
 match-raw-spec =
     tie.close
     (tie.spec
-    element-copy-out-is-known
-    is-known-requires
+    raw-known-requires
     compare-requires
     store-requires
     returns

@@ -4,6 +4,9 @@ use borrow.Author.Needs.{needs}
 use Rattle.patterns.proofs.kinds.kind_of.Statement.{statement}
 use Rattle.patterns.proofs.kinds.kind_of.Tie as tie
 
+cast-place : tie.Need-cast-place
+cast-place c = search needs
+
 shared-slice-read-result : tie.Need-shared-slice-read-result
 shared-slice-read-result c = search needs
 
@@ -11,7 +14,7 @@ returns : tie.Need-returns
 returns c = search needs
 
 returns-2 : tie.Need-returns-2
-returns-2 c = sym (List·getD-eq-default (c .before .args .kinds .now) 0 (c .if1 .left))
+returns-2 c = sym (List·getD-eq-default (c .before .before .args .kinds .now) 0 (c .if1 .left))
 
 pub kind-of-spec : {M : Type 1} → statement M
-kind-of-spec = tie.close (tie.spec shared-slice-read-result returns returns-2)
+kind-of-spec = tie.close (tie.spec cast-place shared-slice-read-result returns returns-2)

@@ -6,8 +6,8 @@ use borrow.Author.Needs.{needs}
 use Rattle.patterns.proofs.kinds.private_side.Statement.{statement}
 use Rattle.patterns.proofs.kinds.private_side.Tie as tie
 
-x-requires : tie.Need-x-requires
-x-requires c κs = search needs
+key-requires : tie.Need-key-requires
+key-requires c κs = search needs
 
 kind-of-requires : tie.Need-kind-of-requires
 kind-of-requires c κs = search needs
@@ -25,8 +25,8 @@ returns-3 : tie.Need-returns-3
 returns-3 c =
     let read = c .before .before in
     let form = c .before .key-form .ensures in
-    one-of-pair (read .kind-of .result) 5 6 ∙ rw (plain-else (fieldsOf (read .before .before .before .args .word)) (λ op. c .match .rest .0 .1 (form ∙ op)) (λ own. c .match .rest .1 (form ∙ own)), read .kind-of .ensures, read .before .x .ensures)
+    one-of-pair (read .kind-of .result) 5 6 ∙ rw (plain-else (fieldsOf (read .before .before .before .args .word)) (λ op. c .match .rest .0 .1 (form ∙ op)) (λ own. c .match .rest .1 (form ∙ own)), read .kind-of .ensures, read .before .key .ensures)
 
 pub private-side-spec : {M : Type 1} → statement M
 private-side-spec =
-    tie.close (tie.spec x-requires kind-of-requires key-form-requires returns returns-2 returns-3)
+    tie.close (tie.spec key-requires kind-of-requires key-form-requires returns returns-2 returns-3)

@@ -3,12 +3,12 @@ use Rattle.patterns.specs.Row.{fieldsOf}
 use Rattle.patterns.proofs.row.y.Statement.{statement}
 use Rattle.patterns.proofs.row.y.Tie as tie
 
-cast-result : tie.Need-cast-result
-cast-result c = search needs
+cast-t4 : tie.Need-cast-t4
+cast-t4 c = search needs
 
 returns : tie.Need-returns
 unfolding fieldsOf
 returns c = search needs
 
 pub y-spec : {M : Type 1} → statement M
-y-spec = tie.close (tie.spec cast-result returns)
+y-spec = tie.close (tie.spec cast-t4 returns)

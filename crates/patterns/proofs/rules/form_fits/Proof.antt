@@ -23,8 +23,8 @@ key-form-requires c κs = search needs
 array-read-unused-3 : tie.Need-array-read-unused-3
 array-read-unused-3 c = search needs
 
-x-requires : tie.Need-x-requires
-x-requires c κs = search needs
+byte-requires : tie.Need-byte-requires
+byte-requires c κs = search needs
 
 array-read-unused-4 : tie.Need-array-read-unused-4
 array-read-unused-4 c = search needs
@@ -50,29 +50,30 @@ array-read-key c = search needs
 key-form-requires-2 : tie.Need-key-form-requires-2
 key-form-requires-2 c κs = search needs
 
-x-requires-2 : tie.Need-x-requires-2
-x-requires-2 c κs = search needs
+key-requires : tie.Need-key-requires
+key-requires c κs = search needs
 
 all-below-requires : tie.Need-all-below-requires
 all-below-requires c κs = search needs
 
 returns : tie.Need-returns
 returns c =
-    let last = c .before .before .before .before in
-    let first = last .before .before .before .before .before .before .before in
+    let last = c .before .before .before .before .before in
+    let middle = last .before .before .before .before in
+    let first = middle .before .before .before .before in
     simp (
       c .all-below .ensures,
-      c .before .x2 .ensures,
-      c .before .before .key-form2 .ensures,
-      c .before .before .before .spare .ensures,
+      c .before .before .key .ensures,
+      c .before .before .before .key-form2 .ensures,
+      c .before .before .before .before .spare .ensures,
       last .rest-zero .ensures,
-      last .before .raw .ensures,
-      last .before .before .y .ensures,
-      last .before .before .before .x .ensures,
-      last .before .before .before .before .key-form .ensures,
-      last .before .before .before .before .before .variable .ensures,
-      last .before .before .before .before .before .before .slots .ensures,
-      first .count .ensures,
+      last .before .before .raw .ensures,
+      middle .y .ensures,
+      middle .before .byte .ensures,
+      middle .before .before .key-form .ensures,
+      first .variable .ensures,
+      first .before .slots .ensures,
+      first .before .before .count .ensures,
     )
 
 pub form-fits-spec : {M : Type 1} → statement M
@@ -86,7 +87,7 @@ form-fits-spec =
     array-read-unused-2
     key-form-requires
     array-read-unused-3
-    x-requires
+    byte-requires
     array-read-unused-4
     y-requires
     array-read-unused-5
@@ -95,6 +96,6 @@ form-fits-spec =
     spare-requires
     array-read-key
     key-form-requires-2
-    x-requires-2
+    key-requires
     all-below-requires
     returns)

@@ -1,0 +1,147 @@
+// Run over a table that is lent as bytes.
+ghost use mathlib.Core.Path.{_≡_};
+ghost use Prim.Native.Nat.{_*_, _/_, _≤_};
+ghost use lib.ListN.{length};
+ghost use Rattle.word.specs.Bytes.{elements};
+ghost use Rattle.numbers.specs.Limits.{mostTermRows};
+ghost use Rattle.calls.specs.Run.{run};
+ghost use Rattle.looking.specs.Found.{usedWith};
+ghost use Rattle.lending.specs.Entries.{fewRows, rowsSpelled};
+use lending::arrays;
+use lending::arrays::FEW_ROWS;
+use numbers::limits::MESSAGE_CELLS;
+use numbers::limits::VARIABLES;
+use running::Outcome;
+
+// The rows are room for the table.
+fn over_rows(
+    kinds: &[u8],
+    objects: [u16; VARIABLES],
+    messages: [u16; MESSAGE_CELLS],
+    certificates: &[u64],
+    accumulator: u32,
+    terms: &mut [u8],
+    rows: &mut [u64],
+    counter: u32,
+    words: &[u32],
+) -> Outcome
+    requires { ⌜ (length (now terms) ≡ 8 * length (now rows)) × (length (now rows) ≤ mostTermRows) ⌝ }
+    ensures { λ r. ⌜ (let o = run (record { kinds = now (kinds .entry); objects = objects; messages = messages; certificates = now (certificates .entry); accumulator = accumulator; terms = elements 8 (now (terms .entry)); counter = counter }) (now (words .entry)) in
+        (record { answer = r .answer; objects = r .objects; messages = r .messages; accumulator = r .accumulator; terms = now (terms .exit); counter = r .counter } ≡ rowsSpelled o)
+        × (r .used ≡ usedWith (o .answer) (o .terms))) ⌝ }
+{
+    word::unpack_words(terms, rows);
+    let left = running::run_cells(
+        kinds,
+        objects,
+        messages,
+        certificates,
+        accumulator,
+        rows,
+        counter,
+        words,
+    );
+    word::pack_words(rows, terms);
+    left
+}
+
+fn over_few(
+    kinds: &[u8],
+    objects: [u16; VARIABLES],
+    messages: [u16; MESSAGE_CELLS],
+    certificates: &[u64],
+    accumulator: u32,
+    terms: &mut [u8],
+    counter: u32,
+    words: &[u32],
+) -> Outcome
+    requires { ⌜ (length (now terms) ≡ 8 * (length (now terms) / 8)) × (length (now terms) / 8 ≤ fewRows) ⌝ }
+    ensures { λ r. ⌜ (let o = run (record { kinds = now (kinds .entry); objects = objects; messages = messages; certificates = now (certificates .entry); accumulator = accumulator; terms = elements 8 (now (terms .entry)); counter = counter }) (now (words .entry)) in
+        (record { answer = r .answer; objects = r .objects; messages = r .messages; accumulator = r .accumulator; terms = now (terms .exit); counter = r .counter } ≡ rowsSpelled o)
+        × (r .used ≡ usedWith (o .answer) (o .terms))) ⌝ }
+{
+    let lent = terms.len() / 8;
+    let mut rows = arrays::few_rows();
+    over_rows(
+        kinds,
+        objects,
+        messages,
+        certificates,
+        accumulator,
+        terms,
+        &mut rows[..lent],
+        counter,
+        words,
+    )
+}
+
+fn over_many(
+    kinds: &[u8],
+    objects: [u16; VARIABLES],
+    messages: [u16; MESSAGE_CELLS],
+    certificates: &[u64],
+    accumulator: u32,
+    terms: &mut [u8],
+    counter: u32,
+    words: &[u32],
+) -> Outcome
+    requires { ⌜ (length (now terms) ≡ 8 * (length (now terms) / 8)) × (length (now terms) / 8 ≤ mostTermRows) ⌝ }
+    ensures { λ r. ⌜ (let o = run (record { kinds = now (kinds .entry); objects = objects; messages = messages; certificates = now (certificates .entry); accumulator = accumulator; terms = elements 8 (now (terms .entry)); counter = counter }) (now (words .entry)) in
+        (record { answer = r .answer; objects = r .objects; messages = r .messages; accumulator = r .accumulator; terms = now (terms .exit); counter = r .counter } ≡ rowsSpelled o)
+        × (r .used ≡ usedWith (o .answer) (o .terms))) ⌝ }
+{
+    let lent = terms.len() / 8;
+    let mut rows = arrays::no_rows();
+    over_rows(
+        kinds,
+        objects,
+        messages,
+        certificates,
+        accumulator,
+        terms,
+        &mut rows[..lent],
+        counter,
+        words,
+    )
+}
+
+// A small table is run in a small array: to clear a large one takes longer than most runs.
+pub fn over_table(
+    kinds: &[u8],
+    objects: [u16; VARIABLES],
+    messages: [u16; MESSAGE_CELLS],
+    certificates: &[u64],
+    accumulator: u32,
+    terms: &mut [u8],
+    counter: u32,
+    words: &[u32],
+) -> Outcome
+    requires { ⌜ (length (now terms) ≡ 8 * (length (now terms) / 8)) × (length (now terms) / 8 ≤ mostTermRows) ⌝ }
+    ensures { λ r. ⌜ (let o = run (record { kinds = now (kinds .entry); objects = objects; messages = messages; certificates = now (certificates .entry); accumulator = accumulator; terms = elements 8 (now (terms .entry)); counter = counter }) (now (words .entry)) in
+        (record { answer = r .answer; objects = r .objects; messages = r .messages; accumulator = r .accumulator; terms = now (terms .exit); counter = r .counter } ≡ rowsSpelled o)
+        × (r .used ≡ usedWith (o .answer) (o .terms))) ⌝ }
+{
+    if terms.len() <= 8 * FEW_ROWS {
+        over_few(
+            kinds,
+            objects,
+            messages,
+            certificates,
+            accumulator,
+            terms,
+            counter,
+            words,
+        )
+    } else {
+        over_many(
+            kinds,
+            objects,
+            messages,
+            certificates,
+            accumulator,
+            terms,
+            counter,
+            words,
+        )
+    }
+}

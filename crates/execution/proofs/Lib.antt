@@ -1,0 +1,6 @@
+-- Laws of the steps of a run.
+pub mod ClearLaws
+pub mod CellLaws
+pub mod WordLaws
+pub mod FinishLaws
+pub mod GoingLaws

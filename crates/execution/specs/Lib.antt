@@ -1,0 +1,2 @@
+-- Steps over the lent slices.
+pub mod Steps

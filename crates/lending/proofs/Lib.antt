@@ -1,0 +1,5 @@
+-- Laws of what C lends.
+pub mod FrontLaws
+pub mod ChoiceLaws
+pub mod CompileLaws
+pub mod RunLaws

@@ -1,0 +1,2 @@
+-- Laws of what run looks at.
+pub mod LookLaws

@@ -1,0 +1,2 @@
+-- What run finds before it steps.
+pub mod Found

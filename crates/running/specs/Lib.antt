@@ -1,2 +1,0 @@
--- Run over the lent slices.
-pub mod Steps
