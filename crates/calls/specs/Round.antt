@@ -59,7 +59,7 @@ received x = record {
 -- OUTPUT: the accumulator is the answer; the message is taken, and the next round waits for its own
 unfoldable pub answered : Session → State rowWorld → Session
 answered session s = record {
-  used = s .stores .memory .used;
+  used = usedRows (s .stores .memory .rows);
   counter = s .stores .memory .counter;
   round = suc (session .round);
   message = unset;
