@@ -40,12 +40,13 @@ fn session_after(session: Session, registers: Registers) -> Session
     ensures { λ r. ⌜ r ≡ sessionAfter session registers ⌝ }
 {
     let row = registers.accumulator;
+    let sent = row.0 as u32;
     Session {
         used: registers.used as u32,
         counter: registers.counter,
         round: session.round + 1,
         message: 65535,
-        answer: row.0 as u32,
+        answer: sent,
     }
 }
 
