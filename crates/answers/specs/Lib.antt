@@ -1,3 +1,4 @@
 -- "Numbers that come back", and the order of checks.
 pub mod Numbers
+pub mod RoundNumbers
 pub mod First

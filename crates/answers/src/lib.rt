@@ -1,4 +1,8 @@
 // What a call answers, one enum for each kind of call, and the numbers that it comes back as.
+mod rounds;
+
+pub use rounds::Rounded;
+pub use rounds::Session;
 ghost use mathlib.Core.Path.{_≡_};
 ghost use Prim.Native.Nat.{_≤_};
 ghost use Rattle.answers.specs.Numbers.{reasonNumber, compiledNumber, compiledPlace, ranNumber, ranPlace, ranReason};

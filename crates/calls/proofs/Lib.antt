@@ -1,6 +1,7 @@
 -- The theorems, for what is lent.
 pub mod Cases
 pub mod CompileLaws
+pub mod FrameLaws
 pub mod SetCells
 pub mod CompiledWords
 pub mod Product

@@ -2,5 +2,7 @@
 pub mod Compile
 pub mod Run
 pub mod Valid
+pub mod Frame
+pub mod Round
 pub mod Cases
 pub mod Orders

@@ -17,7 +17,7 @@ use Rattle.theory.specs.Machine.{step}
 use Rattle.numbers.specs.Kinds.{kindIn}
 use Rattle.calls.specs.Run.{Lent, RunOutcome}
 use Rattle.calls.specs.Valid.{Valid}
-use Rattle.numbers.specs.Limits.{mostCodeWords}
+use Rattle.numbers.specs.Limits.{mostRoundWords}
 use Rattle.machine.specs.Machine.{Slices, stateAt, Agrees}
 use Rattle.machine.specs.declared.Registers.{Registers}
 use Rattle.machine.specs.declared.Step.{Step}
@@ -59,7 +59,7 @@ pub record Ready (x : Lent) (used : ℕ) (code : List ℕ) : Type 0 where
   pub valid : Valid x
   pub counted : used ≡ usedRows (x .terms)
   pub good-words : badWord (kindIn (x .kinds)) code ≡ none
-  pub few-words : length code ≤ mostCodeWords
+  pub few-words : length code ≤ mostRoundWords
 
 -- a word is done as the step of its instruction
 abbrev pub DoesWord : (ℕ → ℕ) → ℕ → ℕ → Registers → Slices → Step → Slices → Type 0

@@ -34,3 +34,11 @@ mostParts = 4
 -- the name counter is 0..65,536
 abbrev pub mostNames : ℕ
 mostNames = 65536
+
+-- the rounds of a role
+abbrev pub mostRounds : ℕ
+mostRounds = 16
+
+-- INPUT, two halves and OUTPUT
+abbrev pub mostRoundWords : ℕ
+mostRoundWords = 2 + mostCodeWords + mostCodeWords

@@ -16,3 +16,7 @@ pub const MOST_CERTIFICATES: usize = 32;
 pub const MOST_PARTS: usize = 4;
 // Names are counted from 0; the counter may stand at this number, where no name is left.
 pub const MOST_NAMES: u32 = 65536;
+// The rounds of a role, and the words of a round: INPUT, two halves and OUTPUT.
+pub const MOST_ROUNDS: u32 = 16;
+
+pub const MOST_ROUND_WORDS: usize = 1538;

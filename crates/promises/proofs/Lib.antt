@@ -22,6 +22,7 @@ pub mod VocabularyLaws
 pub mod LookLaws
 pub mod MeaningLaws
 pub mod Demand1
+pub mod RoundLaws
 pub mod ListingLaws
 pub mod Printed
 pub mod Example

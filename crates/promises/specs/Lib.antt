@@ -12,6 +12,7 @@ pub mod Meanings
 pub mod Demand3
 pub mod Demand2
 pub mod Demand1
+pub mod Rounds
 pub mod Listing
 pub mod Example
 pub mod ForC

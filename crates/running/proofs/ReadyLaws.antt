@@ -18,4 +18,4 @@ module _ {x : Lent} {code : List ℕ} (p : Passed x code) where
       ⊎-elim (λ e. omega (arith, e)) (λ l. omega (arith, l, used-rows (x .terms) .inside, v .within .terms)) (v .stores .held)
 
   pub ready : {used : ℕ} → used ≡ usedRows (x .terms) → Ready x used code
-  ready counted = record { valid = passed-valid p; counted = counted; good-words = p .words; few-words = run-within x code .0 (p .lengths) .1 }
+  ready counted = record { valid = passed-valid p; counted = counted; good-words = p .words; few-words = omega (arith, run-within x code .0 (p .lengths) .1) }

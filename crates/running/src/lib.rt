@@ -12,7 +12,7 @@ use numbers::TermRow;
 use numbers::limits::MESSAGE_CELLS;
 use numbers::limits::VARIABLES;
 
-mod cells;
+pub mod cells;
 
 // The answer, with the used rows, accumulator and name counter afterwards; used rows are 0 with answer 1.
 pub struct Ended {

@@ -17,6 +17,7 @@ pub mod MatchingRules
 pub mod CreatingRules
 pub mod InLimits
 pub mod Places
+pub mod InTurn
 pub mod Fitting
 pub mod Related
 pub mod Refinement

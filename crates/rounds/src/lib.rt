@@ -1,0 +1,117 @@
+// A round of a role on a session record.
+ghost use mathlib.Core.Path.{_≡_};
+ghost use Rattle.calls.specs.Round.{round, takenOf};
+use answers::Rounded;
+use answers::Session;
+use checks::Finding;
+
+mod checks;
+mod steps;
+mod words;
+
+// A round's answer, and the session after it.
+pub struct RoundEnded {
+    pub session: Session,
+    pub answer: Rounded,
+}
+
+// The answer that was waiting, and the session without it.
+pub struct Taken {
+    pub session: Session,
+    pub answer: u32,
+}
+
+pub fn take_of(session: Session) -> Taken
+    ensures { λ r. ⌜ record { session = r .session; answer = r .answer } ≡ takenOf session ⌝ }
+{
+    let answer = session.answer;
+    let left = Session {
+        used: session.used,
+        counter: session.counter,
+        round: session.round,
+        message: session.message,
+        answer: 65535,
+    };
+    Taken {
+        session: left,
+        answer: answer,
+    }
+}
+
+pub fn round_of(
+    session: Session,
+    rounds: u32,
+    kinds: &[u8],
+    objects: &mut [u16],
+    messages: &mut [u16],
+    certificates: &[u64],
+    terms: &mut [u64],
+    code: &[u32],
+) -> RoundEnded
+    ensures { λ r. ⌜ record { answer = r .answer; session = r .session; objects = now (objects .exit); messages = now (messages .exit); terms = now (terms .exit) }
+        ≡ round (record { session = session; rounds = rounds; kinds = now (kinds .entry); objects = now (objects .entry); messages = now (messages .entry); certificates = now (certificates .entry); terms = now (terms .entry) }) (now (code .entry)) ⌝ }
+{
+    let found = checks::look(
+        session,
+        rounds,
+        kinds,
+        objects,
+        messages,
+        certificates,
+        terms,
+        code,
+    );
+    match found {
+        Finding::Refused(refusal) => RoundEnded {
+            session: session,
+            answer: refusal,
+        },
+        Finding::Accepted(used) => steps::play(
+            session,
+            rounds,
+            used,
+            kinds,
+            objects,
+            messages,
+            certificates,
+            terms,
+            code,
+        ),
+    }
+}
+
+// The same in place.
+pub fn take(session: &mut Session) -> u32
+    ensures { λ r. ⌜ record { session = now (session .exit); answer = r } ≡ takenOf (now (session .entry)) ⌝ }
+{
+    let t = take_of(*session);
+    *session = t.session;
+    t.answer
+}
+
+pub fn round(
+    session: &mut Session,
+    rounds: u32,
+    kinds: &[u8],
+    objects: &mut [u16],
+    messages: &mut [u16],
+    certificates: &[u64],
+    terms: &mut [u64],
+    code: &[u32],
+) -> Rounded
+    ensures { λ r. ⌜ record { answer = r; session = now (session .exit); objects = now (objects .exit); messages = now (messages .exit); terms = now (terms .exit) }
+        ≡ round (record { session = now (session .entry); rounds = rounds; kinds = now (kinds .entry); objects = now (objects .entry); messages = now (messages .entry); certificates = now (certificates .entry); terms = now (terms .entry) }) (now (code .entry)) ⌝ }
+{
+    let ended = round_of(
+        *session,
+        rounds,
+        kinds,
+        objects,
+        messages,
+        certificates,
+        terms,
+        code,
+    );
+    *session = ended.session;
+    ended.answer
+}
