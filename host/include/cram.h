@@ -4,7 +4,12 @@
  * cram_compile turns a message pattern into code, for matching a message or for creating one.
  * cram_run runs code over a table of abstract terms.
  *
- * What holds for both calls
+ * A greeting is several rounds: read a message, match it, create the answer, send it. For these there are
+ * cram_compile_role, which turns the patterns of a whole role into code,
+ * cram_round, which runs one round of it over a session record, and
+ * cram_take, which takes the answer out of the record.
+ *
+ * What holds for all calls
  *
  * - They take any input, end, and use no heap, no global and no file. They may be called from several threads
  *   over different slices.
@@ -14,8 +19,9 @@
  *   memory that was lent. A slice of length 0 is never read or written, so any other pointer will do for it.
  * - Slices given as const are only read. Nothing is kept after the return.
  * - With any answer but 0 every lent byte is as it was before the call.
- * - Stack: cram_compile takes at most CRAM_COMPILE_STACK_BYTES, cram_run at most CRAM_RUN_STACK_BYTES, each with all
- *   its frames.
+ * - Stack: cram_compile takes at most CRAM_COMPILE_STACK_BYTES, cram_run at most CRAM_RUN_STACK_BYTES,
+ *   cram_compile_role at most CRAM_ROLE_STACK_BYTES, cram_round and cram_take at most CRAM_ROUND_STACK_BYTES, each with
+ *   all its frames.
  *
  * Elements; fields are listed from the most significant bit down, unused fields are zero
  *
@@ -50,6 +56,15 @@
  *     10 OPPOSITE K k     11 KEY OF           12 MATCH r          13 ENCRYPT v
  *     14 DECRYPT v        15 SIGN v           16 VERIFY v r       17 HASH h
  *   For 8 and 9, B is the first of n consecutive message cells, n is at most 4 and B + n at most 256.
+ *   A round's code begins with INPUT, the word 0x00000000 (operation 0), and ends with OUTPUT, the word 0x08000000
+ *   (operation 1). They stand nowhere else, and cram_run refuses both.
+ * - Session record, 20 bytes: five numbers of 4 bytes each, high byte first, in this order.
+ *     bytes 0..3    used      the table's used rows
+ *     bytes 4..7    counter   the next name
+ *     bytes 8..11   round     rounds done so far; the round to be run, from 0
+ *     bytes 12..15  message   the message waiting to be read: a used row, or 65535 if none waits
+ *     bytes 16..19  answer    the answer waiting to be sent: a used row, or 65535 if none waits
+ *   A new record has the table's used rows and counter, round 0, and 65535 twice.
  *
  * Matching a message in short, where the slices are as cram_compile and cram_run below have them:
  *
@@ -62,6 +77,21 @@
  *
  * The named cells are the first 128 bytes of the message cells. For creating, pass 1 and CRAM_UNSET as the message; the
  * created message is then r.accumulator.
+ *
+ * A role of three rounds in short; cell and word read a number of 2 and of 4 bytes, put_word writes one of 4:
+ *
+ *   struct cram_role c = cram_compile_role(rows, 8 * all_rows, counts, 6, kinds, 64, objects, 128, messages, 128,
+ *                                          ends, 6, code, 4 * CRAM_ROLE_WORDS);
+ *   while (c.number == CRAM_DONE && word(session + 8) < 3) {
+ *       uint32_t round = word(session + 8);
+ *       size_t from = round == 0 ? 0 : cell(ends + 2 * round - 2), to = cell(ends + 2 * round);
+ *       ... wait for a message, put_word(session + 12, its row) ...
+ *       struct cram_rounded r = cram_round(session, 20, 3, kinds, 64, objects, 128, messages, 512,
+ *                                          certificates, 8 * certified, terms, 32768,
+ *                                          code + 4 * from, 4 * (to - from));
+ *       if (r.number == CRAM_DONE) { ... send the row cram_take(session, 20).answer ... }
+ *       else { ... the message still waits and nothing has changed; put_word(session + 12, another message) ... }
+ *   }
  */
 #ifndef CRAM_H
 #define CRAM_H
@@ -81,15 +111,22 @@ extern "C" {
 #define CRAM_CERTIFICATES 32u    /* at most */
 #define CRAM_COUNTER 65536u      /* the name counter's highest value; CREATE then finds no name */
 #define CRAM_UNSET 65535u        /* a cell or an accumulator that is unset */
+#define CRAM_ROUNDS 16u          /* at most, and at least 1, in a role; each has a matching and a creating half */
+#define CRAM_ROUND_WORDS 1538u   /* at most, and at least 2, lent to a round; compiled rounds have 4 to 1536 */
+#define CRAM_ROLE_WORDS 24576u   /* compiled roles never have more */
+#define CRAM_SESSION_BYTES 20u   /* the session record */
 #define CRAM_COMPILE_STACK_BYTES 16384u /* see above */
 #define CRAM_RUN_STACK_BYTES 65536u     /* see above */
+#define CRAM_ROLE_STACK_BYTES 32768u    /* see above */
+#define CRAM_ROUND_STACK_BYTES 65536u   /* see above */
 
-/* What a number says, in both calls. */
+/* What a number says, in all calls; a round gives all numbers of a run. */
 enum {
     CRAM_DONE = 0,           /* place: words written, or words run */
-    CRAM_LIMIT = 1,          /* a length, a count, the direction or the counter is outside its limit; place 0 */
+    CRAM_LIMIT = 1,          /* a length, a count, the direction, the counter, the rounds or the record's used rows are
+                                outside their limit; place 0 */
     CRAM_BAD_TERM = 2,       /* run: a term row breaks a rule; place: the lowest such row */
-    CRAM_BAD_STORE = 3,      /* a kind above 10, or a bad cell, certificate or accumulator; place 0 */
+    CRAM_BAD_STORE = 3,      /* a kind above 10, or a bad cell, certificate, accumulator, message or answer; place 0 */
     CRAM_BAD_PATTERN = 4,    /* compile: a bad pattern row; place: see cram_compile */
     CRAM_WRONG_KIND = 5,     /* compile: a variable of the wrong kind; place: the lowest such pattern row */
     CRAM_WRITTEN_SET = 6,    /* compile: a variable would be written while set; place: the pattern row */
@@ -97,7 +134,10 @@ enum {
     CRAM_SHORT = 8,          /* compile: the code slice is too short; place: words needed */
     CRAM_BAD_WORD = 9,       /* run: a bad code word; place: the lowest such word */
     CRAM_STUCK = 10,         /* run: the word at this place cannot be run; the reason says why */
-    CRAM_NO_ROOM = 11        /* run: a new row is needed and none is unused, or CREATE at counter 65536; place: word */
+    CRAM_NO_ROOM = 11,       /* run: a new row is needed and none is unused, or CREATE at counter 65536; place: word */
+    CRAM_NO_MESSAGE = 12,    /* round: no message waits; place 0 */
+    CRAM_NOT_TAKEN = 13,     /* round: the last answer has not been taken; place 0 */
+    CRAM_ROLE_ENDED = 14     /* round: all rounds of the role are done; place 0 */
 };
 
 /* Why a run is stuck. The reason is 0 with every other number. */
@@ -189,6 +229,110 @@ struct cram_ran cram_run(const uint8_t *kinds, size_t kinds_len,
                          uint8_t *terms, size_t terms_len,
                          uint32_t counter,
                          const uint8_t *code, size_t code_len);
+
+struct cram_role {
+    uint32_t number;
+    uint32_t place;
+    uint32_t half; /* the half that is refused, 0 to 31; 0 with numbers 0, 3 and 8 and where no half is at fault */
+};
+
+struct cram_rounded {
+    uint32_t number;
+    uint32_t place;
+    uint32_t reason;
+};
+
+struct cram_taken {
+    uint32_t number; /* 0, or 1 where the record has not 20 bytes */
+    uint32_t answer; /* the answer that waited, 65535 where none did or the number is 1 */
+};
+
+/*
+ * Compiles a role of 1 to 16 rounds. Round i has two halves: number 2i matches the message, 2i + 1 creates the answer.
+ *
+ *   rows      the pattern rows of all halves, one half after another, each with its root last
+ *   counts    1 byte a half, two a round (2 to 32 bytes): how many rows the half has, 1 to 96
+ *   kinds     64 kinds (64 bytes), for the whole role
+ *   objects   64 object cells (128 bytes), as they are when the role begins
+ *   named     64 named message cells (128 bytes), likewise
+ *   ends      2 bytes a round: the words up to the round's end. Round i is the words ends[i-1] to ends[i] - 1 of the
+ *             code, the first round from word 0
+ *   code      any number of words; the first `place` words are written where the number is 0, later ones stay
+ *
+ * A round's code is INPUT, the matching code, the creating code, OUTPUT. Each half is compiled as cram_compile does it,
+ * for the object and named cells that are set when the role begins or written by an earlier half; scratch starts again
+ * at 64. Of the cells it matters only which are set: the code serves all stores with the same cells set.
+ * The call's own 1 is looked at first, then half after half 1, 3, 4, 5, then 6 and 7 in the order of the code, and
+ * last 8. So a 6 of half 1 comes before a bad row count of half 2.
+ *   0   place: words written, with INPUT and OUTPUT
+ *   1   the call's own (half 0): a slice that is not whole elements; counts that are not 2 to 32 or not even; not 64
+ *       kinds, object or named cells; ends that are not one number a round; counts whose sum is not the rows lent.
+ *       Or a half with 0 rows or more than 96
+ *   3   a kind above 10, or a set object cell whose kind is 0
+ *   4, 5, 6, 7   as cram_compile; place: a row of the half, from 0
+ *   8   place: words needed for the whole role; nothing is written
+ * With any number but 0 ends and code are as they were.
+ */
+struct cram_role cram_compile_role(const uint8_t *rows, size_t rows_len,
+                                   const uint8_t *counts, size_t counts_len,
+                                   const uint8_t *kinds, size_t kinds_len,
+                                   const uint8_t *objects, size_t objects_len,
+                                   const uint8_t *named, size_t named_len,
+                                   uint8_t *ends, size_t ends_len,
+                                   uint8_t *code, size_t code_len);
+
+/*
+ * Runs one round of a role: INPUT reads the message waiting in the record, OUTPUT puts the answer there.
+ *
+ *   session       the record (20 bytes)
+ *   rounds        the rounds of the role, 1 to 16
+ *   kinds         64 kinds (64 bytes)
+ *   objects       64 object cells (128 bytes); a set cell's row has the variable's kind
+ *   messages      256 message cells (512 bytes): the named ones and then scratch
+ *   certificates  0 to 32 certificates (0 to 256 bytes)
+ *   terms         0 to 4096 term rows (0 to 32768 bytes): the used ones, and zero rows as room for new ones
+ *   code          the round's own words, 2 to 1538 (8 to 6152 bytes)
+ *
+ * The caller puts the message before the round and takes the answer after it, by cram_take or by writing 65535 there.
+ * Which round's code is lent is up to the caller; that the set cells are those compiled for is not checked.
+ * A round that is done writes objects, messages and new rows in place, and in the record: used and counter as the run
+ * left them, round + 1, message 65535, and the answer, which is the created message. Scratch is not cleared.
+ * With any number but 0 all five fields of the record, all cells and all rows are as they were; the message still
+ * waits.
+ * The numbers are looked at in the order 1, 2, 3, 9, 14, 13, 12, and then word after word:
+ *   0    place: words of the round, all of them
+ *   1    a length as above is not kept; rounds are not 1 to 16; the counter is above 65536; used is not the number of
+ *        rows before the first zero row of the table
+ *   2    as cram_run
+ *   3    as cram_run, with the message for its accumulator; or an answer that is neither 65535 nor a used row. A
+ *        message or an answer above 65535 is bad whatever its low bits, also where the role has ended
+ *   9    place: the lowest bad word: a first word that is not INPUT, a last that is not OUTPUT, or one between them
+ *        that cram_run refuses, as it does INPUT and OUTPUT
+ *   14   the record's round is not below rounds
+ *   13   an answer waits
+ *   12   no message waits
+ *   10   place: the word, where INPUT is word 0; the reason says why
+ *   11   place: the word
+ *
+ * Two records over one table: a round adds rows and takes names that the other record does not know of. Before a
+ * round, write the used rows and the counter of the record that was last into this one's bytes 0..7, or they are stale:
+ * a stale used is refused with 1, and where only the counter is stale the answer is 2, at the lowest row whose name is
+ * not below it.
+ */
+struct cram_rounded cram_round(uint8_t *session, size_t session_len,
+                               uint32_t rounds,
+                               const uint8_t *kinds, size_t kinds_len,
+                               uint8_t *objects, size_t objects_len,
+                               uint8_t *messages, size_t messages_len,
+                               const uint8_t *certificates, size_t certificates_len,
+                               uint8_t *terms, size_t terms_len,
+                               const uint8_t *code, size_t code_len);
+
+/*
+ * Takes the answer that waits: hands it back and puts 65535 in its place. Nothing else is looked at or changed: a
+ * number that is no row, also one above 65535, comes back as it is.
+ */
+struct cram_taken cram_take(uint8_t *session, size_t session_len);
 
 #ifdef __cplusplus
 }

@@ -81,10 +81,16 @@ impl Player {
         Player { compiled, lent }
     }
 
-    /// Takes up the code of the round whose turn it is: the first or the last where there is no such round.
+    /// Takes up the code of the round whose turn it is, or of the last where the role has ended.
     pub fn turn_to_code(&mut self) {
         let round = (self.lent.field(Field::Round) as usize).min(self.compiled.ends.len() / 2 - 1);
         self.lent.code = round_part(&self.compiled.code, &self.compiled.ends, round).to_vec();
+    }
+
+    /// Takes up the code of the round whose turn it is, and puts the message that it is to read.
+    pub fn put_message(&mut self, message: u32) {
+        self.turn_to_code();
+        self.lent.put(Field::Message, message);
     }
 
     /// Brings the record up to date with a table on which somebody else was last.

@@ -13,7 +13,7 @@ use crate::plain::code::{
 use crate::plain::patterns::Form;
 use crate::plain::terms::{atom, AGENT, BYTE, ENCRYPTION, NONCE, PRIVATE, PUBLIC, TUPLE};
 use crate::roles::{RoleCompiled, RoleEngine, Rounded, Taken};
-use crate::worked;
+use crate::{plain, worked};
 
 /// Tries each case.
 pub fn hold(engine: &RoleEngine) {
@@ -73,6 +73,27 @@ pub fn needham_schroeder() -> Game {
     Game { roles: [first, second], rows: 14 }
 }
 
+/// A's second round before it is run: it matches {N_A, N_B} and creates {N_B}.
+pub fn second_of_initiator() -> RoundInput {
+    let game = needham_schroeder();
+    let [mut first, mut second] = game.roles.map(|role| {
+        let mut compiled = role.lend_compile(ROLE_WORDS);
+        assert_eq!(compiled.call(&plain::ROLES).number, 0);
+        Player::new(&role, game.rows, compiled)
+    });
+    let answer = |player: &mut Player, message| {
+        player.put_message(message);
+        assert_eq!(player.lent.call(&plain::ROLES).number, 0);
+        player.lent.take(&plain::ROLES).answer
+    };
+    let message = answer(&mut first, 1);
+    second.turn_to_table(&first.lent);
+    let message = answer(&mut second, message);
+    first.turn_to_table(&second.lent);
+    first.put_message(message);
+    first.lent
+}
+
 /// a2, e5:E(k4:keyOf(a2), t6:[a0, n3]); e7:E(K1, t8:[n3, n9]), e10:E(k4, n9); c11:1, a0
 fn initiator() -> Vec<Vec<Form>> {
     vec![
@@ -124,15 +145,13 @@ fn first_round(role: &Role, engine: &RoleEngine) -> RoundInput {
     let mut compiled = role.lend_compile(ROLE_WORDS);
     assert_eq!(compiled.call(engine).number, 0);
     let mut player = Player::new(role, 16, compiled);
-    player.turn_to_code();
-    player.lent.put(Field::Message, role.stores.accumulator as u32);
+    player.put_message(role.stores.accumulator as u32);
     player.lent
 }
 
 /// A round with a message; the answer, and then the record, have to be these.
 fn turn(engine: &RoleEngine, player: &mut Player, message: u32, answer: Rounded, record: [u32; 5]) {
-    player.turn_to_code();
-    player.lent.put(Field::Message, message);
+    player.put_message(message);
     assert_eq!(player.lent.call(engine), answer);
     assert_eq!([0, 1, 2, 3, 4].map(|field| word_at(&player.lent.session, field)), record);
 }

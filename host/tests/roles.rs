@@ -1,12 +1,11 @@
 //! Whole roles: the second implementation against worked cases, compile and run half after half, and the archive against
 //! it on inputs made from seeds. Each test also asserts that its inputs met what they are meant to meet.
 use cram_host::compare::RoleTally;
-use cram_host::game::{Game, Player};
+use cram_host::game::Game;
 use cram_host::generator::{self, flip_bit, Random};
-use cram_host::input::{Field, RoundInput};
 use cram_host::limits::{ROLE_WORDS, ROUNDS};
 use cram_host::roles::RoleEngine;
-use cram_host::{plain, worked_roles};
+use cram_host::{measured, plain, worked_roles};
 
 /// The same tests for an engine.
 macro_rules! held {
@@ -33,6 +32,11 @@ macro_rules! held {
             }
 
             #[test]
+            fn rounds_over_full_tables() {
+                super::rounds_over_full_tables(&$engine);
+            }
+
+            #[test]
             fn every_bit() {
                 super::every_bit(&$engine);
             }
@@ -47,6 +51,17 @@ held!(archive, cram_host::roles::ARCHIVE);
 #[test]
 fn plain_worked_cases() {
     worked_roles::hold(&plain::ROLES);
+}
+
+/// What the benchmark calls a refusal is one, and all else is done.
+#[test]
+fn measured_inputs() {
+    for (name, mut lent) in measured::role_compiles() {
+        assert_eq!(lent.call(&plain::ROLES).number == 0, !name.starts_with("refuse"), "{}", name);
+    }
+    for (name, mut lent) in measured::rounds() {
+        assert_eq!(lent.call(&plain::ROLES).number, 0, "{}", name);
+    }
 }
 
 fn assert_met(what: &str, counts: &[usize], least: usize) {
@@ -132,6 +147,16 @@ fn rounds_of_any_code(engine: &RoleEngine) {
     assert_met("words of an operation", &tally.operations, 100);
 }
 
+fn rounds_over_full_tables(engine: &RoleEngine) {
+    let mut random = Random::new(14);
+    let mut tally = RoleTally::new(engine);
+    for _ in 0..60 {
+        tally.round(&generator::roles::full_round(&mut random));
+    }
+    print_rounds(&tally);
+    assert_met("answers", &of(&tally.rounds, &[0, 1, 2, 10, 11]), 3);
+}
+
 /// Compares an input and then all that differ from it in one bit.
 fn with_each_bit<T: Clone>(lent: &T, flip: fn(&mut T, usize) -> bool, mut compare: impl FnMut(&T)) {
     compare(lent);
@@ -152,31 +177,9 @@ fn every_bit(engine: &RoleEngine) {
         let lent = role.lend_compile(40);
         with_each_bit(&lent, |lent, bit| flip_bit(lent.slices(), bit), |lent| drop(tally.compile(lent)));
     }
-    let lent = second_round(&game);
+    let lent = worked_roles::second_of_initiator();
     with_each_bit(&lent, |lent, bit| flip_bit(lent.slices(), bit), |lent| drop(tally.round(lent)));
     println!("{} inputs: {:?} {:?}", tally.inputs, tally.compiled, tally.rounds);
     assert_met("compiles", &of(&tally.compiled, &[0, 1, 3, 4, 5, 6]), 20);
     assert_met("rounds", &of(&tally.rounds, &[0, 1, 2, 3, 9, 10, 14]), 20);
-}
-
-fn second_round(game: &Game) -> RoundInput {
-    let mut players = game.roles.iter().map(|role| {
-        let mut compiled = role.lend_compile(40);
-        assert_eq!(compiled.call(&plain::ROLES).number, 0);
-        Player::new(role, game.rows, compiled)
-    });
-    let (mut first, mut second) = (players.next().unwrap(), players.next().unwrap());
-    let turn = |player: &mut Player, message: u32| {
-        player.turn_to_code();
-        player.lent.put(Field::Message, message);
-        assert_eq!(player.lent.call(&plain::ROLES).number, 0);
-        player.lent.take(&plain::ROLES).answer
-    };
-    let message = turn(&mut first, game.roles[0].stores.accumulator as u32);
-    second.turn_to_table(&first.lent);
-    let message = turn(&mut second, message);
-    first.turn_to_table(&second.lent);
-    first.turn_to_code();
-    first.lent.put(Field::Message, message);
-    first.lent
 }

@@ -13,7 +13,7 @@ use crate::plain;
 use crate::plain::bytes::{pair, put_pair, put_word, row};
 use crate::plain::code::{framed, INPUT, OUTPUT};
 use crate::plain::patterns::Form;
-use crate::plain::terms::{tag, PRIVATE, PUBLIC, SHARED, TUPLE};
+use crate::plain::terms::{tag, used, PRIVATE, PUBLIC, SHARED, TUPLE};
 
 /// An author who does not slip.
 const NEVER: usize = 1 << 40;
@@ -317,5 +317,25 @@ pub fn direct_round(random: &mut Random) -> RoundInput {
     if random.one_in(4) {
         return damaged_round(random, &lent);
     }
+    lent
+}
+
+/// A round over 4,096 used rows, some of them wrong: costly, so that a test takes few.
+pub fn full_round(random: &mut Random) -> RoundInput {
+    let run = super::full_run(random);
+    let mut lent = RoundInput {
+        session: vec![0; RECORD],
+        rounds: 1,
+        kinds: run.kinds,
+        objects: run.objects,
+        messages: run.messages,
+        certificates: run.certificates,
+        terms: run.terms,
+        code: framed(&run.code),
+    };
+    lent.put(Field::Used, used(&lent.terms) as u32);
+    lent.put(Field::Counter, run.counter);
+    lent.put(Field::Message, run.accumulator);
+    lent.put(Field::Answer, UNSET as u32);
     lent
 }
