@@ -1,6 +1,6 @@
 //! Calls for roles: an engine held to the second implementation, and a tally of what was met.
 use super::Fenced;
-use crate::game::{Game, Player};
+use crate::game::{Game, Player, Role};
 use crate::input::{Field, RoleInput, RoundInput};
 use crate::limits::{ROUNDS, UNSET};
 use crate::plain;
@@ -116,35 +116,40 @@ impl<'a> RoleTally<'a> {
 
     /// Compiles both roles and plays them to the end; `each` sees every round before it is run.
     pub fn play(&mut self, game: &Game, words: usize, mut each: impl FnMut(&mut Self, &RoundInput)) {
-        let mut players: Vec<Player> = Vec::new();
-        for role in &game.roles {
-            let (answer, compiled) = self.compile(&role.lend_compile(words));
-            assert_eq!(answer.number, 0, "the compile of {:?}", role);
-            players.push(Player::new(role, game.rows, compiled));
-        }
+        let [mut own, mut other] = [0, 1].map(|role| self.player(&game.roles[role], game.rows, words));
         let mut message = game.roles[0].stores.accumulator as u32;
-        for turn in 0..game.turns() {
-            let player = &mut players[turn % 2];
-            player.turn_to_code();
-            self.round(&player.lent);
-            player.lent.put(Field::Message, message);
-            each(self, &player.lent);
-            let (answer, left) = self.round(&player.lent);
-            assert_eq!((answer.number, answer.place as usize), (0, left.code.len() / 4), "turn {} of {:?}", turn, game);
-            player.lent = left;
-            player.turn_to_code();
-            self.round(&player.lent);
-            let (taken, session) = self.take(&player.lent.session);
-            player.lent.session = session;
-            message = taken.answer;
-            let last = player.lent.clone();
-            players[1 - turn % 2].turn_to_table(&last);
+        for _ in 0..game.turns() {
+            own.turn_to_code();
+            assert_eq!(self.round(&own.lent).0.number, 12);
+            own.put_message(message);
+            each(self, &own.lent);
+            message = self.turn(&mut own);
+            other.turn_to_table(&own.lent);
+            std::mem::swap(&mut own, &mut other);
         }
-        for player in &mut players {
-            player.lent.put(Field::Message, message);
+        for player in [own, other] {
             assert_eq!(self.round(&player.lent).0.number, 14);
         }
         self.games += 1;
+    }
+
+    fn player(&mut self, role: &Role, rows: usize, words: usize) -> Player {
+        let (answer, compiled) = self.compile(&role.lend_compile(words));
+        assert_eq!(answer.number, 0, "the compile of {:?}", role);
+        Player::new(role, rows, compiled)
+    }
+
+    /// A round that is done, and its answer, which has to be taken before the next.
+    fn turn(&mut self, player: &mut Player) -> u32 {
+        let (answer, left) = self.round(&player.lent);
+        assert_eq!((answer.number, answer.place as usize), (0, left.code.len() / 4), "the round of {:?}", left);
+        player.lent = left;
+        player.turn_to_code();
+        let ended = player.lent.field(Field::Round) == player.lent.rounds;
+        assert_eq!(self.round(&player.lent).0.number, if ended { 14 } else { 13 });
+        let (taken, session) = self.take(&player.lent.session);
+        player.lent.session = session;
+        taken.answer
     }
 
     fn compile_fenced(&self, lent: &RoleInput) -> (RoleCompiled, RoleInput) {

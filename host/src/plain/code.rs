@@ -27,7 +27,7 @@ pub const HASHING: u8 = 17;
 
 /// A round's code around the words between.
 pub fn framed(between: &[u8]) -> Vec<u8> {
-    [&INPUT.to_be_bytes(), between, &OUTPUT.to_be_bytes()].concat()
+    [&INPUT.to_be_bytes()[..], between, &OUTPUT.to_be_bytes()].concat()
 }
 
 #[derive(Clone, Copy)]
