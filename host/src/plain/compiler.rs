@@ -22,10 +22,10 @@ pub fn compile(create: u8, pattern: &[u8], kinds: &[u8], objects: &[u8], named: 
     if !stores::declared(kinds, objects) {
         return refused(3, 0);
     }
-    let compiler = match walk(create == 1, pattern, kinds, Known::from(objects, named)) {
-        Err(refusal) => return refusal,
-        Ok(compiler) => compiler,
-    };
+    let mut compiler = Compiler::new(kinds, objects, named);
+    if let Err(refusal) = compiler.walk(create == 1, pattern) {
+        return refusal;
+    }
     let words = compiler.words();
     if code.len() / 4 < words.len() {
         return refused(8, words.len());
@@ -36,46 +36,15 @@ pub fn compile(create: u8, pattern: &[u8], kinds: &[u8], objects: &[u8], named: 
     refused(0, words.len())
 }
 
-/// The compiler after a pattern's last word, or the refusal: 4, 5, and then 6 and 7 in the order of the words.
-#[inline(always)]
-pub fn walk<'a>(create: bool, pattern: &'a [u8], kinds: &'a [u8], known: Known) -> Result<Compiler<'a>, Compiled> {
-    let refused = |number, place| Err(Compiled { number, place: place as u32 });
-    if let Some(place) = patterns::first_bad(pattern) {
-        return refused(4, place);
-    }
-    if let Some(place) = patterns::first_misfit(create, pattern, kinds) {
-        return refused(5, place);
-    }
-    let mut compiler = Compiler::new(pattern, kinds, known);
-    let root = pattern.len() / 8 - 1;
-    if create {
-        compiler.created(root)?;
-    } else {
-        compiler.matched(root)?;
-    }
-    Ok(compiler)
-}
-
 type Walked = Result<(), Compiled>;
-
-/// Which object variables and which raw variables are set, one bit a variable.
-#[derive(Clone, Copy)]
-pub struct Known {
-    objects: u64,
-    named: u64,
-}
-
-impl Known {
-    pub fn from(objects: &[u8], named: &[u8]) -> Known {
-        Known { objects: set_cells(objects), named: set_cells(named) }
-    }
-}
 
 /// What is known where the next word is emitted.
 pub struct Compiler<'a> {
     pattern: &'a [u8],
     kinds: &'a [u8],
-    pub known: Known,
+    /// One bit a variable, as has the next.
+    objects: u64,
+    named: u64,
     /// The next scratch number not taken.
     scratch: u8,
     code: [u32; CODE_WORDS],
@@ -95,10 +64,34 @@ fn read_while_unset(at: usize) -> Walked {
 }
 
 impl<'a> Compiler<'a> {
-    fn new(pattern: &'a [u8], kinds: &'a [u8], known: Known) -> Compiler<'a> {
-        Compiler { pattern, kinds, known, scratch: NAMED as u8, code: [0; CODE_WORDS], words: 0 }
+    /// Knows the variables whose cells are set.
+    #[inline(always)]
+    pub fn new(kinds: &'a [u8], objects: &[u8], named: &[u8]) -> Compiler<'a> {
+        let (objects, named) = (set_cells(objects), set_cells(named));
+        Compiler { pattern: &[], kinds, objects, named, scratch: NAMED as u8, code: [0; CODE_WORDS], words: 0 }
     }
 
+    /// Compiles a pattern for the variables that are known, and then knows those that its code sets as well. Refused with
+    /// 4, 5, and then 6 and 7 in the order of the words.
+    #[inline(always)]
+    pub fn walk(&mut self, create: bool, pattern: &'a [u8]) -> Walked {
+        let refused = |number, place| Err(Compiled { number, place: place as u32 });
+        if let Some(place) = patterns::first_bad(pattern) {
+            return refused(4, place);
+        }
+        if let Some(place) = patterns::first_misfit(create, pattern, self.kinds) {
+            return refused(5, place);
+        }
+        (self.pattern, self.scratch, self.words) = (pattern, NAMED as u8, 0);
+        let root = pattern.len() / 8 - 1;
+        if create {
+            self.created(root)
+        } else {
+            self.matched(root)
+        }
+    }
+
+    /// The words of the last pattern.
     pub fn words(&self) -> &[u32] {
         &self.code[..self.words]
     }
@@ -108,12 +101,12 @@ impl<'a> Compiler<'a> {
     }
 
     fn has_object(&self, v: u8) -> bool {
-        self.known.objects >> v & 1 == 1
+        self.objects >> v & 1 == 1
     }
 
     /// Scratch always passes: its numbers are taken once and written before they are read.
     fn has_message(&self, r: u8) -> bool {
-        r as usize >= NAMED || self.known.named >> r & 1 == 1
+        r as usize >= NAMED || self.named >> r & 1 == 1
     }
 
     fn take_scratch(&mut self, n: usize) -> u8 {
@@ -126,7 +119,7 @@ impl<'a> Compiler<'a> {
         if self.has_object(v) {
             return written_while_set(at);
         }
-        self.known.objects |= 1 << v;
+        self.objects |= 1 << v;
         Ok(())
     }
 
@@ -137,7 +130,7 @@ impl<'a> Compiler<'a> {
         if self.has_message(r) {
             return written_while_set(at);
         }
-        self.known.named |= 1 << r;
+        self.named |= 1 << r;
         Ok(())
     }
 

@@ -1,7 +1,7 @@
 //! A role: its halves compiled in turn, a matching and a creating one to a round, each round between INPUT and OUTPUT.
 use super::bytes::{put_pair, put_word};
 use super::code::{INPUT, OUTPUT};
-use super::compiler::{walk, Compiler, Known};
+use super::compiler::Compiler;
 use super::stores;
 use crate::limits::{NAMED, PATTERN_ROWS, ROUNDS};
 use crate::roles::RoleCompiled;
@@ -27,79 +27,72 @@ pub fn compile_role(
     if !whole || counts.iter().map(|&count| count as usize).sum::<usize>() != rows.len() / 8 {
         return answer(1, 0);
     }
-    let declared = stores::declared(kinds, objects);
-    let halves = Halves { rows, counts, kinds, declared, known: Known::from(objects, named), half: 0 };
+    let role = Role { rows, counts, kinds, objects, named };
     // INPUT and OUTPUT are as many words as there are halves.
     let mut words = counts.len();
-    for walked in halves.clone() {
-        match walked {
-            Ok(half) => words += half.words().len(),
-            Err(refusal) => return refusal,
-        }
+    if let Err(refusal) = role.compile_halves(|_, half| words += half.len()) {
+        return refusal;
     }
     if code.len() / 4 < words {
         return answer(8, words);
     }
-    deliver(halves, ends, code);
+    role.deliver(ends, code);
     answer(0, words)
 }
 
-/// Writes the words of halves that are not refused, and where each round ends.
-fn deliver(halves: Halves, ends: &mut [u8], code: &mut [u8]) {
-    let mut words = 0;
-    let mut put = |word| {
-        put_word(code, words, word);
-        words += 1;
-        words
-    };
-    for (i, half) in halves.flatten().enumerate() {
-        if i % 2 == 0 {
-            put(INPUT);
-        }
-        for &word in half.words() {
-            put(word);
-        }
-        if i % 2 == 1 {
-            let end = put(OUTPUT);
-            put_pair(ends, i / 2, end as u16);
-        }
-    }
-}
-
-/// The halves from `half` on, each compiled for the variables that are set once those before it have run.
-#[derive(Clone)]
-struct Halves<'a> {
+/// What is lent, once its lengths are right.
+struct Role<'a> {
     rows: &'a [u8],
     counts: &'a [u8],
     kinds: &'a [u8],
-    /// Whether the kinds and object cells on entry are good.
-    declared: bool,
-    known: Known,
-    half: usize,
+    objects: &'a [u8],
+    named: &'a [u8],
 }
 
-impl<'a> Iterator for Halves<'a> {
-    type Item = Result<Compiler<'a>, RoleCompiled>;
-
-    fn next(&mut self) -> Option<Self::Item> {
-        let half = self.half;
-        let count = *self.counts.get(half)? as usize;
-        self.half += 1;
-        let refused = |number, place| Some(Err(RoleCompiled { number, place, half: half as u32 }));
-        if !(1..=PATTERN_ROWS).contains(&count) {
-            return refused(1, 0);
-        }
-        if !self.declared {
-            return refused(3, 0);
-        }
-        let (pattern, rest) = self.rows.split_at(8 * count);
-        self.rows = rest;
-        match walk(half % 2 == 1, pattern, self.kinds, self.known) {
-            Err(refusal) => refused(refusal.number, refusal.place),
-            Ok(compiler) => {
-                self.known = compiler.known;
-                Some(Ok(compiler))
+impl Role<'_> {
+    /// Half after half, each for the variables that are set once those before it have run; `each` sees its words.
+    fn compile_halves(&self, mut each: impl FnMut(usize, &[u32])) -> Result<(), RoleCompiled> {
+        let declared = stores::declared(self.kinds, self.objects);
+        let mut compiler = Compiler::new(self.kinds, self.objects, self.named);
+        let mut rest = self.rows;
+        for (half, &count) in self.counts.iter().enumerate() {
+            let refused = |number, place| Err(RoleCompiled { number, place, half: half as u32 });
+            if !(1..=PATTERN_ROWS).contains(&(count as usize)) {
+                return refused(1, 0);
             }
+            if !declared {
+                return refused(3, 0);
+            }
+            let (pattern, after) = rest.split_at(8 * count as usize);
+            rest = after;
+            if let Err(refusal) = compiler.walk(half % 2 == 1, pattern) {
+                return refused(refusal.number, refusal.place);
+            }
+            each(half, compiler.words());
         }
+        Ok(())
+    }
+
+    /// Writes the words of halves that are not refused, and where each round ends.
+    fn deliver(&self, ends: &mut [u8], code: &mut [u8]) {
+        let mut words = 0;
+        let mut put = |word| {
+            put_word(code, words, word);
+            words += 1;
+            words
+        };
+        let delivered = self.compile_halves(|half, words| {
+            if half % 2 == 0 {
+                put(INPUT);
+            }
+            for &word in words {
+                put(word);
+            }
+            if half % 2 == 1 {
+                let end = put(OUTPUT);
+                put_pair(ends, half / 2, end as u16);
+            }
+        });
+        debug_assert!(delivered.is_ok());
     }
 }
