@@ -103,11 +103,11 @@ impl Case {
     }
 }
 
-fn pairs(cells: &[u16]) -> Vec<u8> {
+pub(crate) fn pairs(cells: &[u16]) -> Vec<u8> {
     cells.iter().flat_map(|cell| cell.to_be_bytes()).collect()
 }
 
-fn octets(rows: impl Iterator<Item = u64>) -> Vec<u8> {
+pub(crate) fn octets(rows: impl Iterator<Item = u64>) -> Vec<u8> {
     rows.flat_map(|row| row.to_be_bytes()).collect()
 }
 

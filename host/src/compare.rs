@@ -4,6 +4,10 @@ use crate::plain::code::Word;
 use crate::plain::patterns::Form;
 use crate::{plain, Compiled, Ran, ARCHIVE};
 
+mod roles;
+
+pub use roles::RoleTally;
+
 /// How often each answer came, and what stood in the inputs that were done.
 #[derive(Debug, Default)]
 pub struct Tally {

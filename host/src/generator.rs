@@ -3,6 +3,7 @@ mod code;
 mod damage;
 mod patterns;
 mod random;
+pub mod roles;
 mod stores;
 
 pub use damage::flip_bit;

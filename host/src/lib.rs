@@ -1,16 +1,21 @@
-//! The archive's two C entries as safe functions over byte slices, and what tests and measures them.
+//! The archive's C entries for one pattern as safe functions over byte slices (those for roles are in `roles`), and what
+//! tests and measures them all.
 //! Lengths are in bytes, fields stand high byte first; `include/cram.h` describes every parameter.
+pub mod by_halves;
 pub mod case;
 pub mod compare;
 pub mod every;
 pub mod examples;
+pub mod game;
 pub mod generator;
 pub mod input;
 pub mod limits;
 pub mod measured;
 pub mod plain;
+pub mod roles;
 pub mod stack;
 pub mod worked;
+pub mod worked_roles;
 
 /// What compile answers.
 #[repr(C)]

@@ -1,12 +1,14 @@
 //! The inputs that the benchmark times and whose stack it measures.
-use crate::case::figure1::{bound, object, raw, tuple};
+use crate::case::figure1::{bound, encrypted, object, raw, tuple, Key};
 use crate::case::Case;
-use crate::input::{CompileInput, RunInput};
-use crate::limits::{CODE_WORDS, NAMED, PATTERN_ROWS, TERM_ROWS};
+use crate::game::Role;
+use crate::input::{CompileInput, RoleInput, RoundInput, RunInput};
+use crate::limits::{CODE_WORDS, NAMED, PATTERN_ROWS, ROLE_WORDS, ROUNDS, ROUND_WORDS, TERM_ROWS};
 use crate::plain;
-use crate::plain::code::{Word, HASHING, STORE_CONST};
-use crate::plain::terms::{atom, AGENT, BYTE, HASH, NONCE, TUPLE};
-use crate::worked;
+use crate::plain::code::{framed, Word, HASHING, STORE_CONST};
+use crate::plain::patterns::Form;
+use crate::plain::terms::{atom, AGENT, BYTE, ENCRYPTION, HASH, NONCE, SHARED, TUPLE};
+use crate::{worked, worked_roles};
 
 /// Compiles by what they are called.
 pub fn compiles() -> Vec<(&'static str, CompileInput)> {
@@ -32,6 +34,28 @@ pub fn runs() -> Vec<(&'static str, RunInput)> {
         ("768 words that make new terms", hashes_of_hashes()),
         (FULL_TABLE, full_table(&[])),
         (SEARCHES, full_table(&[STORE_CONST; CODE_WORDS])),
+    ]
+}
+
+/// Compiles of roles by what they are called.
+pub fn role_compiles() -> Vec<(&'static str, RoleInput)> {
+    let [initiator, _] = worked_roles::needham_schroeder().roles;
+    let named = [
+        ("compile a role of 3 rounds", initiator),
+        ("compile a role of 16 rounds", sixteen_rounds()),
+        ("compile a role as deep as it goes, matching", one_round(deep(false), |deep| vec![deep, vec![object(0)]])),
+        ("compile a role as deep as it goes, creating", one_round(deep(true), |deep| vec![vec![raw(0)], deep])),
+        ("refuse a role's 95 tuples in each other", one_round(one_variable(), |deep| vec![vec![raw(0)], deep])),
+    ];
+    named.map(|(name, role)| (name, role.lend_compile(ROLE_WORDS))).to_vec()
+}
+
+/// Rounds by what they are called.
+pub fn rounds() -> Vec<(&'static str, RoundInput)> {
+    vec![
+        ("a round of Needham-Schroeder", worked_roles::second_of_initiator()),
+        ("a round of 1,538 words that make new terms", round_of(hash_of_byte(), &[HASHING; ROUND_WORDS - 2])),
+        ("a round of 2 words over 4,096 used rows", round_of(agents(), &[])),
     ]
 }
 
@@ -70,19 +94,55 @@ fn one_variable() -> Case {
 
 /// A hash of a hash and so on, of one byte.
 fn hashes_of_hashes() -> RunInput {
+    hash_of_byte().lend_run(TERM_ROWS, &words(&[HASHING; CODE_WORDS]))
+}
+
+fn hash_of_byte() -> Case {
     let mut case = Case::new(false);
     case.declare(&[HASH]);
     case.accumulator = case.term(atom(BYTE, 0));
-    case.lend_run(TERM_ROWS, &words(&[HASHING; CODE_WORDS]))
+    case
 }
 
 /// Agents, and a byte in the last row, for which `operations` look.
 fn full_table(operations: &[u8]) -> RunInput {
+    agents().lend_run(TERM_ROWS, &words(operations))
+}
+
+fn agents() -> Case {
     let mut case = Case::new(false);
     case.declare(&[BYTE]);
     case.terms = (1..TERM_ROWS as u64).map(|i| atom(AGENT, i)).collect();
     case.term(atom(BYTE, 0));
-    case.lend_run(TERM_ROWS, &words(operations))
+    case
+}
+
+/// A role of one round of which a case's pattern is a half.
+fn one_round(case: Case, halves: fn(Vec<Form>) -> Vec<Vec<Form>>) -> Role {
+    Role { halves: halves(case.pattern.clone()), stores: case }
+}
+
+/// A round that is sent row 0 and whose words between INPUT and OUTPUT are `operations`.
+fn round_of(stores: Case, operations: &[u8]) -> RoundInput {
+    let role = Role { halves: vec![Vec::new(); 2], stores: Case { accumulator: 0, ..stores } };
+    role.lend_round(TERM_ROWS, &framed(&words(operations)))
+}
+
+/// Each round opens a nonce under the shared key sh0 and sends it back under sh0.
+fn sixteen_rounds() -> Role {
+    let mut stores = Case::new(false);
+    stores.declare(&[SHARED]);
+    stores.objects[0] = stores.term(atom(SHARED, 0));
+    stores.counter = 1;
+    let mut halves = Vec::new();
+    for round in 0..ROUNDS as u8 {
+        let [read, nonce, sent] = [1, 2, 3].map(|v| 3 * round + v);
+        for (v, kind) in [(read, ENCRYPTION), (nonce, NONCE), (sent, ENCRYPTION)] {
+            stores.kinds[v as usize] = kind;
+        }
+        halves.extend([read, sent].map(|e| vec![object(nonce), encrypted(e, Key::Plain(0), 0)]));
+    }
+    Role { halves, stores }
 }
 
 fn words(operations: &[u8]) -> Vec<u8> {

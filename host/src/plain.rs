@@ -1,16 +1,23 @@
-//! The compiler, the machine, the bundle and the listing once more in plain Rust, written from document 01 alone.
+//! The compiler, the machine, roles and their rounds, the bundle and the listing once more in plain Rust, written from
+//! documents 01 and 02 alone.
 //! Tests hold the archive to it, and the benchmark measures the archive against it.
 mod bundle;
-mod bytes;
+pub mod bytes;
 pub mod code;
 mod compiler;
 mod machine;
 pub mod patterns;
+mod role;
+mod round;
 mod stores;
 pub mod terms;
 
 pub use bundle::listing;
 pub use compiler::compile;
 pub use machine::run;
+pub use role::compile_role;
+pub use round::{round, take};
 
 pub const ENGINE: crate::Engine = crate::Engine { compile, run };
+
+pub const ROLES: crate::roles::RoleEngine = crate::roles::RoleEngine { compile_role, round, take };

@@ -30,3 +30,24 @@ fn run() {
         assert_within(promised("CRAM_RUN_STACK_BYTES"), name, stack::taken_by(|| lent.call(&ARCHIVE)));
     }
 }
+
+#[cfg(feature = "roles")]
+mod roles {
+    use super::{assert_within, promised};
+    use cram_host::roles::ARCHIVE;
+    use cram_host::{measured, stack};
+
+    #[test]
+    fn compile_role() {
+        for (name, mut lent) in measured::role_compiles() {
+            assert_within(promised("CRAM_ROLE_STACK_BYTES"), name, stack::taken_by(|| lent.call(&ARCHIVE)));
+        }
+    }
+
+    #[test]
+    fn round() {
+        for (name, mut lent) in measured::rounds() {
+            assert_within(promised("CRAM_ROUND_STACK_BYTES"), name, stack::taken_by(|| lent.call(&ARCHIVE)));
+        }
+    }
+}

@@ -1,5 +1,5 @@
 //! Times the archive against the second implementation, in one run, and measures the archive's stack.
-use cram_host::{measured, plain, stack, Engine, ARCHIVE};
+use cram_host::{measured, plain, stack, ARCHIVE};
 
 /// Each figure is the median of so many samples.
 const SAMPLES: usize = 101;
@@ -23,12 +23,13 @@ fn main() {
     println!("Nanoseconds of processor time a call, medians of {} samples, the two taking turns, at -O3.", SAMPLES);
     println!("Every call gets buffers of its own, written before the clock starts; nothing is cleared in between.\n");
     println!("{:<45}{:>12}{:>12}{:>8}", "", "archive", "plain Rust", "ratio");
+    let engines = [&ARCHIVE, &plain::ENGINE];
     for (name, lent) in measured::compiles() {
-        print(name, medians(&lent, |lent, engine| lent.call(engine).place));
+        print(name, medians(&lent, engines, |lent, engine| lent.call(engine).place));
     }
     let mut base = [0.0; 2];
     for (name, lent) in measured::runs() {
-        let times = medians(&lent, |lent, engine| lent.call(engine).place);
+        let times = medians(&lent, engines, |lent, engine| lent.call(engine).place);
         print(name, times);
         if name == measured::FULL_TABLE {
             base = times;
@@ -38,12 +39,42 @@ fn main() {
             print("  of which one search over 4,096 rows", [0, 1].map(|i| (times[i] - base[i]) / words));
         }
     }
+    #[cfg(feature = "roles")]
+    roles::times();
     println!("\nBytes of stack, by painting it before the call:");
     for (name, mut lent) in measured::compiles() {
         println!("{:<45}{:>12}", name, stack::taken_by(|| lent.call(&ARCHIVE)));
     }
     for (name, mut lent) in measured::runs() {
         println!("{:<45}{:>12}", name, stack::taken_by(|| lent.call(&ARCHIVE)));
+    }
+    #[cfg(feature = "roles")]
+    roles::stacks();
+}
+
+#[cfg(feature = "roles")]
+mod roles {
+    use super::{medians, print};
+    use cram_host::roles::ARCHIVE;
+    use cram_host::{measured, plain, stack};
+
+    pub fn times() {
+        let engines = [&ARCHIVE, &plain::ROLES];
+        for (name, lent) in measured::role_compiles() {
+            print(name, medians(&lent, engines, |lent, engine| lent.call(engine).place));
+        }
+        for (name, lent) in measured::rounds() {
+            print(name, medians(&lent, engines, |lent, engine| lent.call(engine).place));
+        }
+    }
+
+    pub fn stacks() {
+        for (name, mut lent) in measured::role_compiles() {
+            println!("{:<45}{:>12}", name, stack::taken_by(|| lent.call(&ARCHIVE)));
+        }
+        for (name, mut lent) in measured::rounds() {
+            println!("{:<45}{:>12}", name, stack::taken_by(|| lent.call(&ARCHIVE)));
+        }
     }
 }
 
@@ -52,12 +83,11 @@ fn print(name: &str, [ours, theirs]: [f64; 2]) {
 }
 
 /// The time of a call by the archive and by plain Rust.
-fn medians<T: Clone>(lent: &T, call: fn(&mut T, &Engine) -> u32) -> [f64; 2] {
-    let engines = [ARCHIVE, plain::ENGINE];
-    let copies = copies_for_a_sample(lent, &engines[1], call);
+fn medians<T: Clone, E>(lent: &T, engines: [&E; 2], call: fn(&mut T, &E) -> u32) -> [f64; 2] {
+    let copies = copies_for_a_sample(lent, engines[1], call);
     let mut samples = [Vec::new(), Vec::new()];
     for _ in 0..SAMPLES {
-        for (engine, samples) in engines.iter().zip(&mut samples) {
+        for (engine, samples) in engines.into_iter().zip(&mut samples) {
             samples.push(sample(lent, engine, call, copies));
         }
     }
@@ -67,13 +97,13 @@ fn medians<T: Clone>(lent: &T, call: fn(&mut T, &Engine) -> u32) -> [f64; 2] {
     })
 }
 
-fn copies_for_a_sample<T: Clone>(lent: &T, engine: &Engine, call: fn(&mut T, &Engine) -> u32) -> usize {
+fn copies_for_a_sample<T: Clone, E>(lent: &T, engine: &E, call: fn(&mut T, &E) -> u32) -> usize {
     let once = sample(lent, engine, call, 4);
     ((SAMPLE_NANOSECONDS / once) as usize).clamp(1, MOST_COPIES)
 }
 
 /// The time of a call, from calls on fresh copies one after another.
-fn sample<T: Clone>(lent: &T, engine: &Engine, call: fn(&mut T, &Engine) -> u32, copies: usize) -> f64 {
+fn sample<T: Clone, E>(lent: &T, engine: &E, call: fn(&mut T, &E) -> u32, copies: usize) -> f64 {
     let mut fresh = vec![lent.clone(); copies];
     let mut places = 0u32;
     let start = processor_time();

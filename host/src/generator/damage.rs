@@ -88,7 +88,7 @@ pub fn flip_bit<const N: usize>(slices: [&mut Vec<u8>; N], mut bit: usize) -> bo
 }
 
 /// Changes a bit of one of the elements of `width` bytes.
-fn flip(random: &mut Random, bytes: &mut [u8], width: usize) {
+pub fn flip(random: &mut Random, bytes: &mut [u8], width: usize) {
     if !bytes.is_empty() {
         let at = width * random.below(bytes.len() / width) + random.below(width);
         bytes[at] ^= 1 << random.below(8);
@@ -112,7 +112,7 @@ fn repeat(random: &mut Random, rows: &mut [u8]) {
 }
 
 /// Writes any cell: unset, a low row, a row just past a table, or anything.
-fn put_cell(random: &mut Random, cells: &mut [u8]) {
+pub fn put_cell(random: &mut Random, cells: &mut [u8]) {
     let at = 2 * random.below(cells.len() / 2);
     let any = random.bits() as u16;
     let cell = random.one_of(&[65535, 65534, 4096, 4095, 0, 1, 2, 3, any % 64, any]);
@@ -138,7 +138,7 @@ fn put_word(random: &mut Random, lent: &mut RunInput) {
 }
 
 /// Makes one slice a little longer or shorter, mostly by less than an element.
-fn change_length<const N: usize>(random: &mut Random, mut slices: [&mut Vec<u8>; N]) {
+pub fn change_length<const N: usize>(random: &mut Random, mut slices: [&mut Vec<u8>; N]) {
     let slice = &mut slices[random.below(N)];
     let length = match random.below(4) {
         0 => slice.len() + 1 + random.below(8),

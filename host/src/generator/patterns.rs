@@ -14,6 +14,11 @@ use crate::plain::terms::{
 pub fn write(random: &mut Random, case: &mut Case) {
     let size = random.one_of(&[1, 2, 4, 8, 12, 16, 24, 48, 72, PATTERN_ROWS]);
     let slips = random.one_of(&[16, 60, 250, 1000]);
+    write_sized(random, case, size, slips);
+}
+
+/// Gives the case a pattern of at most `size` rows, by an author who slips once in about `slips` times.
+pub fn write_sized(random: &mut Random, case: &mut Case, size: usize, slips: usize) {
     let mut author = Author {
         random,
         case,

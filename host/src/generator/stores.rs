@@ -22,9 +22,7 @@ pub fn stores(random: &mut Random) -> Case {
     for _ in 0..random.one_of(&[0, 4, 32, 64, 64, 64, 64, 64, 64, 64]) {
         add_term(random, &mut case);
     }
-    for kind in &mut case.kinds {
-        *kind = random.one_of(&KINDS);
-    }
+    declare(random, &mut case);
     fill_cells(random, &mut case);
     add_certificates(random, &mut case);
     case.accumulator = message(random, &case);
@@ -75,6 +73,20 @@ pub fn other_value(random: &mut Random, case: &Case) -> Case {
         _ => other.certificates.retain(|_| random.one_in(2)),
     }
     other
+}
+
+/// Somebody else over the same table and certificates, with kinds and cells of their own.
+pub fn beside(random: &mut Random, case: &Case) -> Case {
+    let mut other = case.clone();
+    declare(random, &mut other);
+    fill_cells(random, &mut other);
+    other
+}
+
+fn declare(random: &mut Random, case: &mut Case) {
+    for kind in &mut case.kinds {
+        *kind = random.one_of(&KINDS);
+    }
 }
 
 /// The same kinds and table, with other set cells.

@@ -12,6 +12,10 @@ pub fn word(bytes: &[u8], at: usize) -> u32 {
     u32::from_be_bytes(bytes[4 * at..4 * at + 4].try_into().unwrap())
 }
 
+pub fn put_word(bytes: &mut [u8], at: usize, value: u32) {
+    bytes[4 * at..4 * at + 4].copy_from_slice(&value.to_be_bytes());
+}
+
 pub fn row(bytes: &[u8], at: usize) -> u64 {
     u64::from_be_bytes(bytes[8 * at..8 * at + 8].try_into().unwrap())
 }

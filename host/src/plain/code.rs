@@ -4,6 +4,10 @@ use super::stores::KINDS;
 use super::terms::{BYTE, HASH, NONCE, PRIVATE, PUBLIC, SHARED, TUPLE};
 use crate::limits::{MESSAGES, NAMED};
 
+/// What begins a round and what ends it; neither stands anywhere else.
+pub const INPUT: u32 = 0;
+pub const OUTPUT: u32 = 1 << 27;
+
 pub const LOAD: u8 = 2;
 pub const STORE: u8 = 3;
 pub const STORE_CONST: u8 = 4;
@@ -20,6 +24,11 @@ pub const DECRYPT: u8 = 14;
 pub const SIGN: u8 = 15;
 pub const VERIFY: u8 = 16;
 pub const HASHING: u8 = 17;
+
+/// A round's code around the words between.
+pub fn framed(between: &[u8]) -> Vec<u8> {
+    [&INPUT.to_be_bytes()[..], between, &OUTPUT.to_be_bytes()].concat()
+}
 
 #[derive(Clone, Copy)]
 pub struct Word {

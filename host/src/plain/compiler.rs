@@ -22,20 +22,11 @@ pub fn compile(create: u8, pattern: &[u8], kinds: &[u8], objects: &[u8], named: 
     if !stores::declared(kinds, objects) {
         return refused(3, 0);
     }
-    if let Some(place) = patterns::first_bad(pattern) {
-        return refused(4, place);
-    }
-    let create = create == 1;
-    if let Some(place) = patterns::first_misfit(create, pattern, kinds) {
-        return refused(5, place);
-    }
-    let mut compiler = Compiler::new(pattern, kinds, objects, named);
-    let root = pattern.len() / 8 - 1;
-    let walked = if create { compiler.created(root) } else { compiler.matched(root) };
-    if let Err(refusal) = walked {
+    let mut compiler = Compiler::new(kinds, objects, named);
+    if let Err(refusal) = compiler.walk(create == 1, pattern) {
         return refusal;
     }
-    let words = &compiler.code[..compiler.words];
+    let words = compiler.words();
     if code.len() / 4 < words.len() {
         return refused(8, words.len());
     }
@@ -47,10 +38,11 @@ pub fn compile(create: u8, pattern: &[u8], kinds: &[u8], objects: &[u8], named: 
 
 type Walked = Result<(), Compiled>;
 
-/// What is known where the next word is emitted. Sets of variables have one bit a variable.
-struct Compiler<'a> {
+/// What is known where the next word is emitted.
+pub struct Compiler<'a> {
     pattern: &'a [u8],
     kinds: &'a [u8],
+    /// One bit a variable, as has the next.
     objects: u64,
     named: u64,
     /// The next scratch number not taken.
@@ -72,9 +64,36 @@ fn read_while_unset(at: usize) -> Walked {
 }
 
 impl<'a> Compiler<'a> {
-    fn new(pattern: &'a [u8], kinds: &'a [u8], objects: &[u8], named: &[u8]) -> Compiler<'a> {
+    /// Knows the variables whose cells are set.
+    #[inline(always)]
+    pub fn new(kinds: &'a [u8], objects: &[u8], named: &[u8]) -> Compiler<'a> {
         let (objects, named) = (set_cells(objects), set_cells(named));
-        Compiler { pattern, kinds, objects, named, scratch: NAMED as u8, code: [0; CODE_WORDS], words: 0 }
+        Compiler { pattern: &[], kinds, objects, named, scratch: NAMED as u8, code: [0; CODE_WORDS], words: 0 }
+    }
+
+    /// Compiles a pattern for the variables that are known, and then knows those that its code sets as well. Refused with
+    /// 4, 5, and then 6 and 7 in the order of the words.
+    #[inline(always)]
+    pub fn walk(&mut self, create: bool, pattern: &'a [u8]) -> Walked {
+        let refused = |number, place| Err(Compiled { number, place: place as u32 });
+        if let Some(place) = patterns::first_bad(pattern) {
+            return refused(4, place);
+        }
+        if let Some(place) = patterns::first_misfit(create, pattern, self.kinds) {
+            return refused(5, place);
+        }
+        (self.pattern, self.scratch, self.words) = (pattern, NAMED as u8, 0);
+        let root = pattern.len() / 8 - 1;
+        if create {
+            self.created(root)
+        } else {
+            self.matched(root)
+        }
+    }
+
+    /// The words of the last pattern.
+    pub fn words(&self) -> &[u32] {
+        &self.code[..self.words]
     }
 
     fn form(&self, at: usize) -> Form {

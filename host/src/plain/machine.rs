@@ -7,9 +7,19 @@ use crate::limits::{CERTIFICATES, CODE_WORDS, MESSAGES, NAMED, NAMES, TERM_ROWS,
 use crate::Ran;
 
 /// Why a run stops before its end.
-enum Stop {
+pub enum Stop {
     Stuck(u32),
     Room,
+}
+
+impl Stop {
+    /// Its number and its reason.
+    pub fn answer(self) -> (u32, u32) {
+        match self {
+            Stop::Stuck(reason) => (10, reason),
+            Stop::Room => (11, 0),
+        }
+    }
 }
 
 const READ_UNSET: Stop = Stop::Stuck(1);
@@ -35,17 +45,8 @@ pub fn run(
         let (place, used) = (place as u32, used as u32);
         Ran { number, place, reason, used, counter, accumulator }
     };
-    let whole = kinds.len() == NAMED
-        && objects.len() == 2 * NAMED
-        && messages.len() == 2 * MESSAGES
-        && certificates.len() % 8 == 0
-        && terms.len() % 8 == 0
-        && code.len() % 4 == 0;
-    let within = certificates.len() <= 8 * CERTIFICATES
-        && terms.len() <= 8 * TERM_ROWS
-        && code.len() <= 4 * CODE_WORDS
-        && counter <= NAMES;
-    if !whole || !within {
+    let within = lengths_fit(kinds, objects, messages, certificates, terms) && counter <= NAMES;
+    if !within || code.len() % 4 != 0 || code.len() > 4 * CODE_WORDS {
         return answer(1, 0, 0, 0);
     }
     let used = terms::used(terms);
@@ -53,12 +54,7 @@ pub fn run(
         return answer(2, place, 0, used);
     }
     let rows = Rows(&terms[..8 * used]);
-    let fit = stores::declared(kinds, objects)
-        && rows.objects_fit(kinds, objects)
-        && rows.messages_fit(messages)
-        && rows.certificates_fit(certificates)
-        && rows.accumulator_fits(accumulator);
-    if !fit {
+    if !rows.stores_fit(kinds, objects, messages, certificates) || !rows.accumulator_fits(accumulator) {
         return answer(3, 0, 0, used);
     }
     if let Some(place) = code::first_bad(code, kinds) {
@@ -66,30 +62,44 @@ pub fn run(
     }
     let mut machine =
         Machine::new(kinds, objects, messages, certificates, accumulator as u16, Table::new(terms, used), counter);
-    for place in 0..code.len() / 4 {
-        if let Err(stop) = machine.step(Word::unpack(word(code, place))) {
-            machine.table.give_back();
-            return match stop {
-                Stop::Stuck(reason) => answer(10, place, reason, used),
-                Stop::Room => answer(11, place, 0, used),
-            };
-        }
+    if let Err((place, stop)) = machine.steps(code) {
+        let (number, reason) = stop.answer();
+        return answer(number, place, reason, used);
     }
-    machine.leave(objects, messages, code.len() / 4)
+    machine.leave(objects, messages);
+    Ran {
+        number: 0,
+        place: (code.len() / 4) as u32,
+        reason: 0,
+        used: machine.used(),
+        counter: machine.counter,
+        accumulator: machine.accumulator as u32,
+    }
 }
 
-struct Machine<'a> {
+/// The lengths of all that is lent to a run beside its code.
+pub fn lengths_fit(kinds: &[u8], objects: &[u8], messages: &[u8], certificates: &[u8], terms: &[u8]) -> bool {
+    kinds.len() == NAMED
+        && objects.len() == 2 * NAMED
+        && messages.len() == 2 * MESSAGES
+        && certificates.len() % 8 == 0
+        && certificates.len() <= 8 * CERTIFICATES
+        && terms.len() % 8 == 0
+        && terms.len() <= 8 * TERM_ROWS
+}
+
+pub struct Machine<'a> {
     kinds: &'a [u8],
     objects: [u16; NAMED],
     messages: [u16; MESSAGES],
     certificates: &'a [u8],
-    accumulator: u16,
+    pub accumulator: u16,
     table: Table<'a>,
-    counter: u32,
+    pub counter: u32,
 }
 
 impl<'a> Machine<'a> {
-    fn new(
+    pub fn new(
         kinds: &'a [u8],
         objects: &[u8],
         messages: &[u8],
@@ -103,22 +113,28 @@ impl<'a> Machine<'a> {
         Machine { kinds, objects, messages, certificates, accumulator, table, counter }
     }
 
+    /// Word after word; where one stops, all that the run took is given back and the word's place is told.
+    pub fn steps(&mut self, code: &[u8]) -> Result<(), (usize, Stop)> {
+        for place in 0..code.len() / 4 {
+            if let Err(stop) = self.step(Word::unpack(word(code, place))) {
+                self.table.give_back();
+                return Err((place, stop));
+            }
+        }
+        Ok(())
+    }
+
+    pub fn used(&self) -> u32 {
+        self.table.used() as u32
+    }
+
     /// Writes the cells back; the table is in place.
-    fn leave(self, objects: &mut [u8], messages: &mut [u8], words: usize) -> Ran {
+    pub fn leave(&self, objects: &mut [u8], messages: &mut [u8]) {
         for (v, &cell) in self.objects.iter().enumerate() {
             put_pair(objects, v, cell);
         }
         for (r, &cell) in self.messages.iter().enumerate() {
             put_pair(messages, r, cell);
-        }
-        let used = self.table.used() as u32;
-        Ran {
-            number: 0,
-            place: words as u32,
-            reason: 0,
-            used,
-            counter: self.counter,
-            accumulator: self.accumulator as u32,
         }
     }
 

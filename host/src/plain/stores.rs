@@ -36,14 +36,22 @@ impl Rows<'_> {
         self.has(at) && tag(row(self.0, at as usize)) == kind
     }
 
-    pub fn objects_fit(&self, kinds: &[u8], objects: &[u8]) -> bool {
+    /// All that a run looks at in the stores, but for its accumulator.
+    pub fn stores_fit(&self, kinds: &[u8], objects: &[u8], messages: &[u8], certificates: &[u8]) -> bool {
+        declared(kinds, objects)
+            && self.objects_fit(kinds, objects)
+            && self.messages_fit(messages)
+            && self.certificates_fit(certificates)
+    }
+
+    fn objects_fit(&self, kinds: &[u8], objects: &[u8]) -> bool {
         (0..NAMED).all(|v| match pair(objects, v) {
             UNSET => true,
             at => self.has_tag(at, kinds[v]),
         })
     }
 
-    pub fn messages_fit(&self, messages: &[u8]) -> bool {
+    fn messages_fit(&self, messages: &[u8]) -> bool {
         messages.chunks_exact(2).all(|cell| match pair(cell, 0) {
             UNSET => true,
             at => self.has(at),
@@ -54,7 +62,7 @@ impl Rows<'_> {
         accumulator == UNSET as u32 || (accumulator as usize) < self.0.len() / 8
     }
 
-    pub fn certificates_fit(&self, certificates: &[u8]) -> bool {
+    fn certificates_fit(&self, certificates: &[u8]) -> bool {
         (0..certificates.len() / 8).all(|i| {
             let certificate = row(certificates, i);
             spared(certificate)
