@@ -13,7 +13,6 @@ use Rattle.answers.specs.First.{first}
 use Rattle.answers.specs.Numbers.{compiledNumber, compiledPlace}
 use Rattle.answers.specs.declared.Compiled.{Compiled}
 use Rattle.answers.specs.declared.Compiled.the-variants.{Done, Limit, BadStore, BadPattern, WrongKind, WrittenWhileSet, ReadWhileUnset, CodeTooShort}
-use Rattle.answers.specs.declared.Ran.{Ran}
 use Rattle.terms.specs.Rules.{usedRows}
 use Rattle.numbers.specs.Limits.{mostCodeWords}
 use Rattle.bundles.specs.Opening.{headerIn, bundleIn, openedBy, opened}

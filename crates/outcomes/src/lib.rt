@@ -8,7 +8,7 @@ ghost use Rattle.numbers.specs.Limits.{variables, messageCells, mostCodeWords, 
 ghost use Rattle.calls.specs.Run.{run};
 ghost use Rattle.bundles.specs.Opening.{bundleIn, opened};
 ghost use Rattle.bundles.specs.Given.{lentTo, compileOf, givenRead, givenBy};
-ghost use Rattle.outcomes.specs.Held.{Held, heldBy};
+ghost use Rattle.outcomes.specs.Held.{heldBy};
 use answers::Compiled;
 use bundles::Header;
 use bundles::Opened;

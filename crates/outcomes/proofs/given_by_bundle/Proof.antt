@@ -1,9 +1,8 @@
-use mathlib.Core.Path.{sym, _∙_}
+use mathlib.Core.Path.{sym}
 use native.Mathlib.Omega.{arith}
-use lib.ListN.{length-take, length, replicate, length-replicate}
+use lib.ListN.{length-take}
 use lib.Seq.{length-take-le}
 use Prim.Native.Nat.{_≤_}
-use Rattle.numbers.specs.Limits.{mostCodeWords}
 use Rattle.bundles.specs.Opening.{bundleIn}
 use Rattle.bundles.proofs.BundleLaws.{lengths}
 use Rattle.outcomes.proofs.PartLaws.{front-length, front-inside}

@@ -1,4 +1,3 @@
-use mathlib.Core.Path.{sym, _∙_}
 use native.Mathlib.Omega.{arith}
 use Rattle.bundles.proofs.BundleLaws.{fields, lengths}
 use Rattle.outcomes.proofs.PartLaws.{run-lent, ran-counted, objects-lent, messages-lent, terms-lent, front-length, front-inside}
