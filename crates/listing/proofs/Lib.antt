@@ -1,5 +1,4 @@
--- Laws of a bundle's parts and of its listing.
-pub mod PartLaws
+-- Laws of the listing.
 pub mod LinesLaws
 pub mod Listed
 pub mod Coincide

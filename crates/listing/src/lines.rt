@@ -1,109 +1,63 @@
 // From a bundle's bytes to the lines of its listing.
 ghost use mathlib.Core.Path.{_≡_};
-ghost use mathlib.Core.Option.{some};
-ghost use Prim.Native.Nat.{_≤_};
-ghost use lib.ListN.{length};
+ghost use lib.ListN.{length, replicate};
 ghost use Rattle.text.specs.Written.{Wrote};
-ghost use Rattle.bundles.specs.Opening.{bundleIn, opened};
-ghost use Rattle.calls.specs.Run.{run};
-ghost use Rattle.numbers.specs.Limits.{mostCodeWords};
-ghost use Rattle.bundles.specs.Given.{lentTo, compileOf, compiledFrom, givenCompiled, givenRead};
-ghost use Rattle.printing.specs.Listing.{ranLines, givenLines, listing};
-use super::parts;
-use answers::Compiled;
-use bundles::Header;
-use bundles::Opened;
+ghost use Rattle.numbers.specs.Limits.{variables, messageCells, mostCodeWords, mostTermRows};
+ghost use Rattle.printing.specs.Listing.{listing};
+use outcomes::Gave;
 
-// Runs code over what the bundle holds.
-fn ran_lines(bytes: &[u8], header: Header, code: &[u32], out: &mut [u8]) -> usize
-    requires { ⌜ (opened (now bytes) ≡ Opened.Is header) × (length (now code) ≤ mostCodeWords) ⌝ }
-    ensures { λ r. ⌜ Wrote (ranLines (now (code .entry)) (run (lentTo (bundleIn (now (bytes .entry)))) (now (code .entry)))) (now (out .entry)) 0 (now (out .exit)) r ⌝ }
+// Room for compiled code.
+fn code_room() -> [u32; 768]
+    ensures { λ r. ⌜ r ≡ replicate mostCodeWords 0 ⌝ }
 {
-    let kinds = parts::kinds(bytes, header);
-    let mut objects = parts::objects(bytes, header);
-    let mut messages = parts::messages(bytes, header);
-    let pairs = parts::certificates(bytes, header);
-    let count = header.certificates as usize;
-    let mut rows = parts::terms(bytes, header);
-    let ended = running::run(
-        &kinds,
-        &mut objects,
-        &mut messages,
-        &pairs[..count],
-        header.accumulator as u32,
-        &mut rows,
-        header.counter,
-        code,
-    );
-    let answer = ended.answer;
-    printing::ran(
-        out,
-        code,
-        answer,
-        &objects,
-        &messages,
-        ended.used as u32,
-        ended.counter,
-        ended.accumulator,
-    )
+    [0; 768]
 }
 
-// Compiles the bundle's pattern.
-fn compiled(bytes: &[u8], header: Header, code: &mut [u32]) -> Compiled
-    requires { ⌜ opened (now bytes) ≡ Opened.Is header ⌝ }
-    ensures { λ r. ⌜ record { answer = r; code = now (code .exit) } ≡ compileOf (bundleIn (now (bytes .entry))) (now (code .entry)) ⌝ }
+// Room for object cells.
+fn object_room() -> [u16; 64]
+    ensures { λ r. ⌜ length r ≡ variables ⌝ }
 {
-    let pattern = parts::pattern(bytes, header);
-    let count = header.pattern_rows as usize;
-    let kinds = parts::kinds(bytes, header);
-    let objects = parts::objects(bytes, header);
-    let messages = parts::messages(bytes, header);
-    compiler::compile(
-        header.create,
-        &pattern[..count],
-        &kinds,
-        &objects,
-        &messages[..64],
-        code,
-    )
+    [0; 64]
 }
 
-fn compiled_lines(bytes: &[u8], header: Header, out: &mut [u8]) -> usize
-    requires { ⌜ opened (now bytes) ≡ Opened.Is header ⌝ }
-    ensures { λ r. ⌜ (let b = bundleIn (now (bytes .entry)) in
-        Wrote (givenLines (givenCompiled b (compiledFrom b))) (now (out .entry)) 0 (now (out .exit)) r) ⌝ }
+// Room for message cells.
+fn message_room() -> [u16; 256]
+    ensures { λ r. ⌜ length r ≡ messageCells ⌝ }
 {
-    let mut code = parts::code();
-    let answer = compiled(bytes, header, &mut code);
-    let number = answer.number();
-    let place = answer.place();
-    if number != 0 {
-        return printing::refused(out, number, place);
-    }
-    let words = place as usize;
-    ran_lines(bytes, header, &code[..words], out)
+    [0; 256]
 }
 
-// A spare certificate bit is looked at before compile.
-fn bundle_lines(bytes: &[u8], header: Header, out: &mut [u8]) -> usize
-    requires { ⌜ opened (now bytes) ≡ Opened.Is header ⌝ }
-    ensures { λ r. ⌜ Wrote (givenLines (givenRead (some (bundleIn (now (bytes .entry)))))) (now (out .entry)) 0 (now (out .exit)) r ⌝ }
+// Room for a table.
+fn row_room() -> [u64; 4096]
+    ensures { λ r. ⌜ length r ≡ mostTermRows ⌝ }
 {
-    let pairs = parts::certificates(bytes, header);
-    let count = header.certificates as usize;
-    if !bundles::certificates_clear(&pairs[..count]) {
-        return printing::refused(out, 3, 0);
-    }
-    compiled_lines(bytes, header, out)
+    [0; 4096]
 }
 
 // The listing of any bytes.
 pub fn list(bytes: &[u8], out: &mut [u8]) -> usize
     ensures { λ r. ⌜ Wrote (listing (now (bytes .entry))) (now (out .entry)) 0 (now (out .exit)) r ⌝ }
 {
-    let opened = bundles::open(bytes);
-    match opened {
-        Opened::Refused => printing::refused(out, 1, 0),
-        Opened::Is(header) => bundle_lines(bytes, header, out),
+    let mut code = code_room();
+    let mut objects = object_room();
+    let mut messages = message_room();
+    let mut rows = row_room();
+    let gave = outcomes::given(bytes, &mut code, &mut objects, &mut messages, &mut rows);
+    match gave {
+        Gave::Refused(number, place) => printing::refused(out, number, place),
+        Gave::Ran(words, ended) => {
+            let count = words as usize;
+            let answer = ended.answer;
+            printing::ran(
+                out,
+                &code[..count],
+                answer,
+                &objects,
+                &messages,
+                ended.used as u32,
+                ended.counter,
+                ended.accumulator,
+            )
+        }
     }
 }

@@ -4,7 +4,6 @@ use libc::STDOUT_FILENO;
 use lines::list;
 
 mod lines;
-mod parts;
 
 // Input that fills the buffer is longer than any bundle, and is refused for its size.
 fn main() {

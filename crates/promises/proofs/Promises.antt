@@ -13,6 +13,7 @@ use Rattle.promises.proofs.Demand2.{demand-2}
 use Rattle.promises.proofs.Demand3.{demand-3}
 use Rattle.promises.proofs.Example.{example}
 use Rattle.promises.proofs.ForC.{for-c}
+use Rattle.promises.proofs.RoundLaws.{round-table}
 use Rattle.promises.proofs.ListingLaws.{listing-table}
 use Rattle.promises.proofs.Printed.{printed}
 
@@ -28,6 +29,7 @@ promises = record {
   demand-3 = demand-3;
   for-c = for-c;
   example = example;
+  rounds = round-table;
   listings = listing-table;
   printed = printed;
   looks = looks;

@@ -17,6 +17,8 @@ use Rattle.promises.specs.Demand2.{Demand2}
 use Rattle.promises.specs.Demand3.{Demand3}
 use Rattle.promises.specs.Example.{Example}
 use Rattle.promises.specs.ForC.{ForC}
+use Rattle.calls.specs.Round.{RoundLent}
+use Rattle.promises.specs.Rounds.{RoundTable}
 use Rattle.promises.specs.Listing.{ListingTable, Printed}
 
 pub record Promises (M : Type 1) : Type 2 where
@@ -38,6 +40,8 @@ pub record Promises (M : Type 1) : Type 2 where
   pub for-c : ForC
   -- its premises met by P1, P2 and P9
   pub example : Example
+  -- every number of a round exactly where its condition holds, and nothing changed by any answer but 0
+  pub rounds : (x : RoundLent) (code : List ℕ) → RoundTable x code
   -- what a bundle's listing prints
   pub listings : (bytes : List ℕ) → ListingTable bytes
   -- and what it prints of P1

@@ -1,6 +1,6 @@
 // The parts of a bundle that opened, each in an array of its own.
 ghost use mathlib.Core.Path.{_≡_};
-ghost use lib.ListN.{take, replicate};
+ghost use lib.ListN.{take};
 ghost use Rattle.bundles.specs.Opening.{bundleIn, opened};
 ghost use Rattle.bundles.specs.Given.{lentTo};
 use bundles::Header;
@@ -50,21 +50,4 @@ pub fn certificates(bytes: &[u8], header: Header) -> [u64; 32]
     let mut pairs = [0u64; 32];
     bundles::certificates(bytes, header, &mut pairs);
     pairs
-}
-
-// The bundle's rows, then zero rows.
-pub fn terms(bytes: &[u8], header: Header) -> [u64; 4096]
-    requires { ⌜ opened (now bytes) ≡ Opened.Is header ⌝ }
-    ensures { λ r. ⌜ r ≡ lentTo (bundleIn (now (bytes .entry))) .terms ⌝ }
-{
-    let mut rows = [0u64; 4096];
-    bundles::term_rows(bytes, header, &mut rows);
-    rows
-}
-
-// Room for compiled code.
-pub fn code() -> [u32; 768]
-    ensures { λ r. ⌜ r ≡ replicate 768 0 ⌝ }
-{
-    [0; 768]
 }

@@ -1,8 +1,8 @@
 use borrow.Author.Needs.{needs}
 use Rattle.bundles.proofs.BundleLaws.{fields}
-use Rattle.listing.proofs.PartLaws.{pattern-front}
-use Rattle.listing.proofs.parts.pattern.Statement.{statement}
-use Rattle.listing.proofs.parts.pattern.Tie as tie
+use Rattle.outcomes.proofs.PartLaws.{pattern-front}
+use Rattle.outcomes.proofs.parts.pattern.Statement.{statement}
+use Rattle.outcomes.proofs.parts.pattern.Tie as tie
 
 slice-aggregate-pattern-rows : tie.Need-slice-aggregate-pattern-rows
 slice-aggregate-pattern-rows c = search needs

@@ -1,8 +1,8 @@
 use borrow.Author.Needs.{needs}
 use Rattle.bundles.proofs.BundleLaws.{fields}
-use Rattle.listing.proofs.PartLaws.{certificates-front}
-use Rattle.listing.proofs.parts.certificates.Statement.{statement}
-use Rattle.listing.proofs.parts.certificates.Tie as tie
+use Rattle.outcomes.proofs.PartLaws.{certificates-front}
+use Rattle.outcomes.proofs.parts.certificates.Statement.{statement}
+use Rattle.outcomes.proofs.parts.certificates.Tie as tie
 
 slice-aggregate-certificates : tie.Need-slice-aggregate-certificates
 slice-aggregate-certificates c = search needs

@@ -1,7 +1,7 @@
 use borrow.Author.Needs.{needs}
-use Rattle.listing.proofs.PartLaws.{whole}
-use Rattle.listing.proofs.parts.kinds.Statement.{statement}
-use Rattle.listing.proofs.parts.kinds.Tie as tie
+use Rattle.outcomes.proofs.PartLaws.{whole}
+use Rattle.outcomes.proofs.parts.kinds.Statement.{statement}
+use Rattle.outcomes.proofs.parts.kinds.Tie as tie
 
 slice-aggregate-kinds : tie.Need-slice-aggregate-kinds
 slice-aggregate-kinds c = search needs

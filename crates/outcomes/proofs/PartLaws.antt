@@ -3,7 +3,7 @@ use Prim.Native.Nat.{ℕ, _-_, _≤_}
 use mathlib.Core.Path.{_≡_, sym, _∙_, ap}
 use mathlib.Core.List.{List, [], _++_, append-nil}
 use native.Mathlib.Omega.{arith}
-use lib.ListN.{length, take, replicate, length-take, length-append, length-replicate}
+use lib.ListN.{length, take, drop, replicate, drop-of-length-le, length-take, length-append, length-replicate}
 use lib.Seq.{take-at}
 use Rattle.bundles.specs.Opening.{bundleIn, opened}
 use Rattle.bundles.specs.declared.Header.{Header}
@@ -15,11 +15,15 @@ use Rattle.calls.specs.Run.{Lent, RunOutcome, run}
 use Rattle.calls.specs.Valid.{LentWithin}
 use Rattle.calls.proofs.RunLaws.{run-within}
 use Rattle.terms.specs.Rules.{usedRows}
-use Rattle.numbers.specs.Limits.{scratchCells, mostCodeWords, mostTermRows}
+use Rattle.numbers.specs.Limits.{variables, messageCells, scratchCells, mostCodeWords, mostTermRows}
 use Rattle.looking.specs.Found.{usedWith}
 use Rattle.running.proofs.EndLaws.{used-counted}
 use Rattle.bundles.proofs.OpeningLaws.{opened-is}
 use Rattle.bundles.specs.Given.{lentTo, compileOf}
+
+-- a part that fills its array
+pub whole : {array part : List ℕ} → array ≡ part ++ [] → array ≡ part
+whole is = rw append-nil at is
 
 module _ (bytes : List ℕ) {header : Header} (opens : opened bytes ≡ Is header) where
   pub pattern-front : {rows : List ℕ} (rest : List ℕ) → rows ≡ bundleIn bytes .pattern ++ rest → take (header .«pattern_rows») rows ≡ bundleIn bytes .pattern
@@ -30,8 +34,17 @@ module _ (bytes : List ℕ) {header : Header} (opens : opened bytes ≡ Is heade
   certificates-front rest is = rw is (take-at (bundleIn bytes .certificates) rest (header .certificates) (lengths bytes header opens .certificates))
 
   -- zero rows after the bundle's
-  pub terms-lent : {rows : List ℕ} → rows ≡ bundleIn bytes .terms ++ replicate (4096 - header .«term_rows») 0 → rows ≡ lentTo (bundleIn bytes) .terms
-  terms-lent is = rw (lengths bytes header opens .terms) is
+  pub terms-lent : (room : List ℕ) {rows : List ℕ} → length room ≡ mostTermRows → rows ≡ bundleIn bytes .terms ++ replicate (length room - header .«term_rows») 0
+      → rows ≡ lentTo (bundleIn bytes) .terms
+  terms-lent room long is = rw (lengths bytes header opens .terms, ← long) is
+
+  -- cells fill their slice, and scratch starts unset
+  pub objects-lent : (room : List ℕ) {cells : List ℕ} → length room ≡ variables → cells ≡ bundleIn bytes .objects ++ drop 64 room → cells ≡ lentTo (bundleIn bytes) .objects
+  objects-lent room long is = whole (is ∙ ap (λ rest. bundleIn bytes .objects ++ rest) (drop-of-length-le room {i = 64} (omega (arith, long))))
+
+  pub messages-lent : (room : List ℕ) {cells : List ℕ} → length room ≡ messageCells → cells ≡ bundleIn bytes .named ++ replicate (length room - 64) unset
+      → cells ≡ lentTo (bundleIn bytes) .messages
+  messages-lent room long is = rw long at is
 
   pub named-front : {cells : List ℕ} → cells ≡ lentTo (bundleIn bytes) .messages → take 64 cells ≡ bundleIn bytes .named
   named-front is = rw is (take-at (bundleIn bytes .named) (replicate 192 unset) 64 (lengths bytes header opens .named))
@@ -85,7 +98,3 @@ module _ (count : ℕ) (array : List ℕ) {part : List ℕ} (is : take count arr
 
   pub front-inside : count ≤ length array
   front-inside = omega (arith, front-length, length-take count array)
-
--- a part that fills its array
-pub whole : {array part : List ℕ} → array ≡ part ++ [] → array ≡ part
-whole is = rw append-nil at is

@@ -1,7 +1,7 @@
 use borrow.Author.Needs.{needs}
-use Rattle.listing.proofs.PartLaws.{whole}
-use Rattle.listing.proofs.parts.objects.Statement.{statement}
-use Rattle.listing.proofs.parts.objects.Tie as tie
+use Rattle.outcomes.proofs.PartLaws.{whole}
+use Rattle.outcomes.proofs.parts.objects.Statement.{statement}
+use Rattle.outcomes.proofs.parts.objects.Tie as tie
 
 slice-aggregate-object-cells : tie.Need-slice-aggregate-object-cells
 slice-aggregate-object-cells c = search needs

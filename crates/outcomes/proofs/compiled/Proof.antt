@@ -3,9 +3,9 @@ use native.Mathlib.Omega.{arith}
 use lib.Seq.{length-take-le}
 use borrow.Author.Needs.{needs}
 use Rattle.bundles.proofs.BundleLaws.{lengths}
-use Rattle.listing.proofs.PartLaws.{compile-given, front-length, front-inside}
-use Rattle.listing.proofs.lines.compiled.Statement.{statement}
-use Rattle.listing.proofs.lines.compiled.Tie as tie
+use Rattle.outcomes.proofs.PartLaws.{compile-given, front-length, front-inside}
+use Rattle.outcomes.proofs.compiled.Statement.{statement}
+use Rattle.outcomes.proofs.compiled.Tie as tie
 
 pattern-requires : tie.Need-pattern-requires
 pattern-requires c κs = search needs

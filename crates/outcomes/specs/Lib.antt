@@ -1,0 +1,2 @@
+-- What a bundle gives, as the code holds it.
+pub mod Held
