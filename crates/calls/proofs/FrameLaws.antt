@@ -9,7 +9,7 @@ use lib.ListN.{length, take, drop, length-append}
 use lib.Seq.{take-append-seam}
 use Rattle.code.specs.Instruction.{instructionOf}
 use Rattle.code.specs.declared.Instruction.{Instruction}
-use Rattle.theory.specs.Machine.{Line, line}
+use Rattle.theory.specs.Machine.{Line}
 use Rattle.theory.proofs.InTurn.{laterLine}
 use Rattle.calls.specs.Run.{addLine, linesFrom}
 use Rattle.calls.specs.Frame.{outputWord, framed, middle}

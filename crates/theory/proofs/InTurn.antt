@@ -5,7 +5,7 @@ use Prim.Native.Nat.{ℕ, _+_}
 use Rattle.code.specs.declared.Instruction.{Instruction}
 use Rattle.theory.specs.Outcome.{Outcome, done, stuck, room, bind}
 use Rattle.theory.specs.World.{World}
-use Rattle.theory.specs.Machine.{Line, line, State, step, exec}
+use Rattle.theory.specs.Machine.{Line, lineAt, State, step, exec}
 use Rattle.theory.proofs.Simulation.{bind-assoc}
 use Rattle.theory.proofs.Places.{movedTo, moved-step}
 
@@ -28,7 +28,7 @@ module _ {A B : Type 0} where
   from-bind first (room place) f = refl
 
 abbrev pub laterLine : ℕ → Line → Line
-laterLine first l = line (first + l .place) (l .instruction)
+laterLine first l = lineAt (first + l .place) (l .instruction)
 
 module _ (W : World) (kind : ℕ → ℕ) where
   pub exec-append : (c d : List Line) (s : State W) → exec W kind (c ++ d) s ≡ bind (exec W kind c s) (exec W kind d)
