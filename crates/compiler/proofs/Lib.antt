@@ -6,4 +6,3 @@ pub mod ClearLaws
 pub mod WalkLaws
 pub mod DeliveryLaws
 pub mod OverCells
-pub mod Coincide

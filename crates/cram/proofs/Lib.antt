@@ -1,2 +1,1 @@
 -- Laws of the entries for C.
-pub mod Coincide

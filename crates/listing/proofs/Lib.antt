@@ -1,4 +1,3 @@
 -- Laws of the listing.
 pub mod LinesLaws
-pub mod Listed
 pub mod Coincide

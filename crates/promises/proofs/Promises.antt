@@ -16,6 +16,8 @@ use Rattle.promises.proofs.ForC.{for-c}
 use Rattle.promises.proofs.RoundLaws.{round-table}
 use Rattle.promises.proofs.ListingLaws.{listing-table}
 use Rattle.promises.proofs.Printed.{printed}
+use Rattle.outcomes.proofs.Listed.{listing-short, cut}
+use Rattle.outcomes.proofs.Listed as Listed
 
 pub promises : {M : Type 1} → Promises M
 promises = record {
@@ -31,6 +33,7 @@ promises = record {
   example = example;
   rounds = round-table;
   listings = listing-table;
+  program = record { fits = listing-short; cut = cut; printed = λ bytes wrote long. Listed.printed bytes wrote long };
   printed = printed;
   looks = looks;
   meanings = meanings;

@@ -1,13 +1,14 @@
 -- Demand 1 for the bundle and the listing: what is read, what is refused, what is printed.
-use Prim.Native.Nat.{ℕ, zero}
+use Prim.Native.Nat.{ℕ, zero, _≤_}
 use mathlib.Core.Path.{_≡_}
 use mathlib.Core.Logic.{_↔_, _≢_}
 use mathlib.Core.Option.{none, some}
 use mathlib.Core.List.{List, [], _∷_, _++_}
-use lib.ListN.{replicate}
+use lib.ListN.{length, take, drop, replicate}
 use Rattle.word.specs.All.{All}
 use Rattle.word.specs.Bytes.{spelled}
 use Rattle.text.specs.Lines.{line, wordLine}
+use Rattle.text.specs.Written.{Wrote}
 use Rattle.answers.specs.Numbers.{compiledNumber, compiledPlace}
 use Rattle.stores.specs.Certificates.{spareOf}
 use Rattle.calls.specs.Compile.{compiledCode}
@@ -42,6 +43,18 @@ pub record Printed : Type 0 where
       ++ wordLine objectWord (0 ∷ 0 ∷ [])
       ++ wordLine objectWord (1 ∷ 2 ∷ [])
       ++ wordLine messageWord (0 ∷ 1 ∷ [])
+
+-- the program's two buffers
+abbrev pub bufferBytes : ℕ
+bufferBytes = 65536
+
+-- the program reads so many bytes at most and prints from a buffer of as many: no listing is cut, and input beyond the buffer changes nothing
+pub record Program : Type 0 where
+  pub fits : (bytes : List ℕ) → length (listing bytes) ≤ bufferBytes
+  pub cut : (bytes : List ℕ) → listing (take bufferBytes bytes) ≡ listing bytes
+  -- what `list` leaves in such a buffer: its first bytes are the listing, and the others are as they were
+  pub printed : (bytes : List ℕ) {before after : List ℕ} {end : ℕ} → Wrote (listing bytes) before 0 after end → bufferBytes ≤ length before
+      → (take end after ≡ listing bytes) × (drop end after ≡ drop end before)
 
 pub record ListingTable (bytes : List ℕ) : Type 0 where
   pub unread : (readBundle bytes ≡ none) ↔ (BundleWithin bytes → ⊥)

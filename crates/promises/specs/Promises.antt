@@ -19,7 +19,7 @@ use Rattle.promises.specs.Example.{Example}
 use Rattle.promises.specs.ForC.{ForC}
 use Rattle.calls.specs.Round.{RoundLent}
 use Rattle.promises.specs.Rounds.{RoundTable}
-use Rattle.promises.specs.Listing.{ListingTable, Printed}
+use Rattle.promises.specs.Listing.{ListingTable, Printed, Program}
 
 pub record Promises (M : Type 1) : Type 2 where
   -- the functions meet their contracts, and what the contracts say is what the rest speaks of
@@ -44,6 +44,8 @@ pub record Promises (M : Type 1) : Type 2 where
   pub rounds : (x : RoundLent) (code : List ℕ) → RoundTable x code
   -- what a bundle's listing prints
   pub listings : (bytes : List ℕ) → ListingTable bytes
+  -- the program around it
+  pub program : Program
   -- and what it prints of P1
   pub printed : Printed
   -- the order of 6 and 7, a line a form

@@ -1,4 +1,3 @@
 -- Laws of a run.
 pub mod ReadyLaws
 pub mod EndLaws
-pub mod Coincide
