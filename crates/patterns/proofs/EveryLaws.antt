@@ -14,7 +14,7 @@ use Rattle.patterns.specs.Row.{rowWidths, Fields, fieldsOf}
 use Rattle.patterns.specs.Tree.{partsBy, formBy, noPattern, patternAt, patternsFrom, patternsOf, patternOf}
 use Rattle.patterns.specs.Laid.{rowFields, rowBy, keyForm, keyName, keyOther, rootFrom, roots, laid, laidParts, numbered, numberedParts, bare, bareParts, ObjectsBelow, ObjectsInParts, Fits}
 
-abbrev fieldsBy : List ℕ → Fields
+abbrev pub fieldsBy : List ℕ → Fields
 fieldsBy all =
     record {
       tag = at 0 all;
@@ -75,7 +75,7 @@ mutual
 mutual
   unfolding laid size
 
-  laid-length : (first : ℕ) (p : Pattern) → length (laid first p) ≡ size p
+  pub laid-length : (first : ℕ) (p : Pattern) → length (laid first p) ≡ size p
   laid-length first (object row v) = refl
   laid-length first (raw row r) = refl
   laid-length first (constant row c b) = refl
@@ -88,7 +88,7 @@ mutual
   laid-length first (letIn row r p₁ p₂) =
       rw (length-append, length-append (laid first p₁) (laid (first + size p₁) p₂), laid-length first p₁, laid-length (first + size p₁) p₂) (omega arith)
 
-  laid-lengths : (first : ℕ) (ps : Parts) → length (laidParts first ps) ≡ sizes ps
+  pub laid-lengths : (first : ℕ) (ps : Parts) → length (laidParts first ps) ≡ sizes ps
   laid-lengths first end = refl
   laid-lengths first (part p ps) = rw (length-append, laid-length first p, laid-lengths (first + size p) ps)
 
@@ -132,21 +132,21 @@ roots-read built place (part p ps) long =
     (ap (λ all. partsBy (patternAt all) (roots (place + size p) ps)) (sym (append-assoc built (nodes place p) (nodesOf (place + size p) ps)))
     ∙ roots-read (built ++ nodes place p) (place + size p) ps (longer built place p long))
 
-roots-count : (place : ℕ) (ps : Parts) → length (roots place ps) ≡ count ps
+pub roots-count : (place : ℕ) (ps : Parts) → length (roots place ps) ≡ count ps
 unfolding roots count
 roots-count place end = refl
 roots-count place (part p ps) = ap suc (roots-count (place + size p) ps)
 
-root-below : (place : ℕ) (p : Pattern) → place + size p ≤ 96 → rootFrom place p < 128
+pub root-below : (place : ℕ) (p : Pattern) → place + size p ≤ 96 → rootFrom place p < 128
 root-below place p few = omega arith
 
-roots-below : (place : ℕ) (ps : Parts) → place + sizes ps ≤ 96 → All (λ child. child < 128) (roots place ps)
+pub roots-below : (place : ℕ) (ps : Parts) → place + sizes ps ≤ 96 → All (λ child. child < 128) (roots place ps)
 unfolding roots size
 roots-below place end few = tt
 roots-below place (part p ps) few = (root-below place p (omega arith), roots-below (place + size p) ps (omega arith))
 
 -- children stand in the first slots
-children-taken : (children : List ℕ) → length children ≤ 4
+pub children-taken : (children : List ℕ) → length children ≤ 4
     → take (length children) (getD children 0 0 ∷ getD children 1 0 ∷ getD children 2 0 ∷ getD children 3 0 ∷ []) ≡ children
 children-taken [] few = refl
 children-taken (a ∷ []) few = refl
@@ -161,14 +161,14 @@ key-read (plainKey x) = refl
 key-read (opKey k K) = refl
 key-read (certifiedKey k a) = refl
 
-key-form : (key : Key) → keyForm key < 4
+pub key-form : (key : Key) → keyForm key < 4
 key-form (plainKey x) = omega arith
 key-form (opKey k K) = omega arith
 key-form (certifiedKey k a) = omega arith
 
 -- what a row's fields have room for
 module _ (tag v f x y r : ℕ) (children : List ℕ) where
-  fields-read : tag < 16 → v < 64 → f < 4 → x < 256 → y < 64 → r < 64 → length children ≤ 4 → All (λ child. child < 128) children
+  pub fields-read : tag < 16 → v < 64 → f < 4 → x < 256 → y < 64 → r < 64 → length children ≤ 4 → All (λ child. child < 128) children
       → fieldsOf (rowBy tag v f x y r children) ≡ fieldsBy (rowFields tag v f x y r children)
   fields-read t a b c d e few below =
       let slot = all-getD (λ child. child < 128) children 0 below (omega arith) in

@@ -13,3 +13,4 @@ pub mod RightRow
 pub mod SumLaws
 pub mod TreeLaws
 pub mod EveryLaws
+pub mod PassLaws
