@@ -20,12 +20,12 @@ use Rattle.patterns.proofs.MarkLaws.{marked-none, marked-all, again-all
 children-below : (word : ℕ) → All (λ child. child < 128) (childrenOf word)
 children-below word = at-all _ (childrenOf word) 0 λ slot inside. rw (child-slot word slot inside) (slot-below word slot)
 
-named-append : (front back : List ℕ) → childrenNamed (front ++ back) ≡ childrenNamed front ++ childrenNamed back
+pub named-append : (front back : List ℕ) → childrenNamed (front ++ back) ≡ childrenNamed front ++ childrenNamed back
 unfolding flatMap
 named-append [] back = refl
 named-append (word ∷ front) back = rw (named-append front back, append-assoc)
 
-named-one : (word : ℕ) → childrenNamed (word ∷ []) ≡ childrenOf word
+pub named-one : (word : ℕ) → childrenNamed (word ∷ []) ≡ childrenOf word
 unfolding flatMap
 named-one word = append-nil (childrenOf word)
 

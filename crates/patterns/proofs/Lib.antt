@@ -12,3 +12,5 @@ pub mod RuleLaws
 pub mod RightRow
 pub mod SumLaws
 pub mod TreeLaws
+pub mod EveryLaws
+pub mod PassLaws

@@ -42,11 +42,11 @@ sum-none f zero none = refl
 sum-none f (suc n) none = rw (sum-none f n λ k less. none k (omega arith), none n (omega arith))
 
 module _ (k : ℕ) where
-  times-here : (n : ℕ) (rest : List ℕ) → n ≡ k → times k (n ∷ rest) ≡ suc (times k rest)
+  pub times-here : (n : ℕ) (rest : List ℕ) → n ≡ k → times k (n ∷ rest) ≡ suc (times k rest)
   unfolding times
   times-here n rest e = rw (eq-eqb n k e)
 
-  times-else : (n : ℕ) (rest : List ℕ) → (n ≡ k → ⊥) → times k (n ∷ rest) ≡ times k rest
+  pub times-else : (n : ℕ) (rest : List ℕ) → (n ≡ k → ⊥) → times k (n ∷ rest) ≡ times k rest
   unfolding times
   times-else n rest e = rw (ne-eqb n k e)
 
@@ -107,7 +107,7 @@ module _ (k : ℕ) where
   times-append [] back = omega arith
   times-append (n ∷ front) back = rw (times-append front back) (count-more (eqb n k) (times k front) (times k back))
 
-  times-middle : (n : ℕ) (front back : List ℕ) → times k ((n ∷ front) ++ back) ≡ times k (front ++ (n ∷ back))
+  pub times-middle : (n : ℕ) (front back : List ℕ) → times k ((n ∷ front) ++ back) ≡ times k (front ++ (n ∷ back))
   times-middle n front back =
       omega (arith, times-append (n ∷ front) back, times-append (n ∷ []) front, times-append front (n ∷ back), times-append (n ∷ []) back)
 

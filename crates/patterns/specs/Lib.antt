@@ -9,3 +9,4 @@ pub mod Kinds
 pub mod Marks
 pub mod RowKinds
 pub mod RightRow
+pub mod Laid
