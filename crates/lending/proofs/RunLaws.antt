@@ -9,7 +9,6 @@ use lib.ListN.{length}
 use Rattle.word.specs.Bytes.{elements, spelled}
 use Rattle.word.proofs.ByteLaws.{Below, length-words, spelled-elements}
 use Rattle.word.proofs.TestLaws.{both, equals, at-most, is-false}
-use Rattle.answers.specs.declared.Ran.{Ran}
 use Rattle.answers.specs.declared.Ran.the-variants.{Limit}
 use Rattle.numbers.specs.Limits.{variables, messageCells, mostCodeWords, mostTermRows, mostCertificates}
 use Rattle.looking.specs.Found.{usedWith}

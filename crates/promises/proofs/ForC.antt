@@ -1,14 +1,13 @@
 -- The entries over bytes: what they leave is what compile and run leave of the elements, spelled.
 use Prim.Native.Nat.{ℕ, _*_, _<_, _≤_, _%_, _^_}
-use mathlib.Core.Path.{_≡_, refl, sym, _∙_, ap, subst}
+use mathlib.Core.Path.{_≡_, sym, _∙_, ap}
 use mathlib.Core.Logic.{_↔_, _≢_}
-use mathlib.Core.Bool.{Bool, true, false, _&&_}
-use mathlib.Core.Option.{some}
+use mathlib.Core.Bool.{Bool, true, false}
 use mathlib.Core.List.{List, _++_}
 use native.Mathlib.Decide.{decLt}
 use native.Mathlib.Omega.{arith}
 use borrow.Author.Tests.{eq-eqb}
-use lib.Dec.{T, eqb, leb}
+use lib.Dec.{T, eqb}
 use borrow.Table.Elements.{length-take-le}
 use lib.ListN.{length, take, drop, getD, take-append-drop, length-map, List·getD-eq-default}
 use lib.Seq.{take-append-seam, drop-append-seam}
@@ -19,11 +18,9 @@ use Rattle.word.proofs.ByteLaws.{Below, length-spelled, spelled-append, element
 use Rattle.answers.specs.Numbers.{compiledNumber, compiledPlace, ranNumber}
 use Rattle.code.specs.GoodWords.{AllGoodWords}
 use Rattle.calls.specs.Compile.{CompileOutcome, codeWords, compiledCode, compile}
-use Rattle.calls.specs.Run.{Lent, RunOutcome, unchanged, run}
-use Rattle.theory.specs.TermModel.{Term}
-use Rattle.lending.specs.Entries.{CompileLeft, compileSpelled, compileRefused, compileWhole, compileEntry, RunLeft, runSpelled, runRefused, runWhole, lentElements, runEntry}
+use Rattle.calls.specs.Run.{Lent, RunOutcome, run}
+use Rattle.lending.specs.Entries.{compileSpelled, compileRefused, compileWhole, compileEntry, runSpelled, runRefused, runWhole, lentElements, runEntry}
 use Rattle.promises.specs.Answers.{RunAnswers, compileNumber}
-use Rattle.promises.specs.Conditions.{CompileWithin, RunWithin}
 use Rattle.promises.specs.Demand3.{CodeFor, Prepared}
 use Rattle.promises.specs.ForC.{Bytes, Whole, CompileWhole, CompileForC, RunWhole, RunComes, AsLent, RunForC, BytesFor, PreparedForC, ForC}
 use Rattle.promises.proofs.WordLaws as Words

@@ -1,5 +1,5 @@
 -- Emission looks at what each form's line says, in that order.
-use Prim.Native.Nat.{ℕ, zero, suc, _<_}
+use Prim.Native.Nat.{ℕ, suc, _<_}
 use mathlib.Core.Path.{_≡_, refl, sym, _∙_, ap}
 use mathlib.Core.Bool.{Bool, true, false, cond}
 use mathlib.Core.List.{List, [], _∷_, _++_}
@@ -14,9 +14,9 @@ use Rattle.theory.specs.Store.{put}
 use Rattle.theory.specs.World.{creatable}
 use Rattle.theory.specs.Machine.{Line, lineAt, named, scratch}
 use Rattle.theory.specs.Emission.{Env, Emitted, ok, refuse, behind, andThen, _then_, addObject, readable, emit, take}
-use Rattle.theory.specs.Compilers.{LOAD, STORE, STORE-CONST, DECODE, ENCODE, CREATE, ANALYZE-TUPLE, CREATE-TUPLE, OPPOSITE, KEY-OF, MATCH, ENCRYPT, DECRYPT, SIGN, VERIFY, HASH, verifying, compile↓, compile↓parts, keyVar, compile↑K, compile↑, compile↑parts}
+use Rattle.theory.specs.Compilers.{LOAD, STORE, STORE-CONST, DECODE, ENCODE, CREATE, ANALYZE-TUPLE, CREATE-TUPLE, OPPOSITE, KEY-OF, MATCH, ENCRYPT, DECRYPT, SIGN, VERIFY, HASH, compile↓, compile↓parts, keyVar, compile↑K, compile↑, compile↑parts}
 use Rattle.theory.specs.Compilers as Compilers
-use Rattle.theory.proofs.StoreLaws.{put-same, put-other}
+use Rattle.theory.proofs.StoreLaws.{put-same}
 use Rattle.theory.proofs.CellLaws.{readable-named, readable-scratch, occupied-named, occupied-scratch, addRaw-named, addRaw-scratch}
 use Rattle.theory.proofs.CellLaws as Cells
 use Rattle.calls.specs.Compile.{tables}

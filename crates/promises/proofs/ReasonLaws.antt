@@ -1,7 +1,7 @@
 -- Why a step stops, in the state before it.
 use Prim.Native.Nat.{ℕ, zero, suc, _<_, _≤_}
 use mathlib.Core.Path.{_≡_, refl, sym, _∙_, ap, subst}
-use mathlib.Core.Logic.{_↔_, _≢_, _⊎_, inl, inr, Iff·rfl}
+use mathlib.Core.Logic.{_↔_, _≢_, _⊎_, inl, inr}
 use mathlib.Core.Bool.{Bool, true, false, _&&_, _||_}
 use mathlib.Core.Option.{Option, none, some}
 use mathlib.Core.List.{List, [], _∷_, map}
@@ -13,13 +13,10 @@ use borrow.Author.Tests.{eq-eqb, ne-eqb, lt-ltb, le-ltb}
 use Rattle.word.proofs.All.{All}
 use Rattle.word.specs.Lowest.{oneOf}
 use Rattle.word.proofs.LowestLaws.{one-all}
-use Rattle.word.proofs.TestLaws.{both, either, equals, is-false, is-true}
-use Rattle.numbers.specs.Kinds.{kindIn}
+use Rattle.word.proofs.TestLaws.{both, either, equals, is-false}
 use Rattle.numbers.specs.Limits.{mostNames}
 use Rattle.numbers.specs.declared.Object.{Object}
 use Rattle.numbers.specs.declared.Raw.{Raw}
-use Rattle.answers.specs.Numbers.{reasonNumber}
-use Rattle.code.specs.Instruction.{instructionOf}
 use Rattle.code.specs.Words.{hasKind, cellsFit, operandsFit}
 use Rattle.code.specs.declared.Instruction.{Instruction}
 use Rattle.code.specs.declared.Instruction.the-variants.{Load, Store, StoreConst, Decode, Encode, Create, AnalyzeTuple, CreateTuple, Opposite, KeyOf, Match, Encrypt, Decrypt, Sign, Verify, Hash}

@@ -1,11 +1,10 @@
 -- 10 and 11 by their reasons.
 use Prim.Native.Nat.{ℕ}
-use mathlib.Core.Path.{_≡_, refl, subst}
+use mathlib.Core.Path.{refl}
 use mathlib.Core.List.{List, [], _∷_}
 use lib.Dec.{T}
 use lib.ListN.{getD}
 use Rattle.code.specs.Words.{operandsFit}
-use Rattle.code.specs.declared.Instruction.{Instruction}
 use Rattle.code.proofs.WordLaws.{good-iff}
 use Rattle.numbers.specs.Kinds.{kindIn}
 use Rattle.theory.specs.Outcome.{Outcome, done, stuck, room}

@@ -12,7 +12,6 @@ use Rattle.word.specs.Lowest.{LowestBad, AllGood}
 use Rattle.word.proofs.TestLaws.{both, chosen, fails, twice, is-true, is-false, equals, at-most}
 use Rattle.word.proofs.LowestLaws.{none-bad, lowest-bad}
 use Rattle.numbers.specs.Kinds.{kindIn}
-use Rattle.numbers.specs.Limits.{mostRounds, mostRoundWords}
 use Rattle.answers.specs.First.{when, first}
 use Rattle.answers.specs.Numbers.{reasonNumber, reasonOf}
 use Rattle.answers.specs.RoundNumbers.{roundedNumber, roundedPlace, roundedReason}
@@ -24,7 +23,6 @@ use Rattle.code.specs.Words.{goodWord}
 use Rattle.code.specs.GoodWords.{GoodWord}
 use Rattle.code.proofs.WordLaws.{good-iff}
 use Rattle.terms.specs.Rules.{usedRows, badTerm}
-use Rattle.terms.specs.Table.{ValidTable}
 use Rattle.terms.proofs.TableLaws.{bad-term-at, valid-table}
 use Rattle.stores.specs.Cells.{unset, isSet}
 use Rattle.stores.specs.Valid.{cellFits, valid}
@@ -37,7 +35,7 @@ use Rattle.calls.specs.Frame.{inputWord, outputWord, middle, goodRoundWord, bad
 use Rattle.calls.specs.Round.{RoundLent, RoundOutcome, untouched, received, sentBy, roundEnded, roundLengthsFit, recordFits, roundBy, round}
 use Rattle.calls.proofs.CompileLaws.{passes-when, fails-when}
 use Rattle.calls.proofs.RunLaws.{stores-valid}
-use Rattle.promises.specs.Rounds.{RoundAnswers, RoundWithin, ValidRecord, GoodRoundWord, RoundChecked, Due, Comes, RoundTable}
+use Rattle.promises.specs.Rounds.{RoundAnswers, RoundWithin, ValidRecord, GoodRoundWord, RoundChecked, Due, RoundTable}
 use Rattle.promises.proofs.StepLaws.{exec-reasoned, reason-back}
 use Rattle.stores.proofs.ValidLaws.{unset-or-used}
 

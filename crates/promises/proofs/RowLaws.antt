@@ -1,18 +1,17 @@
 -- Packed rows, tag by tag.
-use Prim.Native.Nat.{ℕ, zero, suc, _+_, _*_, _/_, _%_, _^_, _<_, _≤_}
+use Prim.Native.Nat.{ℕ, zero, suc, _+_, _*_, _%_, _^_, _<_, _≤_}
 use mathlib.Core.Path.{_≡_, refl, sym, _∙_, ap, subst}
-use mathlib.Core.Logic.{_↔_}
 use mathlib.Core.List.{List, [], _∷_}
 use native.Mathlib.Omega.{arith}
 use lib.ListN.{length, take, drop, length-take, replicate}
 use Rattle.word.specs.Fields.{split, join, at}
 use Rattle.word.proofs.All.{All}
 use Rattle.word.proofs.FieldLaws.{Fit, fit-equal, padded, split-join-padded, join-below, join-split}
-use Rattle.terms.specs.Shape.{Shape, atom, encrypted, signed, hashed, tupled}
-use Rattle.terms.specs.Row.{termWidths, atomWidths, rowOf, tagOf, shapeOf}
-use Rattle.terms.proofs.ShapeLaws.{field, slotsOf, numberOf, Plain, shape-encrypted, shape-signed, shape-hashed, shape-tupled, shape-atom, by-tag}
+use Rattle.terms.specs.Shape.{Shape, atom, tupled}
+use Rattle.terms.specs.Row.{termWidths, rowOf, tagOf, shapeOf}
+use Rattle.terms.proofs.ShapeLaws.{field, slotsOf, numberOf, shape-encrypted, shape-signed, shape-hashed, shape-tupled, shape-atom, by-tag}
 use Rattle.terms.proofs.FieldLaws.{slot-below}
-use Rattle.promises.specs.Rows.{AllZero, fieldsOf, PackedRow, Rows}
+use Rattle.promises.specs.Rows.{AllZero, PackedRow, Rows}
 
 not-above : (tag : ℕ) → (7 ≤ tag → ⊥) → tag ≤ 6
 not-above tag n = omega arith

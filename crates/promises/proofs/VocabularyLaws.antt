@@ -1,17 +1,16 @@
 -- What keys, names and certificates do, both ways.
-use Prim.Native.Nat.{ℕ, suc, _<_, _≤_}
-use mathlib.Core.Path.{_≡_, refl, sym, _∙_, ap, subst}
+use Prim.Native.Nat.{ℕ, suc, _<_}
+use mathlib.Core.Path.{_≡_, refl, sym, ap}
 use mathlib.Core.Logic.{_↔_, inl, inr}
 use mathlib.Core.Bool.{Bool, true, false, _&&_}
 use mathlib.Core.Option.{Option, none, some}
-use mathlib.Core.List.{List}
 use native.Mathlib.Decide.{decLt}
 use native.Mathlib.Omega.{arith}
 use lib.Dec.{T, eqb}
 use lib.ListN.{length, getD}
 use borrow.Author.Tests.{eq-eqb, lt-ltb, le-ltb}
 use Rattle.word.proofs.TestLaws.{both, equals, is-true}
-use Rattle.theory.specs.Outcome.{Answer, got, not, full, andThen, sure}
+use Rattle.theory.specs.Outcome.{Answer, got, not, andThen, sure}
 use Rattle.theory.specs.World as Voc
 use Rattle.theory.specs.Model.{numberOf, goesWith, certified}
 use Rattle.theory.specs.TermModel.{Term, Terms, atom, encrypted, signed, hashed, tupled, listed, collected, Names, raisedTo, termModel, termWorld, sameTerm, isYes, shapeOfTerm}

@@ -1,21 +1,21 @@
 -- Good words, field by field.
 use Prim.Native.Nat.{ℕ, _+_, _^_, _<_, _≤_}
 use mathlib.Core.Path.{_≡_, refl, sym, _∙_, ap, subst}
-use mathlib.Core.Logic.{_↔_, _⊎_, inl, inr}
+use mathlib.Core.Logic.{_⊎_, inl, inr}
 use mathlib.Core.Bool.{_&&_}
 use mathlib.Core.Option.{Option, none, some}
 use mathlib.Core.List.{List, [], _∷_}
 use native.Mathlib.Omega.{arith}
-use lib.Dec.{T, eqb, leb, ltb}
+use lib.Dec.{T, leb, ltb}
 use lib.ListN.{length, getD}
-use borrow.Author.Tests.{le-leb, lt-ltb}
-use Rattle.word.specs.Fields.{split, join, at}
+use borrow.Author.Tests.{lt-ltb}
+use Rattle.word.specs.Fields.{join, at}
 use Rattle.word.specs.Lowest.{oneOf}
 use Rattle.word.proofs.FieldLaws.{Fit, split-fits, split-join, join-split, join-below}
 use Rattle.word.proofs.All.{All, all-getD}
-use Rattle.word.proofs.TestLaws.{both, is-true, at-most}
+use Rattle.word.proofs.TestLaws.{both, at-most}
 use Rattle.word.proofs.LowestLaws.{one-all, one-at}
-use Rattle.word.proofs.OneOfLaws.{from, one-here, one-later, one-up-to}
+use Rattle.word.proofs.OneOfLaws.{from, one-up-to}
 use Rattle.numbers.specs.Sorts.{asObject, asRaw}
 use Rattle.numbers.specs.declared.Object.{Object}
 use Rattle.code.specs.Instruction.{wordWidths, fieldsOf, wordOf, instructionBy, instructionOf}

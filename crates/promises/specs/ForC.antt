@@ -2,7 +2,6 @@
 use Prim.Native.Nat.{ℕ, _*_, _<_, _≤_, _%_}
 use mathlib.Core.Path.{_≡_}
 use mathlib.Core.Logic.{_↔_, _≢_}
-use mathlib.Core.Bool.{Bool, true, false}
 use mathlib.Core.Option.{some}
 use mathlib.Core.List.{List, _++_}
 use lib.Dec.{eqb}
@@ -13,7 +12,6 @@ use Rattle.numbers.specs.Limits.{namedCells}
 use Rattle.theory.specs.TermModel.{Term}
 use Rattle.calls.specs.Compile.{SameSet, CompileOutcome, compiledCode, compile}
 use Rattle.calls.specs.Run.{Lent, RunOutcome, run}
-use Rattle.lending.specs.declared.RunAnswer.{RunAnswer}
 use Rattle.lending.specs.Entries.{CompileLeft, compileEntry, RunLeft, lentElements, runEntry}
 use Rattle.promises.specs.Answers.{CompileAnswers, RunAnswers}
 use Rattle.promises.specs.Reading.{messageBefore}

@@ -8,7 +8,7 @@ use denote.Ref.{now}
 use denote.Triple.Clauses.{AtExit}
 use borrow.Fn.World.{ArgsD, ResD}
 use Rattle.calls.specs.Compile.{CompileOutcome, usedPart, compile}
-use Rattle.calls.specs.Run.{Lent, RunOutcome, run}
+use Rattle.calls.specs.Run.{RunOutcome, run}
 use Rattle.bundles.specs.Opening.{opened}
 use Rattle.looking.specs.Found.{usedWith}
 use Rattle.lending.specs.Entries.{CompileLeft, compileEntry, RunLeft, runEntry}

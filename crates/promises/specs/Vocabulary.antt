@@ -1,13 +1,13 @@
 -- What keys, names and certificates do, over abstract terms, as document 01 has it.
-use Prim.Native.Nat.{ℕ, suc, _<_, _≤_}
+use Prim.Native.Nat.{ℕ, suc, _<_}
 use mathlib.Core.Path.{_≡_}
-use mathlib.Core.Logic.{_↔_, _⊎_}
-use mathlib.Core.Option.{none, some}
+use mathlib.Core.Logic.{_↔_}
+use mathlib.Core.Option.{some}
 use mathlib.Core.List.{List}
 use lib.ListN.{length, getD}
-use Rattle.theory.specs.Outcome.{got, not, full}
+use Rattle.theory.specs.Outcome.{got}
 use Rattle.theory.specs.World as Voc
-use Rattle.theory.specs.TermModel.{Term, Terms, atom, encrypted, signed, hashed, tupled, listed, collected, Names, raisedTo, termWorld}
+use Rattle.theory.specs.TermModel.{Term, Terms, atom, encrypted, signed, hashed, tupled, listed, collected, Names, termWorld}
 
 -- the terms of tags 1 to 6
 abbrev pub byte : ℕ → Term

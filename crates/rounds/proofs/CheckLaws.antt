@@ -11,7 +11,7 @@ use lib.ListN.{length}
 use Rattle.word.proofs.TestLaws.{both, twice, fails, is-false, equals, at-most}
 use Rattle.numbers.specs.Kinds.{kindIn}
 use Rattle.numbers.specs.Limits.{variables, messageCells, mostCertificates, mostTermRows, mostNames, mostRounds, mostRoundWords}
-use Rattle.answers.specs.First.{when, first}
+use Rattle.answers.specs.First.{first}
 use Rattle.answers.specs.declared.Ran.the-variants.{Limit, BadTerm, BadStore, BadWord}
 use Rattle.answers.specs.declared.rounds.Session.{Session}
 use Rattle.answers.specs.declared.rounds.Rounded.{Rounded}
@@ -20,7 +20,6 @@ use Rattle.terms.specs.Rules.{usedRows, badTerm}
 use Rattle.terms.proofs.TableLaws.{valid-table}
 use Rattle.stores.specs.Cells.{isSet}
 use Rattle.stores.specs.Valid.{cellFits}
-use Rattle.calls.specs.Run.{Lent}
 use Rattle.calls.specs.Valid.{LentWithin, Valid}
 use Rattle.calls.specs.Frame.{badRoundWord}
 use Rattle.calls.specs.Round.{RoundLent, received, untouched, roundLengthsFit, recordFits, roundRefusals, roundBy, round}

@@ -3,16 +3,15 @@ use mathlib.Core.Path.{_≡_, refl, sym, _∙_, ap}
 use mathlib.Core.Logic.{⊎-elim}
 use mathlib.Core.Option.{none}
 use mathlib.Core.List.{List}
-use Prim.Native.Nat.{ℕ, suc, _+_, _<_, _≤_}
+use Prim.Native.Nat.{ℕ, suc, _<_, _≤_}
 use native.Mathlib.Omega.{arith}
-use borrow.Author.Tests.{eq-eqb, ne-eqb}
+use borrow.Author.Tests.{eq-eqb}
 use lib.ListN.{length}
 use Rattle.numbers.specs.Kinds.{kindIn}
 use Rattle.numbers.specs.Limits.{mostRounds, mostRoundWords}
 use Rattle.answers.specs.First.{first}
 use Rattle.answers.specs.Numbers.{ranNumber, ranPlace}
 use Rattle.answers.specs.declared.Ran.{Ran}
-use Rattle.answers.specs.declared.Ran.the-variants.{Done}
 use Rattle.answers.specs.declared.rounds.Session.{Session}
 use Rattle.answers.specs.declared.rounds.Rounded.the-variants as Rounded
 use Rattle.terms.specs.Rules.{usedRows}
@@ -22,9 +21,9 @@ use Rattle.theory.specs.Outcome.{Outcome, done, stuck, room}
 use Rattle.theory.specs.RowModel.{rowWorld}
 use Rattle.theory.specs.Machine.{State, exec}
 use Rattle.theory.proofs.InTurn.{from, exec-from}
-use Rattle.calls.specs.Run.{Lent, RunOutcome, stateOf, leftBy, linesFrom, ended, runBy}
+use Rattle.calls.specs.Run.{RunOutcome, stateOf, leftBy, linesFrom, ended, runBy}
 use Rattle.calls.specs.Frame.{middle}
-use Rattle.calls.specs.Round.{RoundLent, RoundOutcome, received, answered, sentBy, roundEnded, roundRefusals, roundBy, round}
+use Rattle.calls.specs.Round.{RoundLent, RoundOutcome, received, answered, sentBy, roundEnded, roundRefusals, round}
 use Rattle.calls.proofs.FrameLaws.{lines-later}
 use Rattle.calls.proofs.RunLaws.{stepsOf}
 use Rattle.execution.specs.Steps.{cellsAfter, Ready}

@@ -1,5 +1,5 @@
 -- What the steps between INPUT and OUTPUT leave of a round.
-use Prim.Native.Nat.{ℕ, suc, _+_}
+use Prim.Native.Nat.{suc, _+_}
 use Rattle.answers.specs.declared.Ran.{Ran}
 use Rattle.answers.specs.declared.Ran.the-variants.{Done, Limit, BadTerm, BadStore, BadWord, Stuck, NoRoom}
 use Rattle.answers.specs.declared.rounds.Session.{Session}

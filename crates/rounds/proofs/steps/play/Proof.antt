@@ -1,6 +1,6 @@
 -- The steps on copies of the cells, which are copied back where they are done.
 use Prim.Native.Nat.{ℕ}
-use mathlib.Core.Path.{_≡_, sym, _∙_}
+use mathlib.Core.Path.{sym, _∙_}
 use mathlib.Core.List.{List}
 use native.Mathlib.Omega.{arith}
 use Rattle.calls.specs.Round.{RoundLent}
