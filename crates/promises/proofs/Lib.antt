@@ -27,5 +27,4 @@ pub mod ListingLaws
 pub mod Printed
 pub mod Example
 pub mod ForC
-pub mod Functions
 pub mod Promises

@@ -1,7 +1,6 @@
 -- All promises, each by the page that proves it.
 use Rattle.calls.proofs.Cases.{worked}
 use Rattle.promises.specs.Promises.{Promises}
-use Rattle.promises.proofs.Functions.{functions}
 use Rattle.promises.proofs.WordLaws.{words}
 use Rattle.promises.proofs.RowLaws.{rows}
 use Rattle.promises.proofs.ReasonTable.{reason-table}
@@ -19,9 +18,8 @@ use Rattle.promises.proofs.Printed.{printed}
 use Rattle.outcomes.proofs.Listed.{listing-short, cut}
 use Rattle.outcomes.proofs.Listed as Listed
 
-pub promises : {M : Type 1} → Promises M
+pub promises : Promises
 promises = record {
-  functions = functions;
   demand-1 = demand-1;
   words = words;
   rows = rows;

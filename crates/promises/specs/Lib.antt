@@ -16,5 +16,4 @@ pub mod Rounds
 pub mod Listing
 pub mod Example
 pub mod ForC
-pub mod Functions
 pub mod Promises

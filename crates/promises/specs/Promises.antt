@@ -1,11 +1,10 @@
--- Start here: all that is promised of compile, run, the bundle and the listing.
+-- All that is promised of compile, run, a round, the bundle and the listing. That the functions give it is the crate `product`.
 use Prim.Native.Nat.{ℕ}
 use mathlib.Core.List.{List}
 use Rattle.calls.specs.Cases.{Cases}
 use Rattle.calls.specs.Orders.{Orders, Corners}
 use Rattle.theory.specs.TermModel.{Names}
 use Rattle.calls.specs.Run.{Lent}
-use Rattle.promises.specs.Functions.{Functions}
 use Rattle.promises.specs.Words.{Words}
 use Rattle.promises.specs.Rows.{Rows}
 use Rattle.promises.specs.Reasons.{ReasonTable}
@@ -21,9 +20,7 @@ use Rattle.calls.specs.Round.{RoundLent}
 use Rattle.promises.specs.Rounds.{RoundTable}
 use Rattle.promises.specs.Listing.{ListingTable, Printed, Program}
 
-pub record Promises (M : Type 1) : Type 2 where
-  -- the functions meet their contracts, and what the contracts say is what the rest speaks of
-  pub functions : Functions M
+pub record Promises : Type 0 where
   -- every number exactly where its condition holds, and nothing changed by a refusal
   pub demand-1 : Demand1
   -- the rules that 9 and 2 hold a word and a row to, field by field; why a run is stuck or out of room, in the state before the word

@@ -7,7 +7,7 @@ use Rattle.running.proofs.run.Met as Run
 use Rattle.bundles.proofs.open.Met as Open
 use Rattle.cram.proofs.cram_compile.Met as CramCompile
 use Rattle.cram.proofs.cram_run.Met as CramRun
-use Rattle.promises.specs.Functions.{Says, Once, Functions}
+use Rattle.product.specs.Functions.{Says, Once, Functions}
 
 says : Says
 says = record {

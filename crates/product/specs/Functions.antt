@@ -1,4 +1,4 @@
--- The functions themselves: each meets its contract, what its contract says is the definition that the pages here speak of, and outcomes that it allows for one input coincide.
+-- The functions themselves: each meets its contract, what its contract says is the definition that the promises speak of, and outcomes that it allows for one input coincide.
 -- `lent` is what is passed, argument after argument, and `left` the same arguments at the return; `Learnt` is what a caller learns of the contract.
 use Prim.Native.Nat.{ℕ}
 use mathlib.Core.Path.{_≡_}

@@ -1,0 +1,3 @@
+-- Each claim, proved.
+pub mod Functions
+pub mod Product

@@ -1,0 +1,7 @@
+-- The functions by their own crates' proofs, the promises by their pages'.
+use Rattle.promises.proofs.Promises.{promises}
+use Rattle.product.specs.Product.{Product}
+use Rattle.product.proofs.Functions.{functions}
+
+pub product : {M : Type 1} → Product M
+product = record { functions = functions; promises = promises }

@@ -1,0 +1,3 @@
+-- The product: its functions, and all that is promised of them.
+pub mod Functions
+pub mod Product
