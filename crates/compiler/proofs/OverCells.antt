@@ -22,7 +22,7 @@ use Rattle.theory.specs.Emission.{Env, Emitted, ok, refuse}
 use Rattle.calls.specs.Compile.{codeWords, leaves, written, lengthsFit, refusals, emitted, compile}
 use Rattle.calls.proofs.CompileLaws.{NotDone, refusal-not-done, checked, checks-not-done, compile-within}
 use Rattle.calls.proofs.Product.{checked-refuses, compile-writes}
-use Rattle.emission.specs.Known.{known}
+use Rattle.knowing.specs.Known.{known}
 use Rattle.compiler.specs.CompileKnown.{undeclaredUnknown, declaredKnown, knownFit, knownRefusals, knownEmitted, KnownOutcome, compileKnownBy, compileKnown}
 
 -- after answer 0 the words at the buffer's front come to the slice, or 8 where they do not fit

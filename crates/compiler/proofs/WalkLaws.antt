@@ -18,9 +18,9 @@ use Rattle.patterns.specs.Tree.{patternOf}
 use Rattle.theory.specs.Emission.{Env, Emitted, ok, refuse, andThen}
 use Rattle.theory.specs.Compilers.{compile↓}
 use Rattle.calls.specs.Compile.{tables, codeWords}
-use Rattle.emission.specs.Known.{known}
-use Rattle.emission.specs.Meets.{objectsIn, rawsIn, writtenIn, refusalIn, envOf, refusalBy, refusal, MeetsBy, Meets, Does}
-use Rattle.emission.proofs.MeetsLaws.{after-nil, does-as}
+use Rattle.knowing.specs.Known.{known}
+use Rattle.knowing.specs.Meets.{objectsIn, rawsIn, writtenIn, refusalIn, envOf, refusalBy, refusal, MeetsBy, Meets, Does}
+use Rattle.knowing.proofs.MeetsLaws.{after-nil, does-as}
 use Rattle.creating.specs.Creates.{patternCode}
 use Rattle.compiler.specs.CompileKnown.{noWords, knownRefusals, knownEmitted, compileKnown}
 use Rattle.compiler.specs.Buffer.{answerBy, answerIn}

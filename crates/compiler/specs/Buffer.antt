@@ -7,8 +7,8 @@ use Rattle.answers.specs.declared.Compiled.{Compiled}
 use Rattle.answers.specs.declared.Compiled.the-variants.{Done}
 use Rattle.calls.specs.Compile.{tables}
 use Rattle.numbers.specs.Kinds.{kindIn}
-use Rattle.emission.specs.Known.{known}
-use Rattle.emission.specs.Meets.{writtenIn, refusalIn, refusal, Does}
+use Rattle.knowing.specs.Known.{known}
+use Rattle.knowing.specs.Meets.{writtenIn, refusalIn, refusal, Does}
 use Rattle.emission.specs.Budget.{patternIn, words, scratches}
 use Rattle.compiler.specs.CompileKnown.{KnownOutcome}
 use Rattle.compiler.specs.declared.Finding.{Finding}

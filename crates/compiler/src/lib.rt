@@ -2,22 +2,21 @@
 ghost use mathlib.Core.Path.{_≡_};
 ghost use lib.ListN.{length};
 ghost use Rattle.numbers.specs.Limits.{mostCodeWords};
-ghost use Rattle.calls.specs.Compile.{usedPart, compile};
-ghost use Rattle.emission.specs.Known.{known};
+ghost use Rattle.calls.specs.Compile.{compile};
+ghost use Rattle.knowing.specs.Known.{known};
 ghost use Rattle.compiler.specs.CompileKnown.{compileKnown};
 ghost use Rattle.compiler.specs.Buffer.{outcomeOf};
 use answers::Compiled;
-pub use cells::set_cells;
 use delivery::deliver;
-use emission::Code;
+pub use delivery::used;
+use knowing::Code;
+pub use knowing::set_cells;
 use looking::look;
 use numbers::limits::VARIABLES;
 use walking::clear;
 use walking::no_words;
 use walking::walk;
 
-mod cells;
-pub mod delivery;
 mod looking;
 mod walking;
 
@@ -89,16 +88,4 @@ pub fn compile(
     }
     let count = answer.place() as usize;
     deliver(&buffer[..count], code)
-}
-
-// The first n words of the lent code slice, or an empty part where n exceeds its length. It is the slice's own front, and lent to
-// be read: no word of the slice changes.
-pub fn used(code: &[u32], n: usize) -> &[u32]
-    ensures { λ r. ⌜ (now r ≡ usedPart n (now (code .entry))) × (r .ptr ≡ code .entry .ptr) ⌝ }
-{
-    if n <= code.len() {
-        &code[..n]
-    } else {
-        &code[..0]
-    }
 }

@@ -14,9 +14,9 @@ use Rattle.patterns.proofs.PatternLaws.{size-positive}
 use Rattle.theory.specs.Machine.{named}
 use Rattle.theory.specs.Emission.{Env, Emitted, emit}
 use Rattle.theory.specs.Compilers.{keyVar}
-use Rattle.emission.specs.Meets.{Does, Room}
+use Rattle.knowing.specs.Meets.{Does, Room}
 use Rattle.emission.specs.Budget.{patternIn, words, scratches, Row, RowAt}
-use Rattle.emission.proofs.MeetsLaws.{does-le, does-seq}
+use Rattle.knowing.proofs.MeetsLaws.{does-le, does-seq}
 use Rattle.emission.proofs.BudgetLaws.{as-row, room-le, room-then, row-below, encryption-room, let-room}
 use Rattle.emission.proofs.PatternLaws.{encryption-child, encryption-row, let-children, let-row}
 use Rattle.creating.specs.Creates.{keyCode, patternCode, Creates}

@@ -7,8 +7,8 @@ use Rattle.code.specs.declared.Instruction.the-variants.{Load, StoreConst, Deco
 use Rattle.patterns.specs.Pattern.{opKey, certifiedKey, object, raw, constant, opposite, keyOf, hash}
 use Rattle.theory.specs.Machine.{named}
 use Rattle.theory.specs.Emission.{emit}
-use Rattle.emission.specs.Meets.{Does}
-use Rattle.emission.proofs.MeetsLaws.{does-le, does-seq}
+use Rattle.knowing.specs.Meets.{Does}
+use Rattle.knowing.proofs.MeetsLaws.{does-le, does-seq}
 use Rattle.creating.specs.Creates.{variableCode, keyCode, patternCode}
 
 module _ (kinds : List ℕ) (row : ℕ) {e e₁ code code₁ : List ℕ} where

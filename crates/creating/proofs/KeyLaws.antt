@@ -17,11 +17,11 @@ use Rattle.patterns.specs.Tree.{keyBy}
 use Rattle.theory.specs.World.{creatable}
 use Rattle.theory.specs.Emission.{Env, Emitted, ok, refuse, emit}
 use Rattle.theory.specs.Compilers.{CREATE, keyVar}
-use Rattle.emission.specs.Known.{known}
-use Rattle.emission.specs.Steps.{readObject}
-use Rattle.emission.specs.Meets.{Does, refusing}
-use Rattle.emission.proofs.MeetsLaws.{does-le, does-none, does-seq, does-yes, does-no}
-use Rattle.emission.proofs.StepLaws.{read-unset}
+use Rattle.knowing.specs.Known.{known}
+use Rattle.knowing.specs.Steps.{readObject}
+use Rattle.knowing.specs.Meets.{Does, refusing}
+use Rattle.knowing.proofs.MeetsLaws.{does-le, does-none, does-seq, does-yes, does-no}
+use Rattle.knowing.proofs.StepLaws.{read-unset}
 use Rattle.numbers.specs.Kinds.{kindIn}
 use Rattle.creating.specs.Creates.{variableCode, keyCode}
 

@@ -12,9 +12,9 @@ use Rattle.patterns.specs.Tree.{keyBy}
 use Rattle.theory.specs.Machine.{named}
 use Rattle.theory.specs.Emission.{Env, Emitted, emit}
 use Rattle.theory.specs.Compilers.{keyVar}
-use Rattle.emission.specs.Meets.{Does, Room}
+use Rattle.knowing.specs.Meets.{Does, Room}
 use Rattle.emission.specs.Budget.{RowAt, Leaf}
-use Rattle.emission.proofs.MeetsLaws.{does-le, does-seq}
+use Rattle.knowing.proofs.MeetsLaws.{does-le, does-seq}
 use Rattle.emission.proofs.BudgetLaws.{as-leaf, leaf-room, variable-low, second-low, room-le, room-then}
 use Rattle.emission.proofs.PatternLaws.{good-row, object-row, raw-row, constant-row, opposite-row, key-of-row, signature-row, hash-row, above-four, seven-left}
 use Rattle.creating.specs.Creates.{keyCode, patternCode, Creates}

@@ -16,11 +16,11 @@ use Rattle.theory.specs.Emission.{Env, Emitted, emit, _then_}
 use Rattle.numbers.specs.Kinds.{kindIn}
 use Rattle.theory.specs.Compilers.{STORE, CREATE-TUPLE, ENCODE, compile↑parts}
 use Rattle.emission.specs.declared.Part.{Part}
-use Rattle.emission.specs.Steps.{raise}
-use Rattle.emission.specs.Meets.{nextIn, Does, Quiet, Room}
+use Rattle.knowing.specs.Steps.{raise}
+use Rattle.knowing.specs.Meets.{nextIn, Does, Quiet, Room}
 use Rattle.emission.specs.Budget.{patternIn, scratches, wordsOf, scratchesOf, Row, RowAt}
 use Rattle.emission.specs.Parts.{partsFrom, partAt, partsIn, PartsAt}
-use Rattle.emission.proofs.MeetsLaws.{then-assoc, does-le, does-seq, does-none, does-take}
+use Rattle.knowing.proofs.MeetsLaws.{then-assoc, does-le, does-seq, does-none, does-take}
 use Rattle.emission.proofs.BudgetLaws.{as-row, room-le, room-then}
 use Rattle.emission.proofs.PartLaws.{InTurn, Walked, part-room, part-row, parts-next, tuple-is, tuple-counts, tuple-room, tuple-parts}
 use Rattle.creating.specs.Creates.{patternCode, partsCode, Creates, CreatesParts}

@@ -6,7 +6,7 @@ use Rattle.theory.specs.Emission.{Env, Emitted}
 use Rattle.numbers.specs.Kinds.{kindIn}
 use Rattle.theory.specs.Compilers.{creating, compile↑K, compile↑, compile↑parts}
 use Rattle.emission.specs.declared.Part.{Part}
-use Rattle.emission.specs.Meets.{Does}
+use Rattle.knowing.specs.Meets.{Does}
 use Rattle.emission.specs.Budget.{patternIn, words, scratches}
 use Rattle.emission.specs.Parts.{DoesParts}
 

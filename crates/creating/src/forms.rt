@@ -1,7 +1,7 @@
 // The forms with no part: at most seven words each.
 use crate::keys;
-use emission::Code;
-use emission::Emission;
+use knowing::Code;
+use knowing::Emission;
 use emission::Kinds;
 use emission::instructions;
 use numbers::Object;
@@ -10,7 +10,7 @@ ghost use mathlib.Core.List.{List};
 ghost use Prim.Native.Nat.{ℕ, _<_};
 ghost use Rattle.numbers.specs.Limits.{variables};
 ghost use Rattle.patterns.specs.Pattern.{object, constant, opposite, hash};
-ghost use Rattle.emission.specs.Meets.{Does, Room};
+ghost use Rattle.knowing.specs.Meets.{Does, Room};
 ghost use Rattle.creating.specs.Creates.{patternCode};
 
 // v

@@ -1,10 +1,10 @@
 // Variables and keys, each with at most three words.
-use emission::Code;
-use emission::Emission;
+use knowing::Code;
+use knowing::Emission;
 use emission::Kinds;
 use emission::instructions;
-use emission::object_known;
-use emission::refuse;
+use knowing::object_known;
+use knowing::refuse;
 use numbers::Object;
 use numbers::kinds as kind;
 use patterns::forms as form;
@@ -17,7 +17,7 @@ ghost use Rattle.patterns.specs.Pattern.{opKey, certifiedKey};
 ghost use Rattle.patterns.specs.Row.{fieldsOf};
 ghost use Rattle.patterns.specs.Tree.{keyBy};
 ghost use Rattle.theory.specs.World.{creatable};
-ghost use Rattle.emission.specs.Meets.{Does, Room};
+ghost use Rattle.knowing.specs.Meets.{Does, Room};
 ghost use Rattle.creating.specs.Creates.{variableCode, keyCode};
 
 // Whether a variable's kind is one that CREATE makes a new object of.

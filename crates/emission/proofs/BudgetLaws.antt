@@ -8,9 +8,9 @@ use Rattle.patterns.specs.Pattern.{Pattern, size}
 use Rattle.patterns.specs.Row.{fieldsOf}
 use Rattle.patterns.proofs.PatternLaws.{size-positive}
 use Rattle.theory.specs.Emission.{Env, Emitted}
-use Rattle.emission.specs.Meets.{Does, Room}
+use Rattle.knowing.specs.Meets.{Does, Room}
 use Rattle.emission.specs.Budget.{words, scratches, patternIn, Row, RowAt}
-use Rattle.emission.proofs.MeetsLaws.{does-le}
+use Rattle.knowing.proofs.MeetsLaws.{does-le}
 use Rattle.emission.proofs.PatternLaws.{encryption-row, let-row}
 
 -- less room, and what is left of it after a step

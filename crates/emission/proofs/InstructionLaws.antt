@@ -10,9 +10,9 @@ use Rattle.code.specs.declared.Instruction.{Instruction}
 use Rattle.theory.specs.Machine.{Line, lineAt}
 use Rattle.theory.specs.Uses.{Used, objectAt, messageAt, messagesAt, usesOf}
 use Rattle.theory.specs.Emission.{Env, Emitted, ok, andThen, _then_, reads, writes, one, reading, writing, readable, occupied, addObject, addRaw, emit}
-use Rattle.emission.specs.Steps.{readObject, looks}
-use Rattle.emission.specs.Meets.{Does, Quiet}
-use Rattle.emission.proofs.MeetsLaws.{after-nil, does-as, does-seq, does-none}
+use Rattle.knowing.specs.Steps.{readObject, looks}
+use Rattle.knowing.specs.Meets.{Does, Quiet}
+use Rattle.knowing.proofs.MeetsLaws.{after-nil, does-as, does-seq, does-none}
 
 nothing : {e : List ℕ} → Quiet (ok []) 0 e e
 nothing = record { does = λ code. does-none; place = omega arith; free = omega arith; long = refl }

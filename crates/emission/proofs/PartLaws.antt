@@ -15,11 +15,11 @@ use Rattle.patterns.proofs.RowLaws.{children-count}
 use Rattle.patterns.proofs.TreeLaws.{parts-count}
 use Rattle.theory.specs.Emission.{Env, Emitted, ok, _then_}
 use Rattle.emission.specs.declared.Part.{Part}
-use Rattle.emission.specs.Steps.{raise}
-use Rattle.emission.specs.Meets.{nextIn, Does, Quiet, Room}
+use Rattle.knowing.specs.Steps.{raise}
+use Rattle.knowing.specs.Meets.{nextIn, Does, Quiet, Room}
 use Rattle.emission.specs.Budget.{words, scratches, wordsOf, scratchesOf, patternIn, Row, RowAt, RoomParts}
 use Rattle.emission.specs.Parts.{partsFrom, partAt, partsIn, PartsAt, DoesParts}
-use Rattle.emission.proofs.MeetsLaws.{does-as, does-le, does-seq, does-none}
+use Rattle.knowing.proofs.MeetsLaws.{does-as, does-le, does-seq, does-none}
 use Rattle.emission.proofs.BudgetLaws.{room-as}
 use Rattle.emission.proofs.PatternLaws.{good-row, slot-low, tuple-row}
 

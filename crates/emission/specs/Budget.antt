@@ -10,7 +10,7 @@ use Rattle.patterns.specs.Pattern.{Pattern, Parts, count, size, sizes}
 use Rattle.patterns.specs.Row.{fieldsOf}
 use Rattle.patterns.specs.Rules.{rowFits}
 use Rattle.patterns.specs.Tree.{patternAt, patternsOf}
-use Rattle.emission.specs.Meets.{nextIn, writtenIn, Room}
+use Rattle.knowing.specs.Meets.{nextIn, writtenIn, Room}
 
 -- what a pattern of so many rows emits and takes at most
 abbrev pub words : Pattern → ℕ

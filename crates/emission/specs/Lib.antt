@@ -1,6 +1,3 @@
--- What the compiler knows while it emits, and when that is what the tables say.
-pub mod Known
-pub mod Steps
-pub mod Meets
+-- The room that a pattern asks, and the parts of a tuple.
 pub mod Budget
 pub mod Parts

@@ -11,7 +11,7 @@ use Rattle.patterns.specs.Rules.{rowFits}
 use Rattle.patterns.specs.Tree.{partsBy}
 use Rattle.theory.specs.Emission.{Env, Emitted}
 use Rattle.emission.specs.declared.Part.{Part}
-use Rattle.emission.specs.Meets.{Does}
+use Rattle.knowing.specs.Meets.{Does}
 use Rattle.emission.specs.Budget.{patternIn, wordsOf, scratchesOf, RoomParts}
 
 -- the four slots, with scratch numbers from the first on

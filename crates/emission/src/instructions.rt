@@ -1,11 +1,11 @@
 // One instruction for a pattern row, in the order of figure 4: what it reads, what it writes, and its word.
-use crate::Code;
-use crate::Emission;
-use crate::append;
-use crate::read_object;
-use crate::read_raw;
-use crate::write_object;
-use crate::write_raw;
+use knowing::Code;
+use knowing::Emission;
+use knowing::append;
+use knowing::read_object;
+use knowing::read_raw;
+use knowing::write_object;
+use knowing::write_raw;
 use code::Instruction;
 use code::words;
 use numbers::Object;
@@ -17,8 +17,8 @@ ghost use Rattle.word.specs.Fields.{join};
 ghost use Rattle.code.specs.Instruction.{wordWidths, fieldsOf};
 ghost use Rattle.code.specs.declared.Instruction.the-variants.{Load, Store, StoreConst, Decode, Encode, Create, AnalyzeTuple, CreateTuple, Opposite, KeyOf, Match, Encrypt, Decrypt, Sign, Verify, Hash};
 ghost use Rattle.theory.specs.Emission.{emit};
-ghost use Rattle.emission.specs.Steps.{readObject, writeObject, readRaw, looks};
-ghost use Rattle.emission.specs.Meets.{Does, Room};
+ghost use Rattle.knowing.specs.Steps.{readObject, writeObject, readRaw, looks};
+ghost use Rattle.knowing.specs.Meets.{Does, Room};
 
 // An instruction that only reads an object variable. The contract speaks of it; the code needs its word alone.
 fn emit_reading(

@@ -16,7 +16,7 @@ use Rattle.answers.specs.declared.Compiled.the-variants.{Done, Limit, CodeTooSh
 use Rattle.numbers.specs.Limits.{variables, namedCells, mostPatternRows}
 use Rattle.calls.specs.Compile.{CompileOutcome, leaves, written, lengthsFit, compile}
 use Rattle.answers.specs.First.{first}
-use Rattle.compiler.proofs.DeliveryLaws.{too-short, all-fit}
+use Rattle.delivery.proofs.DeliveryLaws.{too-short, all-fit}
 use Rattle.compiler.proofs.OverCells.{Compiles}
 use Rattle.looking.proofs.LookLaws.{true-holds}
 use Rattle.lending.specs.Entries.{CompileLeft, compiledNumbers, compileSpelled, compileRefused, compileWhole, compileEntry}

@@ -12,10 +12,10 @@ use Rattle.patterns.specs.Pattern.{opKey, certifiedKey, object, raw, constant, 
 use Rattle.theory.specs.Machine.{named, scratch}
 use Rattle.theory.specs.Emission.{emit, take, _then_}
 use Rattle.theory.specs.Compilers.{LOAD, STORE, STORE-CONST, DECODE, ENCODE, OPPOSITE, KEY-OF, MATCH, VERIFY, HASH, compile↓, verifying}
-use Rattle.emission.specs.Known.{known}
-use Rattle.emission.specs.Steps.{raise}
-use Rattle.emission.specs.Meets.{nextIn, Does, Quiet}
-use Rattle.emission.proofs.MeetsLaws.{does-le, does-seq, does-yes, does-no, does-take}
+use Rattle.knowing.specs.Known.{known}
+use Rattle.knowing.specs.Steps.{raise}
+use Rattle.knowing.specs.Meets.{nextIn, Does, Quiet}
+use Rattle.knowing.proofs.MeetsLaws.{does-le, does-seq, does-yes, does-no, does-take}
 
 module _ (row : ℕ) {e e₁ code code₁ : List ℕ} where
   -- t is what was seen of the variable

@@ -12,9 +12,9 @@ use Rattle.patterns.specs.Tree.{keyBy}
 use Rattle.theory.specs.Machine.{named}
 use Rattle.theory.specs.Emission.{emit}
 use Rattle.theory.specs.Compilers.{compile↓, verifying}
-use Rattle.emission.specs.Meets.{Does}
+use Rattle.knowing.specs.Meets.{Does}
 use Rattle.emission.specs.Budget.{RowAt, Leaf}
-use Rattle.emission.proofs.MeetsLaws.{does-le, does-seq}
+use Rattle.knowing.proofs.MeetsLaws.{does-le, does-seq}
 use Rattle.emission.proofs.BudgetLaws.{as-leaf, leaf-room, variable-low}
 use Rattle.emission.proofs.PatternLaws.{good-row, signature-key, object-row, raw-row, constant-row, opposite-row, key-of-row, signature-row, hash-row, above-four, seven-left}
 use Rattle.matching.specs.Matches.{Matches}

@@ -15,11 +15,11 @@ use Rattle.theory.specs.Machine.{named, scratch}
 use Rattle.theory.specs.Emission.{Env, Emitted, refuse, emit, take, _then_}
 use Rattle.theory.specs.Compilers.{LOAD, DECODE, ANALYZE-TUPLE, compile↓, compile↓parts}
 use Rattle.emission.specs.declared.Part.{Part}
-use Rattle.emission.specs.Steps.{freeRaw, raise}
-use Rattle.emission.specs.Meets.{nextIn, Does, Quiet, Room}
+use Rattle.knowing.specs.Steps.{freeRaw, raise}
+use Rattle.knowing.specs.Meets.{nextIn, Does, Quiet, Room}
 use Rattle.emission.specs.Budget.{words, scratches, wordsOf, scratchesOf, patternIn, Row, RowAt}
 use Rattle.emission.specs.Parts.{partsFrom, partAt, partsIn, PartsAt}
-use Rattle.emission.proofs.MeetsLaws.{then-assoc, does-le, does-seq, does-take, does-free}
+use Rattle.knowing.proofs.MeetsLaws.{then-assoc, does-le, does-seq, does-take, does-free}
 use Rattle.emission.proofs.BudgetLaws.{as-row, room-le, room-then, row-below, encryption-room, let-room}
 use Rattle.emission.proofs.PatternLaws.{encryption-key, encryption-child, encryption-row, let-children, let-row}
 use Rattle.emission.proofs.PartLaws.{InTurn, Walked, part-room, part-row, parts-next, tuple-is, tuple-counts, tuple-room}

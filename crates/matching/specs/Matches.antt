@@ -3,7 +3,7 @@ use Prim.Native.Nat.{ℕ}
 use mathlib.Core.List.{List}
 use Rattle.theory.specs.Compilers.{compile↓, compile↓parts}
 use Rattle.emission.specs.declared.Part.{Part}
-use Rattle.emission.specs.Meets.{Does}
+use Rattle.knowing.specs.Meets.{Does}
 use Rattle.emission.specs.Budget.{patternIn, words, scratches}
 use Rattle.emission.specs.Parts.{DoesParts}
 

@@ -1,18 +1,18 @@
 // The forms with no part: at most seven words and one scratch number each.
-use emission::Code;
-use emission::Emission;
+use knowing::Code;
+use knowing::Emission;
 use emission::instructions;
-use emission::object_known;
-use emission::raw_known;
+use knowing::object_known;
+use knowing::raw_known;
 use emission::scratch;
-use emission::take;
+use knowing::take;
 use numbers::Object;
 use numbers::Raw;
 ghost use Prim.Native.Nat.{_<_};
 ghost use Rattle.numbers.specs.Limits.{variables};
 ghost use Rattle.patterns.specs.Pattern.{opKey, certifiedKey, object, raw, constant, opposite, keyOf, hash};
 ghost use Rattle.theory.specs.Compilers.{compile↓, verifying};
-ghost use Rattle.emission.specs.Meets.{Does, Room};
+ghost use Rattle.knowing.specs.Meets.{Does, Room};
 
 // v
 pub fn match_object(code: &mut Code, emission: &mut Emission, row: u8, v: Object)

@@ -1,16 +1,16 @@
 // Figure 5: the code that matches a pattern.
 pub mod forms;
 
-use emission::Code;
-use emission::Emission;
+use knowing::Code;
+use knowing::Emission;
 use emission::Part;
 use emission::Rows;
-use emission::free_raw;
+use knowing::free_raw;
 use emission::instructions;
 use emission::parts_of;
 use emission::scratch;
-use emission::take;
-use emission::wrong_kind;
+use knowing::take;
+use knowing::wrong_kind;
 use numbers::limits::MOST_PARTS;
 use patterns::forms as form;
 ghost use mathlib.Core.Path.{_≡_};

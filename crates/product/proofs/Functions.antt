@@ -2,7 +2,7 @@
 use mathlib.Core.Path.{sym, _∙_, ap}
 use Rattle.looking.specs.Found.{usedWith}
 use Rattle.compiler.proofs.compile.Met as Compile
-use Rattle.compiler.proofs.used.Met as Used
+use Rattle.delivery.proofs.used.Met as Used
 use Rattle.running.proofs.run.Met as Run
 use Rattle.bundles.proofs.open.Met as Open
 use Rattle.cram.proofs.cram_compile.Met as CramCompile

@@ -15,9 +15,9 @@ use Rattle.lending.specs.Entries.{CompileLeft, compileEntry, RunLeft, runEntry}
 use Rattle.compiler.proofs.compile as Compile
 use Rattle.compiler.proofs.compile.Statement as CompileStatement
 use Rattle.compiler.proofs.compile.Reads as CompileReads
-use Rattle.compiler.proofs.used as Used
-use Rattle.compiler.proofs.used.Statement as UsedStatement
-use Rattle.compiler.proofs.used.Reads as UsedReads
+use Rattle.delivery.proofs.used as Used
+use Rattle.delivery.proofs.used.Statement as UsedStatement
+use Rattle.delivery.proofs.used.Reads as UsedReads
 use Rattle.running.proofs.run as Run
 use Rattle.running.proofs.run.Statement as RunStatement
 use Rattle.running.proofs.run.Reads as RunReads

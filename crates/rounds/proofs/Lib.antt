@@ -1,7 +1,4 @@
 -- Laws of a round, and the steps of the walks over a lent session.
-pub mod WordLaws
-pub mod CheckLaws
-pub mod AnswerLaws
 pub mod PlaceLaws
 pub mod PlayLaws
 pub mod Walk

@@ -28,9 +28,9 @@ use Rattle.calls.proofs.FrameLaws.{lines-later}
 use Rattle.calls.proofs.RunLaws.{stepsOf}
 use Rattle.execution.specs.Steps.{cellsAfter, Ready}
 use Rattle.running.proofs.EndLaws.{withCells}
-use Rattle.rounds.specs.Played.{inRound}
-use Rattle.rounds.proofs.WordLaws.{middle-length, good-middle}
-use Rattle.rounds.proofs.CheckLaws.{RoundPassed, round-stepped}
+use Rattle.turns.specs.Played.{inRound}
+use Rattle.turns.proofs.WordLaws.{middle-length, good-middle}
+use Rattle.turns.proofs.CheckLaws.{RoundPassed, round-stepped}
 use Rattle.rounds.proofs.PlaceLaws.{StopsBefore, stops-before}
 
 module _ {x : RoundLent} {code : List ℕ} (p : RoundPassed x code) where

@@ -3,11 +3,9 @@ ghost use mathlib.Core.Path.{_≡_};
 ghost use Rattle.calls.specs.Round.{round, takenOf};
 use answers::Rounded;
 use answers::Session;
-use checks::Finding;
+use turns::Finding;
 
-mod checks;
 mod steps;
-mod words;
 
 // A round's answer, and the session after it.
 pub struct RoundEnded {
@@ -51,7 +49,7 @@ pub fn round_of(
     ensures { λ r. ⌜ record { answer = r .answer; session = r .session; objects = now (objects .exit); messages = now (messages .exit); terms = now (terms .exit) }
         ≡ round (record { session = session; rounds = rounds; kinds = now (kinds .entry); objects = now (objects .entry); messages = now (messages .entry); certificates = now (certificates .entry); terms = now (terms .entry) }) (now (code .entry)) ⌝ }
 {
-    let found = checks::look(
+    let found = turns::look(
         session,
         rounds,
         kinds,

@@ -1,15 +1,10 @@
 // The steps between INPUT and OUTPUT, on copies of the cells.
 ghost use mathlib.Core.Path.{_≡_};
 ghost use mathlib.Core.Option.{none};
-ghost use Prim.Native.Nat.{_<_, _≤_};
 ghost use Rattle.answers.specs.First.{first};
-ghost use Rattle.answers.specs.Numbers.{ranPlace};
 ghost use Rattle.terms.specs.Rules.{usedRows};
-ghost use Rattle.numbers.specs.Limits.{mostRounds, mostRoundWords};
 ghost use Rattle.calls.specs.Round.{roundRefusals, round};
-ghost use Rattle.rounds.specs.Played.{inRound, sessionAfter};
 use crate::RoundEnded;
-use answers::Ran;
 use answers::Rounded;
 use answers::Session;
 use machine::Registers;
@@ -17,38 +12,8 @@ use numbers::TermRow;
 use running::cells::copy;
 use running::cells::message_cells;
 use running::cells::object_cells;
-
-// The steps' answer, with INPUT and OUTPUT counted.
-fn in_round(answer: Ran) -> Ran
-    requires { ⌜ ranPlace answer ≤ mostRoundWords ⌝ }
-    ensures { λ r. ⌜ r ≡ inRound answer ⌝ }
-{
-    match answer {
-        Ran::Done(words) => Ran::Done(words + 2),
-        Ran::Limit => Ran::Limit,
-        Ran::BadTerm(row) => Ran::BadTerm(row),
-        Ran::BadStore => Ran::BadStore,
-        Ran::BadWord(word) => Ran::BadWord(word),
-        Ran::Stuck(place, reason) => Ran::Stuck(place + 1, reason),
-        Ran::NoRoom(place) => Ran::NoRoom(place + 1),
-    }
-}
-
-// The message is taken, the accumulator is the answer, and the next round waits for its own message.
-fn session_after(session: Session, registers: Registers) -> Session
-    requires { ⌜ session .round < mostRounds ⌝ }
-    ensures { λ r. ⌜ r ≡ sessionAfter session registers ⌝ }
-{
-    let row = registers.accumulator;
-    let sent = row.0 as u32;
-    Session {
-        used: registers.used as u32,
-        counter: registers.counter,
-        round: session.round + 1,
-        message: 65535,
-        answer: sent,
-    }
-}
+use turns::in_round;
+use turns::session_after;
 
 // The steps of a round that nothing refuses: the cells are copied back where they are done.
 pub fn play(

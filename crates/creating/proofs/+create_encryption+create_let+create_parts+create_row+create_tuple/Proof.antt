@@ -36,7 +36,7 @@ use Rattle.emission.proofs.instructions.encrypt.Reads as encrypt-reads
 use Rattle.emission.proofs.instructions.store.Reads as store-reads
 use Rattle.emission.proofs.parts_of.Reads as parts-of-reads
 use Rattle.emission.proofs.scratch.Reads as scratch-reads
-use Rattle.emission.proofs.take.Reads as take-reads
+use Rattle.knowing.proofs.take.Reads as take-reads
 use Rattle.patterns.proofs.count.Reads as count-reads
 use Rattle.patterns.proofs.raw.Reads as raw-reads
 use Rattle.patterns.proofs.slots.Reads as slots-reads

@@ -30,11 +30,11 @@ use Rattle.emission.proofs.instructions.analyze_tuple.Reads as analyze-tuple-re
 use Rattle.emission.proofs.instructions.decode.Reads as decode-reads
 use Rattle.emission.proofs.instructions.decrypt.Reads as decrypt-reads
 use Rattle.emission.proofs.instructions.load.Reads as load-reads
-use Rattle.emission.proofs.free_raw.Reads as free-raw-reads
+use Rattle.knowing.proofs.free_raw.Reads as free-raw-reads
 use Rattle.emission.proofs.parts_of.Reads as parts-of-reads
 use Rattle.emission.proofs.scratch.Reads as scratch-reads
-use Rattle.emission.proofs.take.Reads as take-reads
-use Rattle.emission.proofs.wrong_kind.Reads as wrong-kind-reads
+use Rattle.knowing.proofs.take.Reads as take-reads
+use Rattle.knowing.proofs.wrong_kind.Reads as wrong-kind-reads
 use Rattle.matching.proofs.match_leaf.Reads as match-leaf-reads
 use Rattle.patterns.proofs.count.Reads as count-reads
 use Rattle.patterns.proofs.key_form.Reads as key-form-reads

@@ -4,7 +4,7 @@ use mathlib.Core.Path.{sym, _∙_}
 use mathlib.Core.List.{List}
 use Rattle.terms.specs.Rules.{usedRows}
 use Rattle.calls.specs.Round.{RoundLent}
-use Rattle.rounds.proofs.CheckLaws.{found-some, found-none, round-refused}
+use Rattle.turns.proofs.CheckLaws.{found-some, found-none, round-refused}
 use borrow.Author.Needs.{needs}
 use Rattle.rounds.proofs.round_of.Statement.{statement}
 use Rattle.rounds.proofs.round_of.Tie as tie

@@ -5,7 +5,7 @@ use mathlib.Core.Bool.{_&&_}
 use native.Mathlib.Omega.{arith}
 use lib.ListN.{length, drop}
 use borrow.Author.Needs.{needs}
-use Rattle.emission.specs.Known.{known}
+use Rattle.knowing.specs.Known.{known}
 use Rattle.compiler.specs.CompileKnown.{undeclaredUnknown}
 use Rattle.compiler.proofs.LookLaws.{unknown-gather, unknown-gathered}
 use Rattle.compiler.proofs.looking.all_declared.Statement.{statement}

@@ -7,7 +7,7 @@ use native.Mathlib.Omega.{arith}
 use lib.ListN.{length}
 use borrow.Author.Needs.{needs}
 use Rattle.word.proofs.CopyLaws.{laid}
-use Rattle.emission.specs.Known.{known}
+use Rattle.knowing.specs.Known.{known}
 use Rattle.compiler.proofs.LookLaws.{KnownPassed, known-passed}
 use Rattle.compiler.proofs.RowLaws.{root-pattern, root-row, root-words}
 use Rattle.compiler.proofs.WalkLaws.{walked-done, walked-refused}

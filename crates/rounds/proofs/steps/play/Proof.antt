@@ -4,8 +4,8 @@ use mathlib.Core.Path.{sym, _∙_}
 use mathlib.Core.List.{List}
 use native.Mathlib.Omega.{arith}
 use Rattle.calls.specs.Round.{RoundLent}
-use Rattle.rounds.proofs.WordLaws.{middle-part}
-use Rattle.rounds.proofs.CheckLaws.{RoundPassed, round-passed}
+use Rattle.turns.proofs.WordLaws.{middle-part}
+use Rattle.turns.proofs.CheckLaws.{RoundPassed, round-passed}
 use Rattle.rounds.proofs.PlayLaws.{message-small, few-rounds, ready, place-small, round-stops, round-sent}
 use borrow.Author.Needs.{needs}
 use Rattle.rounds.proofs.steps.play.Statement.{statement}

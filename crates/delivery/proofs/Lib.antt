@@ -1,0 +1,2 @@
+-- Laws of the lent slice.
+pub mod DeliveryLaws

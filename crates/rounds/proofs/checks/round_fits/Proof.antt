@@ -1,9 +1,0 @@
-use borrow.Author.Needs.{needs}
-use Rattle.rounds.proofs.checks.round_fits.Statement.{statement}
-use Rattle.rounds.proofs.checks.round_fits.Tie as tie
-
-returns : tie.Need-returns
-returns c = search needs
-
-pub round-fits-spec : {M : Type 1} → statement M
-round-fits-spec = tie.close (tie.spec returns)
