@@ -7,6 +7,23 @@ ghost use Rattle.word.specs.Bytes.{elements};
 ghost use Rattle.stores.specs.Cells.{unset};
 ghost use Rattle.bundles.specs.Bundle.{headerOf, headerFits, cellsOf, kindsOf, clearOf};
 ghost use Rattle.bundles.specs.Opening.{bundleIn, held, kindsAt, opened};
+use numbers::limits::MOST_CERTIFICATES;
+use numbers::limits::MOST_NAMES;
+use numbers::limits::MOST_PATTERN_ROWS;
+use numbers::limits::MOST_TERM_ROWS;
+use numbers::limits::VARIABLES;
+use stores::cells::UNSET;
+
+// How many words the object cells, the named cells and the certificates stand behind the kinds, and the bytes of 64 cells and kinds.
+const OBJECTS_BEHIND: usize = 4;
+
+const NAMED_BEHIND: usize = 20;
+
+const CERTIFICATES_BEHIND: usize = 36;
+
+const CELL_BYTES: usize = 128;
+
+const KIND_BYTES: usize = 32;
 
 pub struct Header {
     pub create: bool,
@@ -54,16 +71,16 @@ fn header_fits(word: u64) -> bool
     if header.pattern_rows < 1 {
         return false;
     }
-    if header.pattern_rows > 96 {
+    if header.pattern_rows as usize > MOST_PATTERN_ROWS {
         return false;
     }
-    if header.certificates > 32 {
+    if header.certificates as usize > MOST_CERTIFICATES {
         return false;
     }
-    if header.term_rows > 4096 {
+    if header.term_rows as usize > MOST_TERM_ROWS {
         return false;
     }
-    if header.counter > 65536 {
+    if header.counter > MOST_NAMES {
         return false;
     }
     true
@@ -87,7 +104,7 @@ pub fn open(bytes: &[u8]) -> Opened
         return Opened::Refused;
     }
     let header = header_of(word);
-    let words = kinds_at(header) + 36 + header.certificates as usize;
+    let words = kinds_at(header) + CERTIFICATES_BEHIND + header.certificates as usize;
     if bytes.len() != 8 * words {
         return Opened::Refused;
     }
@@ -110,7 +127,7 @@ fn read_cells(bytes: &[u8], from: usize, cells: &mut [u16])
     ensures { λ _. ⌜ now (cells .exit) ≡ cellsOf (take 16 (drop from (elements 8 (now (bytes .entry))))) ++ drop 64 (now (cells .entry)) ⌝ }
 {
     let start = 8 * from;
-    let end = start + 128;
+    let end = start + CELL_BYTES;
     word::unpack_pairs(&bytes[start..end], cells);
 }
 
@@ -120,7 +137,7 @@ fn read_kinds(bytes: &[u8], from: usize, kinds: &mut [u8])
     ensures { λ _. ⌜ now (kinds .exit) ≡ kindsOf (take 4 (drop from (elements 8 (now (bytes .entry))))) ++ drop 64 (now (kinds .entry)) ⌝ }
 {
     let start = 8 * from;
-    for place in 0..32 {
+    for place in 0..KIND_BYTES {
         let byte = bytes[start + place];
         kinds[2 * place] = byte / 16;
         kinds[2 * place + 1] = byte % 16;
@@ -139,7 +156,7 @@ fn unset_all(cells: &mut [u16])
     ensures { λ _. ⌜ now (cells .exit) ≡ replicate (length (now (cells .entry))) unset ⌝ }
 {
     for place in 0..cells.len() {
-        cells[place] = 65535;
+        cells[place] = UNSET;
     }
 }
 
@@ -175,7 +192,7 @@ pub fn object_cells(bytes: &[u8], header: Header, cells: &mut [u16])
     requires { ⌜ (opened (now bytes) ≡ Opened.Is header) × (64 ≤ length (now cells)) ⌝ }
     ensures { λ _. ⌜ now (cells .exit) ≡ bundleIn (now (bytes .entry)) .objects ++ drop 64 (now (cells .entry)) ⌝ }
 {
-    let from = kinds_at(header) + 4;
+    let from = kinds_at(header) + OBJECTS_BEHIND;
     read_cells(bytes, from, cells);
 }
 
@@ -184,16 +201,16 @@ pub fn message_cells(bytes: &[u8], header: Header, cells: &mut [u16])
     requires { ⌜ (opened (now bytes) ≡ Opened.Is header) × (64 ≤ length (now cells)) ⌝ }
     ensures { λ _. ⌜ now (cells .exit) ≡ bundleIn (now (bytes .entry)) .named ++ replicate (length (now (cells .entry)) - 64) unset ⌝ }
 {
-    let from = kinds_at(header) + 20;
+    let from = kinds_at(header) + NAMED_BEHIND;
     read_cells(bytes, from, cells);
-    unset_all(&mut cells[64..]);
+    unset_all(&mut cells[VARIABLES..]);
 }
 
 pub fn certificates(bytes: &[u8], header: Header, certificates: &mut [u64])
     requires { ⌜ (opened (now bytes) ≡ Opened.Is header) × (header .certificates ≤ length (now certificates)) ⌝ }
     ensures { λ _. ⌜ now (certificates .exit) ≡ bundleIn (now (bytes .entry)) .certificates ++ drop (header .certificates) (now (certificates .entry)) ⌝ }
 {
-    let from = kinds_at(header) + 36;
+    let from = kinds_at(header) + CERTIFICATES_BEHIND;
     let count = header.certificates as usize;
     read_words(bytes, from, count, certificates);
 }

@@ -1,8 +1,14 @@
 // The instruction and its word.
+pub mod fields;
+pub mod operations;
 pub mod words;
 
 use numbers::Object;
 use numbers::Raw;
+use numbers::kinds;
+use numbers::limits::MESSAGE_CELLS;
+use numbers::limits::MOST_PARTS;
+use numbers::limits::VARIABLES;
 use word::Place;
 ghost use mathlib.Core.Path.{_≡_};
 ghost use mathlib.Core.List.{[], _∷_};
@@ -66,26 +72,26 @@ pub fn word_of(instruction: Instruction) -> u32
 pub fn instruction_of(word: u32) -> Read
     ensures { λ r. ⌜ r ≡ readOf (instructionOf word) ⌝ }
 {
-    let a = (word / 524288 % 256) as u8;
-    let b = (word / 2048 % 256) as u8;
-    let n = (word / 256 % 8) as u8;
-    match word / 134217728 {
-        2 => Read::Is(Instruction::Load(Raw(a))),
-        3 => Read::Is(Instruction::Store(Raw(a))),
-        4 => Read::Is(Instruction::StoreConst(Object(a), b)),
-        5 => Read::Is(Instruction::Decode(Object(a))),
-        6 => Read::Is(Instruction::Encode(Object(a))),
-        7 => Read::Is(Instruction::Create(Object(a))),
-        8 => Read::Is(Instruction::AnalyzeTuple(Object(a), Raw(b), n)),
-        9 => Read::Is(Instruction::CreateTuple(Object(a), Raw(b), n)),
-        10 => Read::Is(Instruction::Opposite(Object(a), Object(b))),
-        11 => Read::Is(Instruction::KeyOf),
-        12 => Read::Is(Instruction::Match(Raw(a))),
-        13 => Read::Is(Instruction::Encrypt(Object(a))),
-        14 => Read::Is(Instruction::Decrypt(Object(a))),
-        15 => Read::Is(Instruction::Sign(Object(a))),
-        16 => Read::Is(Instruction::Verify(Object(a), Raw(b))),
-        17 => Read::Is(Instruction::Hash(Object(a))),
+    let a = (word / fields::A % fields::OPERANDS) as u8;
+    let b = (word / fields::B % fields::OPERANDS) as u8;
+    let n = (word / fields::N % fields::COUNTS) as u8;
+    match word / fields::OPERATION {
+        operations::LOAD => Read::Is(Instruction::Load(Raw(a))),
+        operations::STORE => Read::Is(Instruction::Store(Raw(a))),
+        operations::STORE_CONST => Read::Is(Instruction::StoreConst(Object(a), b)),
+        operations::DECODE => Read::Is(Instruction::Decode(Object(a))),
+        operations::ENCODE => Read::Is(Instruction::Encode(Object(a))),
+        operations::CREATE => Read::Is(Instruction::Create(Object(a))),
+        operations::ANALYZE_TUPLE => Read::Is(Instruction::AnalyzeTuple(Object(a), Raw(b), n)),
+        operations::CREATE_TUPLE => Read::Is(Instruction::CreateTuple(Object(a), Raw(b), n)),
+        operations::OPPOSITE => Read::Is(Instruction::Opposite(Object(a), Object(b))),
+        operations::KEY_OF => Read::Is(Instruction::KeyOf),
+        operations::MATCH => Read::Is(Instruction::Match(Raw(a))),
+        operations::ENCRYPT => Read::Is(Instruction::Encrypt(Object(a))),
+        operations::DECRYPT => Read::Is(Instruction::Decrypt(Object(a))),
+        operations::SIGN => Read::Is(Instruction::Sign(Object(a))),
+        operations::VERIFY => Read::Is(Instruction::Verify(Object(a), Raw(b))),
+        operations::HASH => Read::Is(Instruction::Hash(Object(a))),
         _ => Read::Not,
     }
 }
@@ -95,7 +101,7 @@ fn kind_at(kinds: &[u8], v: Object) -> u8
     ensures { λ r. ⌜ r ≡ getD (take 64 (now (kinds .entry))) (v .0) 0 ⌝ }
 {
     let at = v.0 as usize;
-    if at < 64 && at < kinds.len() {
+    if at < VARIABLES && at < kinds.len() {
         kinds[at]
     } else {
         0
@@ -122,14 +128,14 @@ fn declared(kinds: &[u8], v: Object) -> bool
     ensures { λ r. ⌜ r ≡ hasKind (λ n. getD (now (kinds .entry)) n 0) v (1 ∷ 2 ∷ 3 ∷ 4 ∷ 5 ∷ 6 ∷ 7 ∷ 8 ∷ 9 ∷ 10 ∷ []) ⌝ }
 {
     let kind = kind_at(kinds, v);
-    1 <= kind && kind <= 10
+    kinds::BYTE <= kind && kind <= kinds::TUPLE
 }
 
 // So many consecutive message cells, at most four.
 fn cells_fit(first: Raw, n: u8) -> bool
     ensures { λ r. ⌜ r ≡ cellsFit first n ⌝ }
 {
-    n <= 4 && (first.0 as u32) + (n as u32) <= 256
+    (n as usize) <= MOST_PARTS && (first.0 as usize) + (n as usize) <= MESSAGE_CELLS
 }
 
 // The kinds that figure 4 wants, and cells that are there.
@@ -139,21 +145,24 @@ fn operands_fit(kinds: &[u8], instruction: Instruction) -> bool
     match instruction {
         Instruction::Load(_) => true,
         Instruction::Store(_) => true,
-        Instruction::StoreConst(c, _) => has_kind(kinds, c, 1),
+        Instruction::StoreConst(c, _) => has_kind(kinds, c, kinds::BYTE),
         Instruction::Decode(v) => declared(kinds, v),
         Instruction::Encode(v) => declared(kinds, v),
-        Instruction::Create(v) => has_kind(kinds, v, 2) || has_either(kinds, v, 5, 6),
-        Instruction::AnalyzeTuple(t, first, n) => has_kind(kinds, t, 10) && cells_fit(first, n),
-        Instruction::CreateTuple(t, first, n) => has_kind(kinds, t, 10) && cells_fit(first, n),
-        Instruction::Opposite(private, public) => has_kind(kinds, private, 5)
-            && has_kind(kinds, public, 4),
+        Instruction::Create(v) => has_kind(kinds, v, kinds::NONCE)
+            || has_either(kinds, v, kinds::PRIVATE_KEY, kinds::SHARED_KEY),
+        Instruction::AnalyzeTuple(t, first, n) => has_kind(kinds, t, kinds::TUPLE)
+            && cells_fit(first, n),
+        Instruction::CreateTuple(t, first, n) => has_kind(kinds, t, kinds::TUPLE)
+            && cells_fit(first, n),
+        Instruction::Opposite(private, public) => has_kind(kinds, private, kinds::PRIVATE_KEY)
+            && has_kind(kinds, public, kinds::PUBLIC_KEY),
         Instruction::KeyOf => true,
         Instruction::Match(_) => true,
-        Instruction::Encrypt(v) => has_either(kinds, v, 4, 6),
-        Instruction::Decrypt(v) => has_either(kinds, v, 5, 6),
-        Instruction::Sign(v) => has_either(kinds, v, 5, 6),
-        Instruction::Verify(v, _) => has_either(kinds, v, 4, 6),
-        Instruction::Hash(h) => has_kind(kinds, h, 9),
+        Instruction::Encrypt(v) => has_either(kinds, v, kinds::PUBLIC_KEY, kinds::SHARED_KEY),
+        Instruction::Decrypt(v) => has_either(kinds, v, kinds::PRIVATE_KEY, kinds::SHARED_KEY),
+        Instruction::Sign(v) => has_either(kinds, v, kinds::PRIVATE_KEY, kinds::SHARED_KEY),
+        Instruction::Verify(v, _) => has_either(kinds, v, kinds::PUBLIC_KEY, kinds::SHARED_KEY),
+        Instruction::Hash(h) => has_kind(kinds, h, kinds::HASH),
     }
 }
 

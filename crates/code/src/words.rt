@@ -1,4 +1,6 @@
 // The word of each instruction, operands into A and then B, in the order of the operations' numbers.
+use crate::fields;
+use crate::operations;
 use numbers::Object;
 use numbers::Raw;
 ghost use mathlib.Core.Path.{_≡_};
@@ -13,101 +15,104 @@ fn packed(operation: u32, a: u8, b: u8, n: u8) -> u32
     requires { ⌜ operation < 18 ⌝ }
     ensures { λ r. ⌜ r ≡ join wordWidths (operation ∷ a ∷ b ∷ n ∷ 0 ∷ []) ⌝ }
 {
-    operation * 134217728 + (a as u32) * 524288 + (b as u32) * 2048 + (n as u32) * 256
+    operation * fields::OPERATION
+        + (a as u32) * fields::A
+        + (b as u32) * fields::B
+        + (n as u32) * fields::N
 }
 
 pub fn load(r: Raw) -> u32
     ensures { λ word. ⌜ word ≡ join wordWidths (fieldsOf (Load r)) ⌝ }
 {
-    packed(2, r.0, 0, 0)
+    packed(operations::LOAD, r.0, 0, 0)
 }
 
 pub fn store(r: Raw) -> u32
     ensures { λ word. ⌜ word ≡ join wordWidths (fieldsOf (Store r)) ⌝ }
 {
-    packed(3, r.0, 0, 0)
+    packed(operations::STORE, r.0, 0, 0)
 }
 
 pub fn store_const(c: Object, byte: u8) -> u32
     ensures { λ word. ⌜ word ≡ join wordWidths (fieldsOf (StoreConst c byte)) ⌝ }
 {
-    packed(4, c.0, byte, 0)
+    packed(operations::STORE_CONST, c.0, byte, 0)
 }
 
 pub fn decode(v: Object) -> u32
     ensures { λ word. ⌜ word ≡ join wordWidths (fieldsOf (Decode v)) ⌝ }
 {
-    packed(5, v.0, 0, 0)
+    packed(operations::DECODE, v.0, 0, 0)
 }
 
 pub fn encode(v: Object) -> u32
     ensures { λ word. ⌜ word ≡ join wordWidths (fieldsOf (Encode v)) ⌝ }
 {
-    packed(6, v.0, 0, 0)
+    packed(operations::ENCODE, v.0, 0, 0)
 }
 
 pub fn create(v: Object) -> u32
     ensures { λ word. ⌜ word ≡ join wordWidths (fieldsOf (Create v)) ⌝ }
 {
-    packed(7, v.0, 0, 0)
+    packed(operations::CREATE, v.0, 0, 0)
 }
 
 pub fn analyze_tuple(t: Object, first: Raw, n: u8) -> u32
     ensures { λ word. ⌜ word ≡ join wordWidths (fieldsOf (AnalyzeTuple t first n)) ⌝ }
 {
-    packed(8, t.0, first.0, n)
+    packed(operations::ANALYZE_TUPLE, t.0, first.0, n)
 }
 
 pub fn create_tuple(t: Object, first: Raw, n: u8) -> u32
     ensures { λ word. ⌜ word ≡ join wordWidths (fieldsOf (CreateTuple t first n)) ⌝ }
 {
-    packed(9, t.0, first.0, n)
+    packed(operations::CREATE_TUPLE, t.0, first.0, n)
 }
 
 pub fn opposite(private: Object, public: Object) -> u32
     ensures { λ word. ⌜ word ≡ join wordWidths (fieldsOf (Opposite private public)) ⌝ }
 {
-    packed(10, private.0, public.0, 0)
+    packed(operations::OPPOSITE, private.0, public.0, 0)
 }
 
 pub fn key_of() -> u32
     ensures { λ word. ⌜ word ≡ join wordWidths (fieldsOf KeyOf) ⌝ }
 {
-    packed(11, 0, 0, 0)
+    packed(operations::KEY_OF, 0, 0, 0)
 }
 
 pub fn compare(r: Raw) -> u32
     ensures { λ word. ⌜ word ≡ join wordWidths (fieldsOf (Match r)) ⌝ }
 {
-    packed(12, r.0, 0, 0)
+    packed(operations::MATCH, r.0, 0, 0)
 }
 
 pub fn encrypt(v: Object) -> u32
     ensures { λ word. ⌜ word ≡ join wordWidths (fieldsOf (Encrypt v)) ⌝ }
 {
-    packed(13, v.0, 0, 0)
+    packed(operations::ENCRYPT, v.0, 0, 0)
 }
 
 pub fn decrypt(v: Object) -> u32
     ensures { λ word. ⌜ word ≡ join wordWidths (fieldsOf (Decrypt v)) ⌝ }
 {
-    packed(14, v.0, 0, 0)
+    packed(operations::DECRYPT, v.0, 0, 0)
 }
 
 pub fn sign(v: Object) -> u32
     ensures { λ word. ⌜ word ≡ join wordWidths (fieldsOf (Sign v)) ⌝ }
 {
-    packed(15, v.0, 0, 0)
+    packed(operations::SIGN, v.0, 0, 0)
 }
 
 pub fn verify(v: Object, r: Raw) -> u32
     ensures { λ word. ⌜ word ≡ join wordWidths (fieldsOf (Verify v r)) ⌝ }
 {
-    packed(16, v.0, r.0, 0)
+    packed(operations::VERIFY, v.0, r.0, 0)
 }
 
 pub fn hash(h: Object) -> u32
     ensures { λ word. ⌜ word ≡ join wordWidths (fieldsOf (Hash h)) ⌝ }
 {
-    packed(17, h.0, 0, 0)
+    packed(operations::HASH, h.0, 0, 0)
 }

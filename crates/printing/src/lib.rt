@@ -6,7 +6,9 @@ ghost use Rattle.text.specs.Written.{Wrote};
 ghost use Rattle.numbers.specs.Limits.{variables, namedCells, mostCodeWords};
 ghost use Rattle.printing.specs.Listing.{objectWord, messageWord, refusedLine, codeLines, endNumbers, cellLines, setLines};
 use answers::Ran;
+use code::fields;
 use numbers::limits::VARIABLES;
+use stores::cells::UNSET;
 
 // `refused NUMBER PLACE`.
 pub fn refused(out: &mut [u8], number: u32, place: u32) -> usize
@@ -20,10 +22,10 @@ fn code_line(out: &mut [u8], at: usize, place: usize, word: u32) -> usize
     requires { ⌜ (at ≤ 65200) × (place < mostCodeWords) ⌝ }
     ensures { λ r. ⌜ Wrote (codeLines place (word ∷ [])) (now (out .entry)) at (now (out .exit)) r ⌝ }
 {
-    let operation = word / 134217728;
-    let a = word / 524288 % 256;
-    let b = word / 2048 % 256;
-    let n = word / 256 % 8;
+    let operation = word / fields::OPERATION;
+    let a = word / fields::A % fields::OPERANDS;
+    let b = word / fields::B % fields::OPERANDS;
+    let n = word / fields::N % fields::COUNTS;
     text::put_line(out, at, [place as u32, operation, a, b, n, 0], 5)
 }
 
@@ -43,7 +45,7 @@ fn cell_line(out: &mut [u8], at: usize, word: &[u8], number: usize, cell: u16) -
     requires { ⌜ (at + length (now word) ≤ 65000) × (number < variables) ⌝ }
     ensures { λ r. ⌜ Wrote (cellLines (now (word .entry)) number (cell ∷ [])) (now (out .entry)) at (now (out .exit)) r ⌝ }
 {
-    if cell == 65535 {
+    if cell == UNSET {
         return at;
     }
     text::put_word_line(out, at, word, [number as u32, cell as u32, 0, 0, 0, 0], 2)

@@ -5,6 +5,11 @@ ghost use lib.ListN.{length, take};
 ghost use Rattle.text.specs.Lines.{digits, decimal, gap, spaced, line, wordLine};
 ghost use Rattle.text.specs.Written.{Wrote};
 
+// The byte of the digit 0; a number of 64 bits has at most so many digits.
+const DIGIT_ZERO: u32 = 48;
+
+const MOST_DIGITS: usize = 20;
+
 // One byte, where there is room for it.
 pub fn put_byte(out: &mut [u8], at: usize, byte: u8) -> usize
     requires { ⌜ at ≤ 65536 ⌝ }
@@ -26,10 +31,10 @@ fn put_digits(out: &mut [u8], at: usize, n: u32, most: usize) -> usize
         return at;
     }
     if n < 10 {
-        return put_byte(out, at, (48 + n) as u8);
+        return put_byte(out, at, (DIGIT_ZERO + n) as u8);
     }
     let next = put_digits(out, at, n / 10, most - 1);
-    put_byte(out, next, (48 + n % 10) as u8)
+    put_byte(out, next, (DIGIT_ZERO + n % 10) as u8)
 }
 
 // A number without leading zeros.
@@ -37,7 +42,7 @@ pub fn put_decimal(out: &mut [u8], at: usize, n: u32) -> usize
     requires { ⌜ at ≤ 65516 ⌝ }
     ensures { λ r. ⌜ Wrote (decimal n) (now (out .entry)) at (now (out .exit)) r ⌝ }
 {
-    put_digits(out, at, n, 20)
+    put_digits(out, at, n, MOST_DIGITS)
 }
 
 // Bytes as they are.

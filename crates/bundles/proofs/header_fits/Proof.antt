@@ -12,11 +12,20 @@ returns c = search within-ways
 returns-2 : tie.Need-returns-2
 returns-2 c = search within-ways
 
+cast-if3 : tie.Need-cast-if3
+cast-if3 c = search needs
+
 returns-3 : tie.Need-returns-3
 returns-3 c = search within-ways
 
+cast-if4 : tie.Need-cast-if4
+cast-if4 c = search needs
+
 returns-4 : tie.Need-returns-4
 returns-4 c = search within-ways
+
+cast-if5 : tie.Need-cast-if5
+cast-if5 c = search needs
 
 returns-5 : tie.Need-returns-5
 returns-5 c = search within-ways
@@ -34,8 +43,11 @@ header-fits-spec =
     header-of-requires
     returns
     returns-2
+    cast-if3
     returns-3
+    cast-if4
     returns-4
+    cast-if5
     returns-5
     returns-6
     returns-7)
