@@ -8,7 +8,10 @@ use lending::RunAnswer;
 use lending::arrays;
 use lending::compiles;
 use lending::runs;
+use numbers::limits::MOST_CODE_WORDS;
 
+mod round_tables;
+pub mod session;
 mod tables;
 
 // The code of a pattern; create is 0 for matching, 1 for creating.
@@ -75,6 +78,7 @@ pub extern "C" fn cram_run(
         certificates.len(),
         terms.len(),
         code.len(),
+        MOST_CODE_WORDS,
     ) {
         return runs::numbers(Ran::Limit, 0, counter, accumulator);
     }

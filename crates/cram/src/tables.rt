@@ -6,7 +6,7 @@ ghost use Rattle.word.specs.Bytes.{elements};
 ghost use Rattle.numbers.specs.Limits.{mostTermRows};
 ghost use Rattle.calls.specs.Run.{run};
 ghost use Rattle.looking.specs.Found.{usedWith};
-ghost use Rattle.lending.specs.Entries.{fewRows, rowsSpelled};
+ghost use Rattle.lending.specs.Entries.{rowsSpelled};
 use lending::arrays;
 use lending::arrays::FEW_ROWS;
 use numbers::limits::MESSAGE_CELLS;
@@ -45,66 +45,6 @@ fn over_rows(
     left
 }
 
-fn over_few(
-    kinds: &[u8],
-    objects: [u16; VARIABLES],
-    messages: [u16; MESSAGE_CELLS],
-    certificates: &[u64],
-    accumulator: u32,
-    terms: &mut [u8],
-    counter: u32,
-    words: &[u32],
-) -> Outcome
-    requires { ⌜ (length (now terms) ≡ 8 * (length (now terms) / 8)) × (length (now terms) / 8 ≤ fewRows) ⌝ }
-    ensures { λ r. ⌜ (let o = run (record { kinds = now (kinds .entry); objects = objects; messages = messages; certificates = now (certificates .entry); accumulator = accumulator; terms = elements 8 (now (terms .entry)); counter = counter }) (now (words .entry)) in
-        (record { answer = r .answer; objects = r .objects; messages = r .messages; accumulator = r .accumulator; terms = now (terms .exit); counter = r .counter } ≡ rowsSpelled o)
-        × (r .used ≡ usedWith (o .answer) (o .terms))) ⌝ }
-{
-    let lent = terms.len() / 8;
-    let mut rows = arrays::few_rows();
-    over_rows(
-        kinds,
-        objects,
-        messages,
-        certificates,
-        accumulator,
-        terms,
-        &mut rows[..lent],
-        counter,
-        words,
-    )
-}
-
-fn over_many(
-    kinds: &[u8],
-    objects: [u16; VARIABLES],
-    messages: [u16; MESSAGE_CELLS],
-    certificates: &[u64],
-    accumulator: u32,
-    terms: &mut [u8],
-    counter: u32,
-    words: &[u32],
-) -> Outcome
-    requires { ⌜ (length (now terms) ≡ 8 * (length (now terms) / 8)) × (length (now terms) / 8 ≤ mostTermRows) ⌝ }
-    ensures { λ r. ⌜ (let o = run (record { kinds = now (kinds .entry); objects = objects; messages = messages; certificates = now (certificates .entry); accumulator = accumulator; terms = elements 8 (now (terms .entry)); counter = counter }) (now (words .entry)) in
-        (record { answer = r .answer; objects = r .objects; messages = r .messages; accumulator = r .accumulator; terms = now (terms .exit); counter = r .counter } ≡ rowsSpelled o)
-        × (r .used ≡ usedWith (o .answer) (o .terms))) ⌝ }
-{
-    let lent = terms.len() / 8;
-    let mut rows = arrays::no_rows();
-    over_rows(
-        kinds,
-        objects,
-        messages,
-        certificates,
-        accumulator,
-        terms,
-        &mut rows[..lent],
-        counter,
-        words,
-    )
-}
-
 // A small table is run in a small array: to clear a large one takes longer than most runs.
 pub fn over_table(
     kinds: &[u8],
@@ -121,27 +61,31 @@ pub fn over_table(
         (record { answer = r .answer; objects = r .objects; messages = r .messages; accumulator = r .accumulator; terms = now (terms .exit); counter = r .counter } ≡ rowsSpelled o)
         × (r .used ≡ usedWith (o .answer) (o .terms))) ⌝ }
 {
-    if terms.len() <= 8 * FEW_ROWS {
-        over_few(
+    let lent = terms.len() / 8;
+    if lent <= FEW_ROWS {
+        let mut few = arrays::few_rows();
+        return over_rows(
             kinds,
             objects,
             messages,
             certificates,
             accumulator,
             terms,
+            &mut few[..lent],
             counter,
             words,
-        )
-    } else {
-        over_many(
-            kinds,
-            objects,
-            messages,
-            certificates,
-            accumulator,
-            terms,
-            counter,
-            words,
-        )
+        );
     }
+    let mut rows = arrays::no_rows();
+    over_rows(
+        kinds,
+        objects,
+        messages,
+        certificates,
+        accumulator,
+        terms,
+        &mut rows[..lent],
+        counter,
+        words,
+    )
 }

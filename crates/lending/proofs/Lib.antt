@@ -2,4 +2,6 @@
 pub mod FrontLaws
 pub mod ChoiceLaws
 pub mod CompileLaws
+pub mod SliceLaws
 pub mod RunLaws
+pub mod RoundLaws

@@ -1,62 +1,40 @@
 -- Run over lent bytes: lengths that fit or are refused, and what is packed back.
-use Prim.Native.Nat.{ℕ, _*_, _/_, _%_, _≤_}
+use Prim.Native.Nat.{ℕ}
 use mathlib.Core.Path.{_≡_, sym, _∙_, ap}
-use mathlib.Core.Bool.{Bool, true, false, _&&_}
+use mathlib.Core.Bool.{Bool, true, false}
 use mathlib.Core.List.{List}
-use native.Mathlib.Omega.{arith}
-use lib.Dec.{T, eqb, leb}
-use lib.ListN.{length}
+use lib.Dec.{T}
 use Rattle.word.specs.Bytes.{elements, spelled}
-use Rattle.word.proofs.ByteLaws.{Below, length-words, spelled-elements}
+use Rattle.word.proofs.ByteLaws.{Below, spelled-elements}
 use Rattle.word.proofs.TestLaws.{both, equals, at-most, is-false}
 use Rattle.answers.specs.declared.Ran.the-variants.{Limit}
-use Rattle.numbers.specs.Limits.{variables, messageCells, mostCodeWords, mostTermRows, mostCertificates}
+use Rattle.numbers.specs.Limits.{mostCodeWords}
 use Rattle.looking.specs.Found.{usedWith}
 use Rattle.calls.specs.Run.{Lent, RunOutcome, unchanged, lengthsFit, run}
 use Rattle.looking.proofs.LookLaws.{true-holds, found-some, found-limit, run-refused}
 use Rattle.lending.specs.declared.RunAnswer.{RunAnswer}
 use Rattle.lending.specs.Entries.{RunLeft, ranNumbers, runWhole, lentElements, rowsSpelled, runSpelled, runRefused, runEntry}
 use Rattle.lending.proofs.ChoiceLaws.{where-true, either-way}
+use Rattle.lending.proofs.SliceLaws.{slicesFit, Fitting, fitting, refits}
 
 module _ (x : Lent) (code : List ℕ) where
   abbrev pub bytesFit : Bool
-  bytesFit =
-      eqb (length (x .objects)) (2 * variables) && eqb (length (x .messages)) (2 * messageCells) && eqb (length (x .certificates) % 8) 0
-      && leb (length (x .certificates)) (8 * mostCertificates) && eqb (length (x .terms) % 8) 0 && leb (length (x .terms)) (8 * mostTermRows)
-      && eqb (length code % 4) 0 && leb (length code) (4 * mostCodeWords)
+  bytesFit = slicesFit (x .objects) (x .messages) (x .certificates) (x .terms) code mostCodeWords
 
-  -- whole elements, for which there is room
-  pub record Fitting : Type 0 where
-    pub all-whole : T (runWhole x code)
-    pub object-bytes : length (x .objects) ≡ 2 * variables
-    pub message-bytes : length (x .messages) ≡ 2 * messageCells
-    pub few-certificates : length (x .certificates) / 8 ≤ mostCertificates
-    pub row-bytes : length (x .terms) ≡ 8 * (length (x .terms) / 8)
-    pub few-rows : length (x .terms) / 8 ≤ mostTermRows
-    pub few-words : length code / 4 ≤ mostCodeWords
+  abbrev pub RunFitting : Type 0
+  RunFitting = Fitting (x .objects) (x .messages) (x .certificates) (x .terms) code mostCodeWords
 
-  pub fitting : bytesFit ≡ true → Fitting
-  fitting e =
-      let t = simp (both, equals, at-most) at (true-holds e) in
-      record {
-        all-whole = simp (both, equals) ((((omega (arith, t .0 .0 .0 .0 .0 .0 .0), omega (arith, t .0 .0 .0 .0 .0 .0 .1)), t .0 .0 .0 .0 .0 .1), t .0 .0 .0 .1), t .0 .1);
-        object-bytes = t .0 .0 .0 .0 .0 .0 .0;
-        message-bytes = t .0 .0 .0 .0 .0 .0 .1;
-        few-certificates = omega (arith, t .0 .0 .0 .0 .1);
-        row-bytes = omega (arith, t .0 .0 .0 .1);
-        few-rows = omega (arith, t .0 .0 .1);
-        few-words = omega (arith, t .1);
-      }
+  pub run-fitting : bytesFit ≡ true → RunFitting
+  run-fitting e = fitting (x .objects) (x .messages) (x .certificates) (x .terms) code mostCodeWords (true-holds e)
 
-  -- elements within the limits are bytes that fit
-  refits : T (runWhole x code) → T (lengthsFit (lentElements x) (elements 4 code)) → T bytesFit
-  refits =
-      simp (both, equals, at-most, length-words) λ w l.
-      (((((((omega (arith, w .0 .0 .0 .0, l .0 .0 .0 .0 .0 .1), omega (arith, w .0 .0 .0 .1, l .0 .0 .0 .0 .1)), w .0 .0 .1), omega (arith, w .0 .0 .1, l .0 .0 .0 .1)), w .0 .1), omega (arith, w .0 .1, l .0 .0 .1)), w .1), omega (arith, w .1, l .1))
+  lengths-fit : T (runWhole x code) → T (lengthsFit (lentElements x) (elements 4 code)) → T bytesFit
+  lengths-fit w h =
+      let l = simp (both, equals, at-most) at h in
+      refits (x .objects) (x .messages) (x .certificates) (x .terms) code mostCodeWords w (l .0 .0 .0 .0 .0 .1) (l .0 .0 .0 .0 .1) (l .0 .0 .0 .1) (l .0 .0 .1) (l .1)
 
   refused-by-run : bytesFit ≡ false → T (runWhole x code) → run (lentElements x) (elements 4 code) ≡ unchanged Limit (lentElements x)
   refused-by-run e w =
-      let unfit = is-false (lengthsFit (lentElements x) (elements 4 code)) λ t. rw e at (refits w t) in
+      let unfit = is-false (lengthsFit (lentElements x) (elements 4 code)) λ t. rw e at (lengths-fit w t) in
       sym (run-refused (lentElements x) (elements 4 code) (found-some (elements 8 (x .terms)) _ (found-limit (lentElements x) (elements 4 code) unfit) .0))
 
   -- 1, of whole elements or not

@@ -64,8 +64,11 @@ ranNumbers answer used counter accumulator = record {
 }
 
 -- cells are two bytes, code words four, certificates and term rows eight
+abbrev pub slicesWhole : List ℕ → List ℕ → List ℕ → List ℕ → List ℕ → Bool
+slicesWhole objects messages certificates terms code = whole 2 objects && whole 2 messages && whole 8 certificates && whole 8 terms && whole 4 code
+
 abbrev pub runWhole : Lent → List ℕ → Bool
-runWhole x code = whole 2 (x .objects) && whole 2 (x .messages) && whole 8 (x .certificates) && whole 8 (x .terms) && whole 4 code
+runWhole x code = slicesWhole (x .objects) (x .messages) (x .certificates) (x .terms) code
 
 -- the elements of what is lent as bytes
 abbrev pub lentElements : Lent → Lent

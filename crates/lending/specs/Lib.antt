@@ -1,2 +1,3 @@
 -- The entries for C.
 pub mod Entries
+pub mod RoundEntry

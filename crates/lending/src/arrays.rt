@@ -3,12 +3,13 @@ ghost use mathlib.Core.Path.{_≡_};
 ghost use Prim.Native.Nat.{_*_, _/_, _≤_};
 ghost use lib.ListN.{length, take};
 ghost use Rattle.word.specs.Bytes.{elements};
-ghost use Rattle.numbers.specs.Limits.{variables, messageCells, mostPatternRows, mostCodeWords, mostTermRows, mostCertificates};
+ghost use Rattle.numbers.specs.Limits.{variables, messageCells, mostPatternRows, mostCodeWords, mostRoundWords, mostTermRows, mostCertificates};
 ghost use Rattle.lending.specs.Entries.{fewRows};
 use numbers::limits::MESSAGE_CELLS;
 use numbers::limits::MOST_CERTIFICATES;
 use numbers::limits::MOST_CODE_WORDS;
 use numbers::limits::MOST_PATTERN_ROWS;
+use numbers::limits::MOST_ROUND_WORDS;
 use numbers::limits::MOST_TERM_ROWS;
 use numbers::limits::VARIABLES;
 
@@ -62,11 +63,26 @@ pub fn code_words(bytes: &[u8]) -> [u32; MOST_CODE_WORDS]
     words
 }
 
+pub fn round_words(bytes: &[u8]) -> [u32; MOST_ROUND_WORDS]
+    requires { ⌜ length (now bytes) / 4 ≤ mostRoundWords ⌝ }
+    ensures { λ r. ⌜ take (length (now (bytes .entry)) / 4) r ≡ elements 4 (now (bytes .entry)) ⌝ }
+{
+    let mut words = no_round_words();
+    word::unpack_quads(bytes, &mut words);
+    words
+}
+
 // Of a large array only the length is promised: a goal would spell every zero.
 pub fn no_words() -> [u32; MOST_CODE_WORDS]
     ensures { λ r. ⌜ mostCodeWords ≡ length r ⌝ }
 {
     [0u32; MOST_CODE_WORDS]
+}
+
+fn no_round_words() -> [u32; MOST_ROUND_WORDS]
+    ensures { λ r. ⌜ mostRoundWords ≡ length r ⌝ }
+{
+    [0u32; MOST_ROUND_WORDS]
 }
 
 pub fn few_rows() -> [u64; FEW_ROWS]

@@ -2,6 +2,7 @@
 pub mod arrays;
 pub mod compiles;
 pub mod runs;
+pub mod sessions;
 
 #[repr(C)]
 pub struct CompileAnswer {
@@ -17,4 +18,17 @@ pub struct RunAnswer {
     pub used: u32,
     pub counter: u32,
     pub accumulator: u32,
+}
+
+#[repr(C)]
+pub struct RoundAnswer {
+    pub number: u32,
+    pub place: u32,
+    pub reason: u32,
+}
+
+#[repr(C)]
+pub struct TakeAnswer {
+    pub number: u32,
+    pub answer: u32,
 }

@@ -5,7 +5,7 @@ use borrow.Author.Needs.{needs}
 use borrow.Author.Tests.{not-true, not-false}
 use lib.Seq.{length-take-le}
 use Rattle.calls.specs.Run.{Lent}
-use Rattle.lending.proofs.RunLaws.{Fitting, fitting, run-limit, lent-elements, run-packed}
+use Rattle.lending.proofs.RunLaws.{RunFitting, run-fitting, run-limit, lent-elements, run-packed}
 use Rattle.cram.proofs.cram_run.Statement.{statement}
 use Rattle.cram.proofs.cram_run.Tie as tie
 
@@ -24,8 +24,8 @@ module _ (c : tie.Else1) where
   abbrev start : tie.Start
   start = c .before .before .before .before .before .before .before .before
 
-  fits : Fitting (lent start) (start .args .code .now)
-  fits = fitting (lent start) (start .args .code .now) (sym (c .before .lengths-fit .ensures) ∙ not-false _ (c .if1 .left))
+  fits : RunFitting (lent start) (start .args .code .now)
+  fits = run-fitting (lent start) (start .args .code .now) (sym (c .before .lengths-fit .ensures) ∙ not-false _ (c .if1 .left))
 
 lengths-fit-requires : tie.Need-lengths-fit-requires
 lengths-fit-requires c κs = search needs
