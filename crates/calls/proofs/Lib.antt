@@ -8,5 +8,7 @@ pub mod Product
 pub mod RunLaws
 pub mod ValidLent
 pub mod ValidAgain
+pub mod FinishLaws
+pub mod StateBack
 pub mod Demand3
 pub mod Theorems
