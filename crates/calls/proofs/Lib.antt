@@ -4,6 +4,7 @@ pub mod CompileLaws
 pub mod FrameLaws
 pub mod SetCells
 pub mod CompiledWords
+pub mod HalfLaws
 pub mod Product
 pub mod RunLaws
 pub mod ValidLent
