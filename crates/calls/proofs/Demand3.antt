@@ -149,7 +149,7 @@ module _ (x : Lent) where
 byte-fits : (kind : ℕ → ℕ) (i : Instruction) → InRange kind i → T (operandsFit kind i) × ByteFits i
 byte-fits kind (StoreConst c b) f = (f .operands, f .cells)
 byte-fits kind (Load r) f = (f .operands, tt)
-byte-fits kind (Store r) f = (f .operands, tt)
+byte-fits kind (Store r) f = (f .operands, omega (arith, f .cells))
 byte-fits kind (Decode v) f = (f .operands, tt)
 byte-fits kind (Encode v) f = (f .operands, tt)
 byte-fits kind (Create v) f = (f .operands, tt)

@@ -4,9 +4,12 @@ pub mod CompileLaws
 pub mod FrameLaws
 pub mod SetCells
 pub mod CompiledWords
+pub mod HalfLaws
 pub mod Product
 pub mod RunLaws
 pub mod ValidLent
 pub mod ValidAgain
+pub mod FinishLaws
+pub mod StateBack
 pub mod Demand3
 pub mod Theorems

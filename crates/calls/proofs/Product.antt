@@ -1,6 +1,7 @@
 -- Demand 3, from packed words to the figures: what the run of compiled code comes to is what the rules give.
 use mathlib.Core.Path.{_≡_, refl}
 use mathlib.Core.Bool.{Bool, true, false, _&&_}
+use mathlib.Core.Option.{none}
 use mathlib.Core.List.{List}
 use Prim.Native.Nat.{ℕ, _≤_}
 use native.Mathlib.Omega.{arith}
@@ -11,7 +12,8 @@ use Rattle.answers.specs.declared.Compiled.{Compiled}
 use Rattle.answers.specs.declared.Compiled.the-variants.{Done}
 use Rattle.patterns.specs.Pattern.{Pattern, size, RawsBelow, Packed}
 use Rattle.patterns.specs.Tree.{patternOf}
-use Rattle.patterns.specs.Kinds.{RightKinds}
+use Rattle.patterns.specs.Rules.{badPattern}
+use Rattle.patterns.specs.Kinds.{wrongKind, RightKinds}
 use Rattle.patterns.proofs.TreeLaws.{pattern-size, right-kinds, raws-below, packed}
 use Rattle.theory.specs.Machine.{Line}
 use Rattle.theory.specs.Emission.{Env, ok, refuse}
@@ -38,37 +40,45 @@ module _ (kind : ℕ → ℕ) (declared : (v : ℕ) → 64 ≤ v → kind v ≡ 
   tables-limits true = creating-in-limits kind declared
   tables-limits false = matching-in-limits kind declared
 
-module _ (create : Bool) (pattern kinds objects named : List ℕ) (kinds-length : length kinds ≡ variables) where
+module _ (create : Bool) (pattern kinds : List ℕ) (kinds-length : length kinds ≡ variables) where
   -- a variable past the kinds is undeclared
   declared-kinds : (v : ℕ) → 64 ≤ v → kindIn kinds v ≡ 0
   declared-kinds v h = List·getD-eq-default kinds 0 (omega arith)
 
   -- what the tables are given once the checks have passed
-  record Given : Type 0 where
-    few : size (patternOf pattern) ≤ 96
-    right : RightKinds create (kindIn kinds) (patternOf pattern)
-    raws : RawsBelow 64 (patternOf pattern)
-    fields : Packed (patternOf pattern)
+  pub record Given : Type 0 where
+    pub few : size (patternOf pattern) ≤ 96
+    pub right : RightKinds create (kindIn kinds) (patternOf pattern)
+    pub raws : RawsBelow 64 (patternOf pattern)
+    pub fields : Packed (patternOf pattern)
 
-  given : Checked create pattern kinds objects named → Given
-  given c =
+  pub given : 1 ≤ length pattern → length pattern ≤ 96 → badPattern pattern ≡ none → wrongKind create (kindIn kinds) pattern ≡ none → Given
+  given least most rows right = record {
+    few = omega (arith, pattern-size pattern rows least);
+    right = right-kinds pattern rows create (kindIn kinds) least right;
+    raws = raws-below pattern;
+    fields = packed pattern;
+  }
+
+  module _ (g : Given) (e : Env) (start : e .next ≡ 0) where
+    pub given-refuses : (answer : Compiled) → tables create (kindIn kinds) (patternOf pattern) e ≡ refuse answer → Refusal answer
+    given-refuses answer = tables-refuse (kindIn kinds) declared-kinds create (patternOf pattern) e answer (g .right) (g .raws) (g .fields) (g .few) start
+
+    pub given-limits : (lines : List Line) (e′ : Env) → tables create (kindIn kinds) (patternOf pattern) e ≡ ok lines e′ → InLimits (kindIn kinds) lines e′
+    given-limits lines e′ = tables-limits (kindIn kinds) declared-kinds create (patternOf pattern) e e′ lines (g .right) (g .raws) (g .fields) (g .few) start
+
+module _ (create : Bool) (pattern kinds objects named : List ℕ) (kinds-length : length kinds ≡ variables) where
+  checked-given : Checked create pattern kinds objects named → Given create pattern kinds kinds-length
+  checked-given c =
       let (least, most) = pattern-lengths (leb 1 (length pattern)) (leb (length pattern) 96) (eqb (length kinds) 64) (eqb (length objects) 64) (eqb (length named) 64) (c .lengths) in
-      let one = at-most 1 (length pattern) .0 least in
-      record {
-        few = omega (arith, pattern-size pattern (c .rows) one, at-most (length pattern) 96 .0 most);
-        right = right-kinds pattern (c .rows) create (kindIn kinds) one (c .right);
-        raws = raws-below pattern;
-        fields = packed pattern;
-      }
+      given create pattern kinds kinds-length (at-most 1 (length pattern) .0 least) (at-most (length pattern) 96 .0 most) (c .rows) (c .right)
 
   -- once the checks have passed, kinds are right and emission refuses with 6 or 7 alone
   pub checked-right : Checked create pattern kinds objects named → RightKinds create (kindIn kinds) (patternOf pattern)
-  checked-right c = given c .right
+  checked-right c = checked-given c .right
 
   pub checked-refuses : Checked create pattern kinds objects named → (answer : Compiled) → tables create (kindIn kinds) (patternOf pattern) (entry objects named) ≡ refuse answer → Refusal answer
-  checked-refuses c answer =
-      let g = given c in
-      tables-refuse (kindIn kinds) declared-kinds create (patternOf pattern) (entry objects named) answer (g .right) (g .raws) (g .fields) (g .few) refl
+  checked-refuses c = given-refuses create pattern kinds kinds-length (checked-given c) (entry objects named) refl
 
   -- a done compile: the checks have passed, and its words are those of lines within limits
   pub record Written (words : ℕ) (after : List ℕ) : Type 0 where
@@ -79,9 +89,9 @@ module _ (create : Bool) (pattern kinds objects named : List ℕ) (kinds-length 
   pub compile-writes : (slice : List ℕ) (words : ℕ) → compile create pattern kinds objects named slice .answer ≡ Done words → Written words (compile create pattern kinds objects named slice .code)
   compile-writes slice words e =
       let c = done-compiles create pattern kinds objects named slice words checked-refuses e in
-      let g = given (c .checks) in
+      let g = checked-given (c .checks) in
       record {
         compiles = c;
         right = g .right;
-        limits = tables-limits (kindIn kinds) declared-kinds create (patternOf pattern) (entry objects named) (c .env) (c .lines) (g .right) (g .raws) (g .fields) (g .few) refl (c .emits);
+        limits = given-limits create pattern kinds kinds-length g (entry objects named) refl (c .lines) (c .env) (c .emits);
       }

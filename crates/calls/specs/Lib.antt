@@ -1,8 +1,10 @@
--- What compile and run answer, and the worked cases.
+-- What compile, run, a round and a role answer, and the worked cases.
 pub mod Compile
+pub mod Half
 pub mod Run
 pub mod Valid
 pub mod Frame
 pub mod Round
+pub mod Role
 pub mod Cases
 pub mod Orders

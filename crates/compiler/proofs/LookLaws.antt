@@ -6,18 +6,17 @@ use mathlib.Core.Option.{Option, none, some}
 use mathlib.Core.List.{List}
 use native.Mathlib.Numerals.{add-one}
 use native.Mathlib.Omega.{arith}
-use lib.Dec.{T, eqb}
+use lib.Dec.{eqb}
 use lib.ListN.{length, getD, drop, drop-of-length-le}
 use lib.Seq.{drop-cons}
-use Rattle.word.proofs.TestLaws.{both, twice, equals, at-most}
 use Rattle.answers.specs.declared.Compiled.{Compiled}
 use Rattle.answers.specs.declared.Compiled.the-variants.{Limit, BadStore, BadPattern, WrongKind}
 use Rattle.answers.specs.First.{first}
 use Rattle.numbers.specs.Kinds.{kindIn}
 use Rattle.patterns.specs.Rules.{badPattern}
 use Rattle.patterns.specs.Kinds.{wrongKind}
-use Rattle.calls.proofs.CompileLaws.{first-none, when-none, map-none}
-use Rattle.compiler.specs.CompileKnown.{undeclaredUnknown, declaredKnown, knownFit, knownRefusals}
+use Rattle.calls.proofs.HalfLaws.{KnownWithin, known-within}
+use Rattle.calls.specs.Half.{undeclaredUnknown, declaredKnown, knownFit, knownRefusals}
 use Rattle.compiler.specs.Buffer.{findingOf}
 use Rattle.compiler.specs.declared.Finding.{Finding}
 use Rattle.compiler.specs.declared.Finding.the-variants.{Refused, Accepted}
@@ -42,31 +41,7 @@ module _ (kinds : List ℕ) (set : ℕ → Bool) (v : ℕ) (gathered : Bool) (le
   unfolding undeclaredUnknown
   unknown-gathered past = sym (left ∙ rw (drop-of-length-le kinds {i = v} past) (and-true gathered))
 
--- lengths that fit
-pub record KnownWithin (pattern kinds : List ℕ) : Type 0 where
-  pub least : 1 ≤ length pattern
-  pub most : length pattern ≤ 96
-  pub kinds-length : length kinds ≡ 64
-
-pub known-within : (pattern kinds : List ℕ) → T (knownFit (length pattern) (length kinds)) → KnownWithin pattern kinds
-known-within pattern kinds = simp (both, equals, at-most) λ h. record { least = h .0 .0; most = h .0 .1; kinds-length = h .1 }
-
 module _ (create : Bool) (pattern kinds : List ℕ) (objects : ℕ → Bool) where
-  -- what the walk is given once the checks have passed
-  pub record KnownPassed : Type 0 where
-    pub lengths : KnownWithin pattern kinds
-    pub rows : badPattern pattern ≡ none
-
-  pub known-passed : first (knownRefusals create pattern kinds objects) ≡ none → KnownPassed
-  known-passed e =
-      let (limits, e) = first-none _ _ e in
-      let (cells, e) = first-none _ _ e in
-      let (rows, e) = first-none _ _ e in
-      record {
-        lengths = known-within pattern kinds (twice (knownFit (length pattern) (length kinds)) .0 (when-none (not (knownFit (length pattern) (length kinds))) Limit limits));
-        rows = map-none BadPattern (badPattern pattern) rows;
-      }
-
   abbrev finding : Finding
   finding = findingOf (first (knownRefusals create pattern kinds objects))
 

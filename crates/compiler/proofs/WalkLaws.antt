@@ -18,11 +18,12 @@ use Rattle.patterns.specs.Tree.{patternOf}
 use Rattle.theory.specs.Emission.{Env, Emitted, ok, refuse, andThen}
 use Rattle.theory.specs.Compilers.{compile↓}
 use Rattle.calls.specs.Compile.{tables, codeWords}
+use Rattle.calls.specs.Half.{knownRefusals, knownEmitted, half}
 use Rattle.knowing.specs.Known.{known}
 use Rattle.knowing.specs.Meets.{objectsIn, rawsIn, writtenIn, refusalIn, envOf, refusalBy, refusal, MeetsBy, Meets, Does}
 use Rattle.knowing.proofs.MeetsLaws.{after-nil, does-as}
 use Rattle.creating.specs.Creates.{patternCode}
-use Rattle.compiler.specs.CompileKnown.{noWords, knownRefusals, knownEmitted, compileKnown}
+use Rattle.compiler.specs.CompileKnown.{noWords, fromKnown, compileKnown}
 use Rattle.compiler.specs.Buffer.{answerBy, answerIn}
 
 -- emission's answer by the number of its refusal
@@ -52,14 +53,14 @@ refusal-none = refl
 module _ (create : Bool) (pattern kinds : List ℕ) (objects named : ℕ → Bool) where
   pub refused-known : {answer : Compiled} {buffer : List ℕ} (blank : List ℕ) → first (knownRefusals create pattern kinds objects) ≡ some answer → buffer ≡ noWords
       → record { answer = answer; words = buffer; objects = objects; named = named } ≡ compileKnown create pattern kinds objects named blank
-  unfolding compileKnown
+  unfolding compileKnown half
   refused-known blank e cleared = rw (e, cleared)
 
   module _ (passed : first (knownRefusals create pattern kinds objects) ≡ none) {blank e′ buffer : List ℕ} where
     -- an emission that the buffer meets, done or refused
-    met-done : (E : Emitted) → knownEmitted create pattern kinds objects named ≡ E → Meets E 0 blank e′ buffer → refusalIn e′ ≡ 0 → writtenIn e′ ≤ length blank
+    met-done : (E : Emitted) → knownEmitted create pattern kinds (fromKnown objects named) ≡ E → Meets E 0 blank e′ buffer → refusalIn e′ ≡ 0 → writtenIn e′ ≤ length blank
         → record { answer = answerIn e′; words = buffer; objects = known (objectsIn e′); named = known (rawsIn e′) } ≡ compileKnown create pattern kinds objects named blank
-    unfolding MeetsBy compileKnown
+    unfolding MeetsBy compileKnown half
     met-done (refuse answer) q m zero-refusal most = let h = rw zero-refusal at (m .met) in absurd (let z : _≡_ {A = ℕ} 0 1 = cc (refusal-none) in omega arith)
     met-done (ok lines env) q m zero-refusal most =
         let fine = m .met in
@@ -70,16 +71,16 @@ module _ (create : Bool) (pattern kinds : List ℕ) (objects named : ℕ → Boo
         rw (passed, q)
         (λ i. record { answer = answered i; words = front i; objects = fine .env i .objects; named = fine .env i .raws })
 
-    met-refused : (E : Emitted) → knownEmitted create pattern kinds objects named ≡ E → Meets E 0 blank e′ buffer → (refusalIn e′ ≡ 0 → ⊥) → {after : List ℕ} → after ≡ noWords
+    met-refused : (E : Emitted) → knownEmitted create pattern kinds (fromKnown objects named) ≡ E → Meets E 0 blank e′ buffer → (refusalIn e′ ≡ 0 → ⊥) → {after : List ℕ} → after ≡ noWords
         → record { answer = answerIn e′; words = after; objects = objects; named = named } ≡ compileKnown create pattern kinds objects named blank
-    unfolding MeetsBy compileKnown
+    unfolding MeetsBy compileKnown half
     met-refused (ok lines env) q m other cleared = absurd (other (m .met .fine))
     met-refused (refuse answer) q m other cleared = rw (passed, q, cleared, m .met)
 
 -- the walk from two numbers, over a buffer with room for its words
 module _ (create : Bool) (pattern kinds : List ℕ) {seen heard w m : ℕ} {p : Pattern} {blank e′ buffer : List ℕ} (passed : first (knownRefusals create pattern kinds (known seen)) ≡ none)
     (same : p ≡ patternOf pattern) (d : Does (tables create (kindIn kinds) p) w m (seen ∷ heard ∷ 0 ∷ 0 ∷ 0 ∷ []) blank e′ buffer) where
-  meets : Meets (knownEmitted create pattern kinds (known seen) (known heard)) 0 blank e′ buffer
+  meets : Meets (knownEmitted create pattern kinds (fromKnown (known seen) (known heard))) 0 blank e′ buffer
   unfolding MeetsBy andThen
   meets =
       let start : Env = envOf (seen ∷ heard ∷ 0 ∷ 0 ∷ 0 ∷ []) in

@@ -5,7 +5,7 @@ ghost use lib.ListN.{length};
 ghost use Rattle.numbers.specs.Limits.{variables};
 ghost use Rattle.answers.specs.First.{first};
 ghost use Rattle.knowing.specs.Known.{known};
-ghost use Rattle.compiler.specs.CompileKnown.{undeclaredUnknown, declaredKnown, knownFit, knownRefusals};
+ghost use Rattle.calls.specs.Half.{undeclaredUnknown, declaredKnown, knownFit, knownRefusals};
 ghost use Rattle.compiler.specs.Buffer.{findingOf};
 use super::Finding;
 use answers::Compiled;

@@ -33,7 +33,7 @@ use Rattle.machine.specs.declared.Step.the-variants.{Next, Stuck, NoRoom}
 use Rattle.execution.specs.Steps.{Cleared, lentFrom, leftWith, Ready, DoesWord}
 use Rattle.execution.proofs.ClearLaws.{appended-cleared, appended-more}
 use Rattle.execution.proofs.CellLaws.{left-back}
-use Rattle.execution.proofs.FinishLaws.{state-valid}
+use Rattle.calls.proofs.FinishLaws.{state-valid}
 
 -- what an answer of a step says of its outcome
 goes-on : {before after : Slices} {outcome : Outcome (State rowWorld)} {g : Registers} → Agrees before outcome (Next g) after

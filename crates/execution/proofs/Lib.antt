@@ -2,5 +2,4 @@
 pub mod ClearLaws
 pub mod CellLaws
 pub mod WordLaws
-pub mod FinishLaws
 pub mod GoingLaws

@@ -12,7 +12,7 @@ use lib.Dec.{ltb}
 use Rattle.theory.specs.Outcome.{done}
 use Rattle.theory.specs.Store.{put, puts}
 use Rattle.theory.specs.World.{World}
-use Rattle.numbers.specs.Limits.{namedCells}
+use Rattle.numbers.specs.Limits.{namedCells, scratchCells, messageCells}
 use Rattle.theory.specs.Machine.{State, setRaw, withStores, withScratch, message, setMessage, setMessages, messages}
 use Rattle.theory.specs.Emission.{Env, readable, occupied, addRaw}
 use Rattle.theory.proofs.StoreLaws.{put-other}
@@ -86,6 +86,24 @@ module _ (W : World) (r : ℕ) (past : namedCells ≤ r) where
   unfolding setMessages
   sets-past s first zero g = refl
   sets-past s first (suc n) g = set-past (setMessages W s first n g) (first + n) (g n) ∙ sets-past s first n g
+
+-- and writing one of the 256 cells writes no scratch past the last
+module _ (W : World) (i : ℕ) (past : scratchCells ≤ i) where
+  pub set-beyond : (s : State W) (cell : ℕ) (m : W .Msg) → cell < messageCells → setMessage W s cell m .scratches i ≡ s .scratches i
+  set-beyond s cell m inside = go (decLt cell namedCells)
+    where
+      go : Dec (cell < namedCells) → setMessage W s cell m .scratches i ≡ s .scratches i
+      go (yes named) = rw (setMessage-named W s cell m named)
+      go (no other) =
+          let e : namedCells + (cell - namedCells) ≡ cell = omega arith in
+          subst (λ n. setMessage W s n m .scratches i ≡ s .scratches i) e
+          (rw (setMessage-scratch W s (cell - namedCells) m) (put-other (s .scratches) (cell - namedCells) i (some m) λ e. omega arith))
+
+  pub sets-beyond : (s : State W) (first n : ℕ) (g : ℕ → W .Msg) → first + n ≤ messageCells → setMessages W s first n g .scratches i ≡ s .scratches i
+  unfolding setMessages
+  sets-beyond s first zero g inside = refl
+  sets-beyond s first (suc n) g inside =
+      set-beyond (setMessages W s first n g) (first + n) (g n) (omega (arith, inside)) ∙ sets-beyond s first n g (omega (arith, inside))
 
 module _ (e : Env) where
   pub readable-named : (r : ℕ) → r < namedCells → readable e r ≡ e .raws r

@@ -52,6 +52,11 @@ module _ {Allowed : ℕ → Type 0} {W : World} {calm : WorldWithin Allowed W} {
       let F = fits-end sim q r in
       record { objects = F .keeps-objects; raws = F .keeps-raws; scratch = F .keeps-scratch }
 
+  -- the environment after it says which variables are set
+  sets : Simulates calm kind (here W s b) agree s code y → {c : List Line} {e : Env} → code ≡ ok c e → exec W kind c s ≡ done t
+      → e ≡ knownFrom W (e .next) (t .stores)
+  sets sim {e = e} q r = let F = fits-end sim q r in λ i. record { objects = λ v. F .objects v i; raws = λ r. F .raws r i; next = e .next }
+
 module _ (W : World) (kind : ℕ → ℕ) (p : Pattern) (below : RawsBelow namedCells p) where
   matching : {Allowed : ℕ → Type 0} (calm : WorldWithin Allowed W) (b : ℕ) (s : State W) → ReadWithin Allowed (s .accumulator)
       → Simulates calm kind (here W s b) (Matched W) s (compile↓ p (knownFrom W b (s .stores))) (match W kind p (s .accumulator) (s .stores))
@@ -75,6 +80,11 @@ module _ (W : World) (kind : ℕ → ℕ) (p : Pattern) (below : RawsBelow named
   pub matching-keeps : (b : ℕ) (s t : State W) {c : List Line} {e : Env} → compile↓ p (knownFrom W b (s .stores)) ≡ ok c e
       → exec W kind c s ≡ done t → Keeps W b s t
   matching-keeps b s t q r = keeps (matching-any b s) q r
+
+  -- a finished run leaves set exactly the variables that are set after emission
+  pub matching-sets : (s t : State W) {c : List Line} {e : Env} → compile↓ p (known W (s .stores)) ≡ ok c e → exec W kind c s ≡ done t
+      → e ≡ knownFrom W (e .next) (t .stores)
+  matching-sets s t q r = sets (matching-any 0 s) q r
 
   -- what scratch held on entry does not matter
   pub matching-scratch-free : (s t : State W) {c : List Line} {e : Env} → s .accumulator ≡ t .accumulator → s .stores ≡ t .stores
@@ -109,6 +119,10 @@ module _ (W : World) (kind : ℕ → ℕ) (p : Pattern) (below : RawsBelow named
   pub creating-keeps : (b : ℕ) (s t : State W) {c : List Line} {e : Env} → compile↑ kind p (knownFrom W b (s .stores)) ≡ ok c e
       → exec W kind c s ≡ done t → Keeps W b s t
   creating-keeps b s t q r = keeps (creating (any-world W) b s) q r
+
+  pub creating-sets : (s t : State W) {c : List Line} {e : Env} → compile↑ kind p (known W (s .stores)) ≡ ok c e → exec W kind c s ≡ done t
+      → e ≡ knownFrom W (e .next) (t .stores)
+  creating-sets s t q r = sets (creating (any-world W) 0 s) q r
 
   pub creating-scratch-free : (s t : State W) {c : List Line} {e : Env} → s .stores ≡ t .stores → compile↑ kind p (known W (s .stores)) ≡ ok c e
       → bind (exec W kind c s) (messageOf W) ≡ bind (exec W kind c t) (messageOf W)

@@ -54,6 +54,12 @@ module _ {At Why : ℕ → Type 0} {Full : Type 0} where
   ends-need place here unset (some a) = ends tt
   ends-need place here unset none = sticks here unset
 
+  -- whatever it is, it ends so
+  pub ends-any : {A : Type 0} → ((place : ℕ) → At place) → ((why : ℕ) → Why why) → Full → (outcome : Outcome A) → Ends At Why Full Any outcome
+  ends-any here reason filled (done a) = ends tt
+  ends-any here reason filled (stuck place why) = sticks (here place) (reason why)
+  ends-any here reason filled (room place) = overflows (here place) filled
+
   pub ends-bind : {A B : Type 0} {P : A → Type 0} {Q : B → Type 0} {outcome : Outcome A} (f : A → Outcome B)
       → Ends At Why Full P outcome → ((a : A) → P a → Ends At Why Full Q (f a)) → Ends At Why Full Q (bind outcome f)
   ends-bind f (ends h) next = next _ h

@@ -39,7 +39,7 @@ Fits kind (Decrypt v) = Unit {0}
 Fits kind (Verify v r) = Unit {0}
 Fits kind (Hash h) = Unit {0}
 
--- the byte of STORE CONST has 8 bits
+-- the byte of STORE CONST has 8 bits, and so has the cell of STORE
 abbrev pub ByteFits : Instruction → Type 0
 ByteFits (StoreConst c b) = b < 256
 ByteFits (Create v) = Unit {0}
@@ -48,7 +48,7 @@ ByteFits (Opposite K k) = Unit {0}
 ByteFits (Encrypt v) = Unit {0}
 ByteFits (Sign v) = Unit {0}
 ByteFits (Load r) = Unit {0}
-ByteFits (Store r) = Unit {0}
+ByteFits (Store r) = r .0 < 256
 ByteFits (Decode v) = Unit {0}
 ByteFits (Encode v) = Unit {0}
 ByteFits (AnalyzeTuple t b n) = Unit {0}
@@ -88,8 +88,8 @@ abbrev Decoded : Option Instruction → Type 0
 Decoded (some i) = ByteFits i
 Decoded none = Unit {0}
 
-decoded-by : (operation a b n : ℕ) → b < 256 → Decoded (instructionBy operation a b n)
-decoded-by operation a b n below =
+decoded-by : (operation a b n : ℕ) → a < 256 → b < 256 → Decoded (instructionBy operation a b n)
+decoded-by operation a b n cell byte =
     all-getD Decoded
     (none ∷ none
     ∷ some (Load (asRaw a)) ∷ some (Store (asRaw a)) ∷ some (StoreConst (asObject a) b)
@@ -104,7 +104,8 @@ decoded : (word : ℕ) → Decoded (instructionOf word)
 unfolding instructionOf
 decoded word =
     let fields = split wordWidths word in
-    decoded-by (at 0 fields) (at 1 fields) (at 2 fields) (at 3 fields) (split-fits wordWidths word .1 .1 .0)
+    let fit = split-fits wordWidths word in
+    decoded-by (at 0 fields) (at 1 fields) (at 2 fields) (at 3 fields) (fit .1 .0) (fit .1 .1 .0)
 
 -- so the instructions of good code words fit
 pub good-word-fits : (kind : ℕ → ℕ) (word : ℕ) (i : Instruction) → instructionOf word ≡ some i → T (goodWord kind word)

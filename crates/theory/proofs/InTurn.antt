@@ -1,12 +1,12 @@
 -- One code after another, and code whose places are counted from elsewhere.
 use mathlib.Core.Path.{_≡_, refl, sym, _∙_, ap, fun-ext}
-use mathlib.Core.List.{List, [], _∷_, _++_, map}
+use mathlib.Core.List.{List, [], _∷_, map}
 use Prim.Native.Nat.{ℕ, _+_}
 use Rattle.code.specs.declared.Instruction.{Instruction}
 use Rattle.theory.specs.Outcome.{Outcome, done, stuck, room, bind}
 use Rattle.theory.specs.World.{World}
 use Rattle.theory.specs.Machine.{Line, lineAt, State, step, exec}
-use Rattle.theory.proofs.Simulation.{bind-assoc}
+pub use Rattle.theory.proofs.Simulation.{exec-append}
 use Rattle.theory.proofs.Places.{movedTo, moved-step}
 
 -- an outcome whose place is counted from an earlier word
@@ -31,12 +31,6 @@ abbrev pub laterLine : ℕ → Line → Line
 laterLine first l = lineAt (first + l .place) (l .instruction)
 
 module _ (W : World) (kind : ℕ → ℕ) where
-  pub exec-append : (c d : List Line) (s : State W) → exec W kind (c ++ d) s ≡ bind (exec W kind c s) (exec W kind d)
-  exec-append [] d s = refl
-  exec-append (l ∷ c) d s =
-      ap (bind (step W kind (l .place) (l .instruction) s)) (fun-ext (exec-append c d))
-      ∙ sym (bind-assoc (step W kind (l .place) (l .instruction) s) (exec W kind c) (exec W kind d))
-
   from-step : (first place : ℕ) (i : Instruction) (s : State W) → from first (step W kind place i s) ≡ step W kind (first + place) i s
   from-step first place i s =
       ap (from first) (sym (moved-step W kind place place i s)) ∙ from-moved first place (step W kind place i s) ∙ moved-step W kind (first + place) place i s

@@ -19,6 +19,7 @@ pub mod InLimits
 pub mod Places
 pub mod InTurn
 pub mod Fitting
+pub mod ScratchKept
 pub mod Related
 pub mod Refinement
 pub mod ModelRefinement

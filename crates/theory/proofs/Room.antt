@@ -1,4 +1,5 @@
 -- A step takes at most one row and one name, so code never runs out where there are as many of each as it has words.
+use mathlib.Core.Path.{_≡_}
 use mathlib.Core.Logic.{_≢_}
 use mathlib.Core.List.{List, [], _∷_}
 use Prim.Native.Nat.{ℕ, suc, _+_, _≤_}
@@ -12,7 +13,7 @@ use Rattle.terms.specs.Shape.{atom}
 use Rattle.terms.specs.Row.{rowOf}
 use Rattle.terms.specs.Finder.{locate}
 use Rattle.terms.proofs.FinderLaws.{located-as}
-use Rattle.theory.specs.Outcome.{room}
+use Rattle.theory.specs.Outcome.{done, room}
 use Rattle.theory.specs.RowModel.{Table, withCounter, name, placed, rowModel, rowWorld}
 use Rattle.numbers.specs.Limits.{mostNames}
 use Rattle.theory.specs.Machine.{Line, State, exec}
@@ -49,16 +50,26 @@ moves-free n x free = making-moves rowModel (λ why own. tt)
     })
 
 module _ (kind : ℕ → ℕ) where
-  exec-free : (code : List Line) (s : State rowWorld) → Free (length code) (length code) (s .stores .memory) → Ends Any Any ⊥ Any (exec rowWorld kind code s)
-  exec-free [] s free = ends tt
-  exec-free (l ∷ code) s free =
-      ends-bind _ (step-ends tt kind (l .place) tt s (moves-free (length code) (s .stores .memory) free) (l .instruction)) λ t h. exec-free code t (h .memory)
+  exec-free : (n : ℕ) (code : List Line) (s : State rowWorld) → Free (length code + n) (length code + n) (s .stores .memory)
+      → Ends Any Any ⊥ (λ t. Free n n (t .stores .memory)) (exec rowWorld kind code s)
+  exec-free n [] s free = ends {a = s} (omega (arith, free))
+  exec-free n (l ∷ code) s free =
+      ends-bind _ (step-ends tt kind (l .place) tt s (moves-free (length code + n) (s .stores .memory) (omega (arith, free))) (l .instruction)) λ t h.
+      exec-free n code t (h .memory)
+
+  -- what a finished run leaves free
+  pub left-free : (n : ℕ) (code : List Line) (s t : State rowWorld) → Free (length code + n) (length code + n) (s .stores .memory)
+      → exec rowWorld kind code s ≡ done t → Free n n (t .stores .memory)
+  left-free n code s t free e = go (rw e at (exec-free n code s free))
+    where
+      go : Ends Any Any ⊥ (λ t. Free n n (t .stores .memory)) (done t) → Free n n (t .stores .memory)
+      go (ends h) = h
 
   pub never-room : (code : List Line) (s : State rowWorld) → Free (length code) (length code) (s .stores .memory)
       → (place : ℕ) → exec rowWorld kind code s ≢ room place
-  never-room code s free place e = go (rw e at (exec-free code s free))
+  never-room code s free place e = go (rw e at (exec-free 0 code s (omega (arith, free))))
     where
-      go : Ends Any Any ⊥ {A = State rowWorld} Any (room place) → ⊥
+      go : Ends Any Any ⊥ {A = State rowWorld} (λ t. Free 0 0 (t .stores .memory)) (room place) → ⊥
       go (overflows _ f) = f
 
   -- then rows and terms have the same end

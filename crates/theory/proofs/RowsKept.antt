@@ -73,9 +73,9 @@ module _ (x : Table) where
 pub appended-none : (x : Table) → x .used ≤ length (x .rows) → Appended x x
 appended-none x h = record { same-length = refl; kept = λ row l. refl; rest = λ row l. refl; more = omega arith; inside = h; names = omega arith; certificates = refl }
 
-pub exec-appends : (kind : ℕ → ℕ) (code : List Line) (s t : State rowWorld) → s .stores .memory .used ≤ length (s .stores .memory .rows)
-    → exec rowWorld kind code s ≡ done t → Appended (s .stores .memory) (t .stores .memory)
-exec-appends kind code s t h e = go (rw e at left)
+pub exec-leaves : (kind : ℕ → ℕ) (code : List Line) (s t : State rowWorld) → s .stores .memory .used ≤ length (s .stores .memory .rows)
+    → exec rowWorld kind code s ≡ done t → Leaves rowWorld (Appended (s .stores .memory)) s t
+exec-leaves kind code s t h e = go (rw e at left)
   where
     x : Table
     x = s .stores .memory
@@ -83,5 +83,9 @@ exec-appends kind code s t h e = go (rw e at left)
     left : Ends Any Any (Unit {0}) (Leaves rowWorld (Appended x) s) (exec rowWorld kind code s)
     left = exec-ends tt kind (λ place. tt) (moves-append x) code s (appended-none x h)
 
-    go : Ends Any Any (Unit {0}) (Leaves rowWorld (Appended x) s) (done t) → Appended x (t .stores .memory)
-    go (ends l) = l .memory
+    go : Ends Any Any (Unit {0}) (Leaves rowWorld (Appended x) s) (done t) → Leaves rowWorld (Appended x) s t
+    go (ends l) = l
+
+pub exec-appends : (kind : ℕ → ℕ) (code : List Line) (s t : State rowWorld) → s .stores .memory .used ≤ length (s .stores .memory .rows)
+    → exec rowWorld kind code s ≡ done t → Appended (s .stores .memory) (t .stores .memory)
+exec-appends kind code s t h e = exec-leaves kind code s t h e .memory

@@ -6,7 +6,7 @@ use native.Mathlib.Omega.{arith}
 use lib.ListN.{length, drop}
 use borrow.Author.Needs.{needs}
 use Rattle.knowing.specs.Known.{known}
-use Rattle.compiler.specs.CompileKnown.{undeclaredUnknown}
+use Rattle.calls.specs.Half.{undeclaredUnknown}
 use Rattle.compiler.proofs.LookLaws.{unknown-gather, unknown-gathered}
 use Rattle.compiler.proofs.looking.all_declared.Statement.{statement}
 use Rattle.compiler.proofs.looking.all_declared.Tie as tie

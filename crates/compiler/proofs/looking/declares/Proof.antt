@@ -1,5 +1,5 @@
 use borrow.Author.Needs.{needs}
-use Rattle.compiler.specs.CompileKnown.{declaredKnown}
+use Rattle.calls.specs.Half.{declaredKnown}
 use Rattle.compiler.proofs.looking.declares.Statement.{statement}
 use Rattle.compiler.proofs.looking.declares.Tie as tie
 

@@ -10,7 +10,7 @@ use borrow.Author.Tests.{not-true, not-false}
 use Rattle.patterns.specs.Rules.{badPattern}
 use Rattle.word.proofs.ScanLaws.{placed-at, placed-nowhere}
 use Rattle.knowing.specs.Known.{known}
-use Rattle.compiler.specs.CompileKnown.{declaredKnown, knownFit}
+use Rattle.calls.specs.Half.{declaredKnown, knownFit}
 use Rattle.compiler.proofs.LookLaws.{within, found-limit, found-store, found-row, found-kind, found-nothing}
 use Rattle.compiler.proofs.looking.look.Statement.{statement}
 use Rattle.compiler.proofs.looking.look.Tie as tie

@@ -20,16 +20,16 @@ use Rattle.theory.proofs.Fitting.{ByteFits, good-word-fits}
 use Rattle.theory.proofs.Related.{OutcomeR, dones}
 use Rattle.theory.proofs.RowsRunAsTerms.{ValidState, Reads, termsOf, rows-run-as-terms}
 use Rattle.numbers.specs.Kinds.{kindIn}
 use Rattle.calls.specs.Run.{Lent, addLine, linesFrom, linesOf, stateOf}
 use Rattle.calls.specs.Valid.{Valid}
 use Rattle.calls.proofs.ValidLent.{valid-state}
 
 -- the instructions of good words fit
 module _ (kind : ℕ → ℕ) where
   abbrev Fits : Line → Type 0
   Fits l = T (operandsFit kind (l .instruction)) × ByteFits (l .instruction)
 
-  good-lines : (place : ℕ) (code : List ℕ) → ((i : ℕ) → i < length code → GoodWord kind (getD code i 0)) → All Fits (linesFrom place code)
+  pub good-lines : (place : ℕ) (code : List ℕ) → ((i : ℕ) → i < length code → GoodWord kind (getD code i 0)) → All Fits (linesFrom place code)
   unfolding linesFrom
   good-lines place [] good = tt
   good-lines place (word ∷ rest) good = add (instructionOf word) refl (good-lines (suc place) rest λ i l. good (suc i) (omega arith))
