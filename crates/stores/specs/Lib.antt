@@ -2,5 +2,5 @@
 pub mod Cells
 pub mod Certificates
 pub mod Valid
-pub mod ValidStores
+pub mod GoodStores
 pub mod Answer
