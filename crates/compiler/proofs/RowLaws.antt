@@ -62,5 +62,5 @@ module _ (pattern : List ℕ) (some : 1 ≤ length pattern) (few : length patter
       good place inside = rw (List·getD-append pattern behind 0 place inside) (good-row place (patternFields (getD pattern place 0)) .1 (all-good pattern passed place inside))
 
   -- its words fit the buffer
-  pub root-words : words (patternIn (pattern ++ behind) (length pattern - 1)) ≤ 767
+  pub root-words : mostWords (patternIn (pattern ++ behind) (length pattern - 1)) ≤ 767
   root-words = omega (arith, root-size)

@@ -1,3 +1,4 @@
 -- Each claim, proved.
 pub mod Functions
+pub mod RoundFunctions
 pub mod Product

@@ -2,6 +2,7 @@
 use Rattle.promises.proofs.Promises.{promises}
 use Rattle.product.specs.Product.{Product}
 use Rattle.product.proofs.Functions.{functions}
+use Rattle.product.proofs.RoundFunctions.{round-functions}
 
 pub product : {M : Type 1} → Product M
-product = record { functions = functions; promises = promises }
+product = record { functions = functions; round-functions = round-functions; promises = promises }
