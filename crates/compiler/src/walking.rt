@@ -13,13 +13,13 @@ ghost use Rattle.compiler.specs.CompileKnown.{noWords, knownRefusals, co
 ghost use Rattle.compiler.specs.Buffer.{answerIn, outcomeOf, Emits};
 use super::KnownAnswer;
 use answers::Compiled;
+use emission::Kinds;
+use emission::Rows;
 use knowing::Code;
 use knowing::Emission;
-use emission::Kinds;
 use knowing::OBJECTS;
 use knowing::RAWS;
 use knowing::REFUSAL;
-use emission::Rows;
 use knowing::WRITTEN;
 use numbers::limits::MOST_CODE_WORDS;
 use numbers::limits::MOST_PATTERN_ROWS;

@@ -1,8 +1,8 @@
 // Variables and keys, each with at most three words.
-use knowing::Code;
-use knowing::Emission;
 use emission::Kinds;
 use emission::instructions;
+use knowing::Code;
+use knowing::Emission;
 use knowing::object_known;
 use knowing::refuse;
 use numbers::Object;

@@ -2,14 +2,14 @@
 pub mod forms;
 pub mod keys;
 
-use knowing::Code;
-use knowing::Emission;
 use emission::Kinds;
 use emission::Part;
 use emission::Rows;
 use emission::instructions;
 use emission::parts_of;
 use emission::scratch;
+use knowing::Code;
+use knowing::Emission;
 use knowing::take;
 use numbers::limits::MOST_PARTS;
 use patterns::forms as form;

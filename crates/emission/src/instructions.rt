@@ -1,4 +1,6 @@
 // One instruction for a pattern row, in the order of figure 4: what it reads, what it writes, and its word.
+use code::Instruction;
+use code::words;
 use knowing::Code;
 use knowing::Emission;
 use knowing::append;
@@ -6,8 +8,6 @@ use knowing::read_object;
 use knowing::read_raw;
 use knowing::write_object;
 use knowing::write_raw;
-use code::Instruction;
-use code::words;
 use numbers::Object;
 use numbers::Raw;
 ghost use mathlib.Core.Path.{_≡_};

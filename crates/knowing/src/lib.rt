@@ -1,9 +1,9 @@
 // What the compiler knows while it emits: which cells are set, the next scratch number, the words written, the first refusal.
+pub use cells::set_cells;
 use numbers::Object;
 use numbers::Raw;
 use numbers::limits::MOST_CODE_WORDS;
 use numbers::limits::VARIABLES;
-pub use cells::set_cells;
 ghost use mathlib.Core.Path.{_≡_};
 ghost use mathlib.Core.Bool.{true, false};
 ghost use mathlib.Core.List.{[], _∷_};

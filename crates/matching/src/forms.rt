@@ -1,10 +1,10 @@
 // The forms with no part: at most seven words and one scratch number each.
+use emission::instructions;
+use emission::scratch;
 use knowing::Code;
 use knowing::Emission;
-use emission::instructions;
 use knowing::object_known;
 use knowing::raw_known;
-use emission::scratch;
 use knowing::take;
 use numbers::Object;
 use numbers::Raw;

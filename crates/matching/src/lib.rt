@@ -1,14 +1,14 @@
 // Figure 5: the code that matches a pattern.
 pub mod forms;
 
-use knowing::Code;
-use knowing::Emission;
 use emission::Part;
 use emission::Rows;
-use knowing::free_raw;
 use emission::instructions;
 use emission::parts_of;
 use emission::scratch;
+use knowing::Code;
+use knowing::Emission;
+use knowing::free_raw;
 use knowing::take;
 use knowing::wrong_kind;
 use numbers::limits::MOST_PARTS;
