@@ -11,12 +11,12 @@ use Rattle.word.specs.Bytes.{number, words, elements}
 use Rattle.word.proofs.TestLaws.{is-true, is-false}
 use Rattle.bundles.specs.Bundle.{headerOf, headerFits, wordsIn, readBundle, HeaderWithin, BundleWithin}
 use Rattle.bundles.proofs.ReadLaws.{header-within, read-within, unread-outside, within-read}
-use Rattle.bundles.specs.Opening.{headerIn, bundleIn, held, kindsAt, openedBy, opened}
+use Rattle.bundles.specs.Opening.{headerIn, bundleIn, heldHeader, kindsAt, openedBy, opened}
 use Rattle.bundles.specs.declared.Header.{Header}
 use Rattle.bundles.specs.declared.Opened.the-variants.{Refused, Is}
 
 -- each way out of the check, of the header as the code holds it
-module _ (word : ℕ) {header : Header} (is : header ≡ held (headerOf word)) where
+module _ (word : ℕ) {header : Header} (is : header ≡ heldHeader (headerOf word)) where
   spare-bits : headerOf word .spare ≡ word % 16
   unfolding headerOf
   spare-bits = omega arith
@@ -62,14 +62,14 @@ pub refuses : (bytes : List ℕ) → (BundleWithin bytes → ⊥) → Refused �
 unfolding opened
 refuses bytes bad = rw (unread-outside bytes bad)
 
-pub opens : (bytes : List ℕ) → BundleWithin bytes → Is (held (headerIn bytes)) ≡ opened bytes
+pub opens : (bytes : List ℕ) → BundleWithin bytes → Is (heldHeader (headerIn bytes)) ≡ opened bytes
 unfolding opened
 opens bytes good = rw (read-within bytes good)
 
 -- what opened says of a bundle and its header
 pub record Opens (bytes : List ℕ) (header : Header) : Type 0 where
   pub within : BundleWithin bytes
-  pub is : header ≡ held (headerIn bytes)
+  pub is : header ≡ heldHeader (headerIn bytes)
   pub bundle : readBundle bytes ≡ some (bundleIn bytes)
 
 pub opened-is : (bytes : List ℕ) (header : Header) → opened bytes ≡ Is header → Opens bytes header
@@ -95,7 +95,7 @@ module _ (bytes : List ℕ) {word : ℕ} (long : 8 ≤ length bytes) (is : word 
   bad-header {good} e bad =
       refuses bytes λ w. let f : headerFits (headerIn bytes) ≡ false = ap headerFits the-header ∙ sym e ∙ not-true good bad in rw f at (header-within _ .1 (w .header))
 
-  module _ {header : Header} {kinds : ℕ} (of : header ≡ held (headerOf word)) (at : kinds ≡ kindsAt header) where
+  module _ {header : Header} {kinds : ℕ} (of : header ≡ heldHeader (headerOf word)) (at : kinds ≡ kindsAt header) where
     same-size : kinds + 36 + header .certificates ≡ wordsIn (headerIn bytes)
     same-size = rw (ap wordsIn the-header, at, of) (omega arith)
 
@@ -106,7 +106,7 @@ module _ (bytes : List ℕ) {word : ℕ} (long : 8 ≤ length bytes) (is : word 
         → Is header ≡ opened bytes
     right-size {good} e fine size =
         let t : headerFits (headerIn bytes) ≡ true = ap headerFits the-header ∙ sym e ∙ not-false good fine in
-        ap Is (of ∙ ap held (sym the-header))
+        ap Is (of ∙ ap heldHeader (sym the-header))
         ∙ opens bytes (record { header = header-within _ .0 (rw t tt); size = size ∙ ap (8 *_) same-size })
 
 pub ruleset opening-ways = (too-short, bad-header, wrong-size, right-size, arith)

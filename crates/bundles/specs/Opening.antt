@@ -11,8 +11,8 @@ use Rattle.bundles.specs.declared.Opened.{Opened}
 use Rattle.bundles.specs.declared.Opened.the-variants.{Refused, Is}
 
 -- a header as the code holds it
-abbrev pub held : theory.Header → Header
-held h = record {
+abbrev pub heldHeader : theory.Header → Header
+heldHeader h = record {
   create = eqb (h .create) 1;
   «pattern_rows» = h .patternRows;
   certificates = h .certificates;
@@ -27,7 +27,7 @@ kindsAt header = 1 + header .«pattern_rows» + header .«term_rows»
 
 abbrev pub openedBy : Option Bundle → theory.Header → Opened
 openedBy none h = Refused
-openedBy (some b) h = Is (held h)
+openedBy (some b) h = Is (heldHeader h)
 
 -- refused exactly where no bundle is read
 unfoldable pub opened : List ℕ → Opened

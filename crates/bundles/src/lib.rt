@@ -6,7 +6,7 @@ ghost use lib.ListN.{length, take, drop, replicate};
 ghost use Rattle.word.specs.Bytes.{elements};
 ghost use Rattle.stores.specs.Cells.{unset};
 ghost use Rattle.bundles.specs.Bundle.{headerOf, headerFits, cellsOf, kindsOf, clearOf};
-ghost use Rattle.bundles.specs.Opening.{bundleIn, held, kindsAt, opened};
+ghost use Rattle.bundles.specs.Opening.{bundleIn, heldHeader, kindsAt, opened};
 
 pub struct Header {
     pub create: bool,
@@ -25,7 +25,7 @@ pub enum Opened {
 
 // The header's fields, the most significant first.
 fn header_of(word: u64) -> Header
-    ensures { λ r. ⌜ r ≡ held (headerOf word) ⌝ }
+    ensures { λ r. ⌜ r ≡ heldHeader (headerOf word) ⌝ }
 {
     let create = word / 0x8000_0000_0000_0000 % 0x2 == 1;
     let pattern_rows = (word / 0x100_0000_0000_0000 % 0x80) as u16;

@@ -13,7 +13,7 @@ use Rattle.answers.specs.declared.Ran.{Ran}
 use Rattle.terms.specs.Row.{tagOf}
 use Rattle.terms.specs.Rules.{usedRows}
 use Rattle.stores.specs.Cells.{unset, held, cellOf, cellsFrom}
-use Rattle.stores.specs.ValidStores.{ValidCertificates, UndeclaredUnset, HoldsKind, UnsetOrUsed}
+use Rattle.stores.specs.GoodStores.{ValidCertificates, UndeclaredUnset, HoldsKind, UnsetOrUsed}
 use Rattle.theory.specs.RowModel.{rowWorld}
 use Rattle.theory.specs.Machine.{State}
 use Rattle.numbers.specs.Limits.{namedCells, scratchCells, variables}

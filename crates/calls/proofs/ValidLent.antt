@@ -15,7 +15,7 @@ use Rattle.terms.specs.Row.{tagOf}
 use Rattle.terms.specs.Rules.{usedRows}
 use Rattle.terms.specs.Table.{ValidTable}
 use Rattle.stores.specs.Cells.{unset, held, storeOf}
-use Rattle.stores.specs.ValidStores.{UndeclaredUnset, HoldsKind, UnsetOrUsed}
+use Rattle.stores.specs.GoodStores.{UndeclaredUnset, HoldsKind, UnsetOrUsed}
 use Rattle.numbers.specs.Limits.{namedCells}
 use Rattle.numbers.specs.Kinds.{kindIn}
 use Rattle.calls.specs.Run.{Lent, stateOver, stateOf}

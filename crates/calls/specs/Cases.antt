@@ -11,13 +11,13 @@ use Rattle.answers.specs.declared.Ran.the-variants as Ran
 use Rattle.terms.specs.Shape.{atom, encrypted, tupled}
 use Rattle.terms.specs.Row.{rowOf}
 use Rattle.stores.specs.Cells.{unset}
-use Rattle.patterns.specs.Row.{rowWidths}
+use Rattle.patterns.specs.Row.{patternWidths}
 use Rattle.calls.specs.Compile.{leaves, compile}
 use Rattle.calls.specs.Run.{Lent, unchanged, run}
 
 -- a pattern row by its fields from the front: tag, V, F, X, Y, R, n, children
 abbrev pub row : List ℕ → ℕ
-row fields = join rowWidths fields
+row fields = join patternWidths fields
 
 -- rows of a bare object variable and of a bare raw variable
 abbrev pub objectRow : ℕ → ℕ

@@ -5,7 +5,7 @@ use mathlib.Core.List.{List}
 use lib.ListN.{length}
 use Rattle.terms.specs.Rules.{usedRows}
 use Rattle.terms.specs.Table.{ValidTable}
-use Rattle.stores.specs.ValidStores as Stores
+use Rattle.stores.specs.GoodStores as Stores
 use Rattle.numbers.specs.Limits.{mostNames, variables, mostPatternRows, mostTermRows, mostCertificates, messageCells}
 use Rattle.calls.specs.Run.{Lent}
 
@@ -27,7 +27,7 @@ pub record LentWithin (x : Lent) : Type 0 where
 
 -- not 3: kinds, cells, certificates and accumulator
 abbrev pub ValidStores : Lent → Type 0
-ValidStores x = Stores.ValidStores (x .terms) (usedRows (x .terms)) (x .kinds) (x .objects) (x .messages) (x .certificates) (x .accumulator)
+ValidStores x = Stores.GoodStores (x .terms) (usedRows (x .terms)) (x .kinds) (x .objects) (x .messages) (x .certificates) (x .accumulator)
 
 -- what is lent to run is good: neither 1, 2 nor 3
 pub record Valid (x : Lent) : Type 0 where

@@ -8,13 +8,13 @@ use native.Mathlib.Omega.{arith}
 use lib.Dec.{T}
 use lib.ListN.{length, getD, replicate, length-append, List·getD-append}
 use Rattle.patterns.specs.Pattern.{size}
-use Rattle.patterns.specs.Row.{fieldsOf}
+use Rattle.patterns.specs.Row.{patternFields}
 use Rattle.patterns.specs.Rules.{rowFits, badPattern}
 use Rattle.patterns.specs.Tree.{patternOf}
 use Rattle.patterns.proofs.GoodRow.{good-row}
 use Rattle.patterns.proofs.RuleLaws.{all-good}
 use Rattle.patterns.proofs.TreeLaws.{formed, pattern-size}
-use Rattle.emission.specs.Budget.{words, patternIn, Row}
+use Rattle.emission.specs.Budget.{mostWords, patternIn, Row}
 
 -- rows behind a row do not change its pattern
 module _ (rows behind : List ℕ) where
@@ -58,9 +58,9 @@ module _ (pattern : List ℕ) (some : 1 ≤ length pattern) (few : length patter
     room = record { long = refl; place = omega (arith, root-size); free = omega (arith, root-size) };
   }
     where
-      good : (place : ℕ) → place < length pattern → T (rowFits place (fieldsOf (getD (pattern ++ behind) place 0)))
-      good place inside = rw (List·getD-append pattern behind 0 place inside) (good-row place (fieldsOf (getD pattern place 0)) .1 (all-good pattern passed place inside))
+      good : (place : ℕ) → place < length pattern → T (rowFits place (patternFields (getD (pattern ++ behind) place 0)))
+      good place inside = rw (List·getD-append pattern behind 0 place inside) (good-row place (patternFields (getD pattern place 0)) .1 (all-good pattern passed place inside))
 
   -- its words fit the buffer
-  pub root-words : words (patternIn (pattern ++ behind) (length pattern - 1)) ≤ 767
+  pub root-words : mostWords (patternIn (pattern ++ behind) (length pattern - 1)) ≤ 767
   root-words = omega (arith, root-size)

@@ -9,7 +9,7 @@ use Rattle.calls.specs.Compile.{tables}
 use Rattle.numbers.specs.Kinds.{kindIn}
 use Rattle.knowing.specs.Known.{known}
 use Rattle.knowing.specs.Meets.{writtenIn, refusalIn, refusal, Does}
-use Rattle.emission.specs.Budget.{patternIn, words, scratches}
+use Rattle.emission.specs.Budget.{patternIn, mostWords, mostScratches}
 use Rattle.compiler.specs.CompileKnown.{KnownOutcome}
 use Rattle.compiler.specs.declared.Finding.{Finding}
 use Rattle.compiler.specs.declared.Finding.the-variants.{Refused, Accepted}
@@ -21,10 +21,10 @@ findingOf (some answer) = Refused answer
 findingOf none = Accepted
 
 -- the code of a row's pattern, within its budget
-abbrev pub Emits : Bool → List ℕ → List ℕ → ℕ → List ℕ → List ℕ → List ℕ → List ℕ → Type 0
-Emits create rows kinds row e code e′ code′ =
+abbrev pub EmitsRow : Bool → List ℕ → List ℕ → ℕ → List ℕ → List ℕ → List ℕ → List ℕ → Type 0
+EmitsRow create rows kinds row e code e′ code′ =
     let p = patternIn rows row in
-    Does (tables create (kindIn kinds) p) (words p) (scratches p) e code e′ code′
+    Does (tables create (kindIn kinds) p) (mostWords p) (mostScratches p) e code e′ code′
 
 -- what emission answers: its refusal, or done with the words written
 abbrev pub answerBy : Option Compiled → ℕ → Compiled

@@ -10,7 +10,7 @@ ghost use Rattle.knowing.specs.Known.{known};
 ghost use Rattle.knowing.specs.Meets.{writtenIn};
 ghost use Rattle.emission.specs.Budget.{Row};
 ghost use Rattle.compiler.specs.CompileKnown.{noWords, knownRefusals, compileKnown};
-ghost use Rattle.compiler.specs.Buffer.{answerIn, outcomeOf, Emits};
+ghost use Rattle.compiler.specs.Buffer.{answerIn, outcomeOf, EmitsRow};
 use super::KnownAnswer;
 use answers::Compiled;
 use emission::Kinds;
@@ -81,7 +81,7 @@ fn emit_row(
     row: u8,
 )
     requires { ⌜ Row (now rows) row (now emission) ⌝ }
-    ensures { λ _. ⌜ Emits create (now (rows .entry)) (now (kinds .entry)) row (now (emission .entry)) (now (buffer .entry)) (now (emission .exit)) (now (buffer .exit)) ⌝ }
+    ensures { λ _. ⌜ EmitsRow create (now (rows .entry)) (now (kinds .entry)) row (now (emission .entry)) (now (buffer .entry)) (now (emission .exit)) (now (buffer .exit)) ⌝ }
 {
     if create {
         creating::create_row(rows, kinds, buffer, emission, row);

@@ -12,7 +12,7 @@ use Rattle.answers.specs.declared.Compiled.the-variants.{ReadWhileUnset}
 use Rattle.numbers.specs.Sorts.{asObject}
 use Rattle.code.specs.declared.Instruction.the-variants.{Decode, Encode, Create, Opposite, KeyOf}
 use Rattle.patterns.specs.Pattern.{Key, plainKey, opKey, certifiedKey}
-use Rattle.patterns.specs.Row.{Fields, fieldsOf}
+use Rattle.patterns.specs.Row.{PatternFields, patternFields}
 use Rattle.patterns.specs.Tree.{keyBy}
 use Rattle.theory.specs.World.{creatable}
 use Rattle.theory.specs.Emission.{Env, Emitted, ok, refuse, emit}
@@ -69,7 +69,7 @@ module _ (kinds : List ℕ) (row : ℕ) {e e₁ code code₁ : List ℕ} where
   certified-key key agent k l m = does-le (lit≤ tt) (lit≤ tt) (does-seq k (does-seq l m))
 
 -- the variable of a key is X
-pub key-variable : (row : Fields) → keyVar (keyBy row) ≡ row .x
+pub key-variable : (row : PatternFields) → keyVar (keyBy row) ≡ row .x
 key-variable row = go (row .f) refl
   where
     go : (f : ℕ) → row .f ≡ f → keyVar (keyBy row) ≡ row .x
@@ -78,21 +78,21 @@ key-variable row = go (row .f) refl
     go (suc (suc zero)) e = rw e
     go (suc (suc (suc f))) e = rw e
 
-module _ (kinds : List ℕ) (row word : ℕ) {e e₁ code code₁ : List ℕ} (x form : ℕ) (key : x ≡ fieldsOf word .x) (read : form ≡ fieldsOf word .f) where
-  key-as : (k : Key) → keyBy (fieldsOf word) ≡ k → Does (keyCode kinds row k) 3 0 e code e₁ code₁ → Does (keyCode kinds row (keyBy (fieldsOf word))) 3 0 e code e₁ code₁
+module _ (kinds : List ℕ) (row word : ℕ) {e e₁ code code₁ : List ℕ} (x form : ℕ) (key : x ≡ patternFields word .x) (read : form ≡ patternFields word .f) where
+  key-as : (k : Key) → keyBy (patternFields word) ≡ k → Does (keyCode kinds row k) 3 0 e code e₁ code₁ → Does (keyCode kinds row (keyBy (patternFields word))) 3 0 e code e₁ code₁
   key-as k h d = rw h d
 
-  pub key-plain : form ≡ 0 → Does (variableCode kinds row x) 1 0 e code e₁ code₁ → Does (keyCode kinds row (keyBy (fieldsOf word))) 3 0 e code e₁ code₁
+  pub key-plain : form ≡ 0 → Does (variableCode kinds row x) 1 0 e code e₁ code₁ → Does (keyCode kinds row (keyBy (patternFields word))) 3 0 e code e₁ code₁
   key-plain h d = key-as (plainKey x) (rw (sym read ∙ h, key)) (plain-key kinds row x d)
 
-  module _ (y : ℕ) (second : y ≡ fieldsOf word .y) where
-    pub key-opposite : form ≡ 1 → Does (keyCode kinds row (opKey x y)) 3 0 e code e₁ code₁ → Does (keyCode kinds row (keyBy (fieldsOf word))) 3 0 e code e₁ code₁
+  module _ (y : ℕ) (second : y ≡ patternFields word .y) where
+    pub key-opposite : form ≡ 1 → Does (keyCode kinds row (opKey x y)) 3 0 e code e₁ code₁ → Does (keyCode kinds row (keyBy (patternFields word))) 3 0 e code e₁ code₁
     key-opposite h d = key-as (opKey x y) (rw (sym read ∙ h, key, second)) d
 
-    pub key-certified : (fieldsOf word .f < 3) × (fieldsOf word .x < 64) → (form ≡ 0 → ⊥) → (form ≡ 1 → ⊥) → Does (keyCode kinds row (certifiedKey x y)) 3 0 e code e₁ code₁
-        → Does (keyCode kinds row (keyBy (fieldsOf word))) 3 0 e code e₁ code₁
+    pub key-certified : (patternFields word .f < 3) × (patternFields word .x < 64) → (form ≡ 0 → ⊥) → (form ≡ 1 → ⊥) → Does (keyCode kinds row (certifiedKey x y)) 3 0 e code e₁ code₁
+        → Does (keyCode kinds row (keyBy (patternFields word))) 3 0 e code e₁ code₁
     key-certified few n₀ n₁ d =
-        let two : fieldsOf word .f ≡ 2 = omega (arith, n₀, n₁) in
+        let two : patternFields word .f ≡ 2 = omega (arith, n₀, n₁) in
         key-as (certifiedKey x y) (rw (two, key, second)) d
 
 pub ruleset variable-ways = (variable-set, variable-created, variable-refused)

@@ -7,7 +7,7 @@ use Rattle.numbers.specs.Kinds.{kindIn}
 use Rattle.theory.specs.Compilers.{creating, compile↑K, compile↑, compile↑parts}
 use Rattle.emission.specs.declared.Part.{Part}
 use Rattle.knowing.specs.Meets.{Does}
-use Rattle.emission.specs.Budget.{patternIn, words, scratches}
+use Rattle.emission.specs.Budget.{patternIn, mostWords, mostScratches}
 use Rattle.emission.specs.Parts.{DoesParts}
 
 unfoldable pub variableCode : List ℕ → ℕ → ℕ → Env → Emitted
@@ -24,7 +24,7 @@ partsCode kinds ps row first = compile↑parts (kindIn kinds) ps row first
 
 abbrev pub Creates : List ℕ → List ℕ → ℕ → List ℕ → List ℕ → List ℕ → List ℕ → Type 0
 Creates rows kinds row e code e′ code′ =
-    Does (patternCode kinds (patternIn rows row)) (words (patternIn rows row)) (scratches (patternIn rows row)) e code e′ code′
+    Does (patternCode kinds (patternIn rows row)) (mostWords (patternIn rows row)) (mostScratches (patternIn rows row)) e code e′ code′
 
 abbrev pub CreatesParts : List ℕ → List ℕ → ℕ → List Part → ℕ → List ℕ → List ℕ → List ℕ → List ℕ → Type 0
 CreatesParts rows kinds row parts n e code e′ code′ = DoesParts (partsCode kinds) rows row parts n e code e′ code′

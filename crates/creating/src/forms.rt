@@ -10,13 +10,13 @@ ghost use mathlib.Core.List.{List};
 ghost use Prim.Native.Nat.{ℕ, _<_};
 ghost use Rattle.numbers.specs.Limits.{variables};
 ghost use Rattle.patterns.specs.Pattern.{object, constant, opposite, hash};
-ghost use Rattle.knowing.specs.Meets.{Does, Room};
+ghost use Rattle.knowing.specs.Meets.{Does, RoomFor};
 ghost use Rattle.creating.specs.Creates.{patternCode};
 
 // v
 pub fn create_object(kinds: &Kinds, code: &mut Code, emission: &mut Emission, row: u8, v: Object)
     requires { ⌜ v .0 < variables ⌝ }
-    requires { ⌜ Room 7 1 (now emission) ⌝ }
+    requires { ⌜ RoomFor 7 1 (now emission) ⌝ }
     ensures { λ _. ⌜ Does (patternCode (now (kinds .entry)) (object row (v .0))) 7 1 (now (emission .entry)) (now (code .entry)) (now (emission .exit)) (now (code .exit)) ⌝ }
 {
     keys::get_variable(kinds, code, emission, row, v);
@@ -26,7 +26,7 @@ pub fn create_object(kinds: &Kinds, code: &mut Code, emission: &mut Emission, ro
 // c : C, whatever the kinds
 pub fn create_constant(code: &mut Code, emission: &mut Emission, row: u8, c: Object, byte: u8)
     requires { ⌜ c .0 < variables ⌝ }
-    requires { ⌜ Room 7 1 (now emission) ⌝ }
+    requires { ⌜ RoomFor 7 1 (now emission) ⌝ }
     ensures { λ _. ⌜ ((kinds : List ℕ) → Does (patternCode kinds (constant row (c .0) byte)) 7 1 (now (emission .entry)) (now (code .entry)) (now (emission .exit)) (now (code .exit))) ⌝ }
 {
     instructions::store_const(code, emission, row, c, byte);
@@ -43,7 +43,7 @@ pub fn create_opposite(
     private: Object,
 )
     requires { ⌜ (public .0 < variables) × (private .0 < variables) ⌝ }
-    requires { ⌜ Room 7 1 (now emission) ⌝ }
+    requires { ⌜ RoomFor 7 1 (now emission) ⌝ }
     ensures { λ _. ⌜ Does (patternCode (now (kinds .entry)) (opposite row (public .0) (private .0))) 7 1 (now (emission .entry)) (now (code .entry)) (now (emission .exit)) (now (code .exit)) ⌝ }
 {
     keys::opposite_key(kinds, code, emission, row, public, private);
@@ -53,7 +53,7 @@ pub fn create_opposite(
 // h : H(r), whatever the kinds
 pub fn create_hash(code: &mut Code, emission: &mut Emission, row: u8, h: Object, r: Raw)
     requires { ⌜ h .0 < variables ⌝ }
-    requires { ⌜ Room 7 1 (now emission) ⌝ }
+    requires { ⌜ RoomFor 7 1 (now emission) ⌝ }
     ensures { λ _. ⌜ ((kinds : List ℕ) → Does (patternCode kinds (hash row (h .0) (r .0))) 7 1 (now (emission .entry)) (now (code .entry)) (now (emission .exit)) (now (code .exit))) ⌝ }
 {
     instructions::load(code, emission, row, r);

@@ -14,10 +14,10 @@ ghost use Prim.Native.Nat.{ℕ, _<_};
 ghost use Rattle.numbers.specs.Kinds.{kindIn};
 ghost use Rattle.numbers.specs.Limits.{variables};
 ghost use Rattle.patterns.specs.Pattern.{opKey, certifiedKey};
-ghost use Rattle.patterns.specs.Row.{fieldsOf};
+ghost use Rattle.patterns.specs.Row.{patternFields};
 ghost use Rattle.patterns.specs.Tree.{keyBy};
 ghost use Rattle.theory.specs.World.{creatable};
-ghost use Rattle.knowing.specs.Meets.{Does, Room};
+ghost use Rattle.knowing.specs.Meets.{Does, RoomFor};
 ghost use Rattle.creating.specs.Creates.{variableCode, keyCode};
 
 // Whether a variable's kind is one that CREATE makes a new object of.
@@ -32,7 +32,7 @@ fn creatable(kinds: &Kinds, v: Object) -> bool
 // Nothing for a variable that is set; a creatable one gets its CREATE, any other is 7.
 pub fn get_variable(kinds: &Kinds, code: &mut Code, emission: &mut Emission, row: u8, v: Object)
     requires { ⌜ v .0 < variables ⌝ }
-    requires { ⌜ Room 1 0 (now emission) ⌝ }
+    requires { ⌜ RoomFor 1 0 (now emission) ⌝ }
     ensures { λ _. ⌜ Does (variableCode (now (kinds .entry)) row (v .0)) 1 0 (now (emission .entry)) (now (code .entry)) (now (emission .exit)) (now (code .exit)) ⌝ }
 {
     if object_known(emission, v) {} else {
@@ -54,7 +54,7 @@ pub fn opposite_key(
     private: Object,
 )
     requires { ⌜ (public .0 < variables) × (private .0 < variables) ⌝ }
-    requires { ⌜ Room 3 0 (now emission) ⌝ }
+    requires { ⌜ RoomFor 3 0 (now emission) ⌝ }
     ensures { λ _. ⌜ Does (keyCode (now (kinds .entry)) row (opKey (public .0) (private .0))) 3 0 (now (emission .entry)) (now (code .entry)) (now (emission .exit)) (now (code .exit)) ⌝ }
 {
     get_variable(kinds, code, emission, row, private);
@@ -64,7 +64,7 @@ pub fn opposite_key(
 // k : keyOf(a), whatever the kinds
 pub fn certified_key(code: &mut Code, emission: &mut Emission, row: u8, key: Object, agent: Object)
     requires { ⌜ key .0 < variables ⌝ }
-    requires { ⌜ Room 3 0 (now emission) ⌝ }
+    requires { ⌜ RoomFor 3 0 (now emission) ⌝ }
     ensures { λ _. ⌜ ((kinds : List ℕ) → Does (keyCode kinds row (certifiedKey (key .0) (agent .0))) 3 0 (now (emission .entry)) (now (code .entry)) (now (emission .exit)) (now (code .exit))) ⌝ }
 {
     instructions::encode(code, emission, row, agent);
@@ -74,9 +74,9 @@ pub fn certified_key(code: &mut Code, emission: &mut Emission, row: u8, key: Obj
 
 // The key of E and S, by its form.
 pub fn create_key(kinds: &Kinds, code: &mut Code, emission: &mut Emission, row: u8, word: u64)
-    requires { ⌜ (fieldsOf word .f < 3) × (fieldsOf word .x < variables) ⌝ }
-    requires { ⌜ Room 3 0 (now emission) ⌝ }
-    ensures { λ _. ⌜ Does (keyCode (now (kinds .entry)) row (keyBy (fieldsOf word))) 3 0 (now (emission .entry)) (now (code .entry)) (now (emission .exit)) (now (code .exit)) ⌝ }
+    requires { ⌜ (patternFields word .f < 3) × (patternFields word .x < variables) ⌝ }
+    requires { ⌜ RoomFor 3 0 (now emission) ⌝ }
+    ensures { λ _. ⌜ Does (keyCode (now (kinds .entry)) row (keyBy (patternFields word))) 3 0 (now (emission .entry)) (now (code .entry)) (now (emission .exit)) (now (code .exit)) ⌝ }
 {
     let key = patterns::key(word);
     let by = patterns::key_form(word);

@@ -15,7 +15,7 @@ use numbers::limits::MOST_PARTS;
 use patterns::forms as form;
 ghost use mathlib.Core.Path.{_≡_};
 ghost use Rattle.patterns.specs.Forms.{encryptionForm, signatureForm, tupleForm, letForm};
-ghost use Rattle.patterns.specs.Row.{fieldsOf};
+ghost use Rattle.patterns.specs.Row.{patternFields};
 ghost use Rattle.emission.specs.Budget.{Row, RowAt, Leaf};
 ghost use Rattle.emission.specs.Parts.{PartsAt};
 ghost use Rattle.creating.specs.Creates.{Creates, CreatesParts};
@@ -30,7 +30,7 @@ fn create_signature(
     word: u64,
 )
     requires { ⌜ RowAt (now rows) row word (now emission) ⌝ }
-    requires { ⌜ fieldsOf word .tag ≡ signatureForm ⌝ }
+    requires { ⌜ patternFields word .tag ≡ signatureForm ⌝ }
     ensures { λ _. ⌜ Creates (now (rows .entry)) (now (kinds .entry)) row (now (emission .entry)) (now (code .entry)) (now (emission .exit)) (now (code .exit)) ⌝ }
 {
     let s = patterns::variable(word);
@@ -52,7 +52,7 @@ fn create_leaf(
     word: u64,
 )
     requires { ⌜ RowAt (now rows) row word (now emission) ⌝ }
-    requires { ⌜ Leaf (fieldsOf word .tag) ⌝ }
+    requires { ⌜ Leaf (patternFields word .tag) ⌝ }
     ensures { λ _. ⌜ Creates (now (rows .entry)) (now (kinds .entry)) row (now (emission .entry)) (now (code .entry)) (now (emission .exit)) (now (code .exit)) ⌝ }
 {
     let tag = patterns::tag(word);
@@ -93,7 +93,7 @@ fn create_encryption(
     word: u64,
 )
     requires { ⌜ RowAt (now rows) row word (now emission) ⌝ }
-    requires { ⌜ fieldsOf word .tag ≡ encryptionForm ⌝ }
+    requires { ⌜ patternFields word .tag ≡ encryptionForm ⌝ }
     ensures { λ _. ⌜ Creates (now (rows .entry)) (now (kinds .entry)) row (now (emission .entry)) (now (code .entry)) (now (emission .exit)) (now (code .exit)) ⌝ }
 {
     let e = patterns::variable(word);
@@ -115,7 +115,7 @@ fn create_tuple(
     word: u64,
 )
     requires { ⌜ RowAt (now rows) row word (now emission) ⌝ }
-    requires { ⌜ fieldsOf word .tag ≡ tupleForm ⌝ }
+    requires { ⌜ patternFields word .tag ≡ tupleForm ⌝ }
     ensures { λ _. ⌜ Creates (now (rows .entry)) (now (kinds .entry)) row (now (emission .entry)) (now (code .entry)) (now (emission .exit)) (now (code .exit)) ⌝ }
 {
     let t = patterns::variable(word);
@@ -167,7 +167,7 @@ fn create_let(
     word: u64,
 )
     requires { ⌜ RowAt (now rows) row word (now emission) ⌝ }
-    requires { ⌜ fieldsOf word .tag ≡ letForm ⌝ }
+    requires { ⌜ patternFields word .tag ≡ letForm ⌝ }
     ensures { λ _. ⌜ Creates (now (rows .entry)) (now (kinds .entry)) row (now (emission .entry)) (now (code .entry)) (now (emission .exit)) (now (code .exit)) ⌝ }
 {
     let r = patterns::raw(word);

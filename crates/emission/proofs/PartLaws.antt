@@ -8,7 +8,7 @@ use native.Mathlib.Omega.{arith}
 use lib.ListN.{length, getD, take, drop}
 use lib.Seq.{drop-cons, getD-take, drop-length, length-take-le}
 use Rattle.patterns.specs.Pattern.{Pattern, tuple, Parts, end, part, count, size, sizes}
-use Rattle.patterns.specs.Row.{fieldsOf, childrenOf}
+use Rattle.patterns.specs.Row.{patternFields, childrenOf}
 use Rattle.patterns.specs.Tree.{partsBy}
 use Rattle.patterns.proofs.PatternLaws.{size-positive, count-sizes}
 use Rattle.patterns.proofs.RowLaws.{children-count}
@@ -16,8 +16,8 @@ use Rattle.patterns.proofs.TreeLaws.{parts-count}
 use Rattle.theory.specs.Emission.{Env, Emitted, ok, _then_}
 use Rattle.emission.specs.declared.Part.{Part}
 use Rattle.knowing.specs.Steps.{raise}
-use Rattle.knowing.specs.Meets.{nextIn, Does, Quiet, Room}
-use Rattle.emission.specs.Budget.{words, scratches, wordsOf, scratchesOf, patternIn, Row, RowAt, RoomParts}
+use Rattle.knowing.specs.Meets.{nextIn, Does, Quiet, RoomFor}
+use Rattle.emission.specs.Budget.{mostWords, mostScratches, wordsOf, scratchesOf, patternIn, Row, RowAt, RoomParts}
 use Rattle.emission.specs.Parts.{partsFrom, partAt, partsIn, PartsAt, DoesParts}
 use Rattle.knowing.proofs.MeetsLaws.{does-as, does-le, does-seq, does-none}
 use Rattle.emission.proofs.BudgetLaws.{room-as}
@@ -71,7 +71,7 @@ module _ {one : Pattern → ℕ → ℕ → Env → Emitted} {all : Parts → �
       room-more = rw (parts-more rows parts n k four (asked .few) less) at (walked .room)
 
       -- one word, and what the part's pattern asks
-      pub part-room : Room (8 * size this) (scratches this) e
+      pub part-room : RoomFor (8 * size this) (mostScratches this) e
       unfolding sizes count
       part-room =
           let room = room-more in
@@ -79,12 +79,12 @@ module _ {one : Pattern → ℕ → ℕ → Env → Emitted} {all : Parts → �
           let t = count-sizes (partsIn rows parts n (k + 1)) in
           record { long = room .long; place = omega (arith, room .place); free = omega (arith, room .free) }
 
-      pub part-row : {e₁ : List ℕ} → Room (words this) (scratches this) e₁ → Row rows (partAt parts k .child) e₁
+      pub part-row : {e₁ : List ℕ} → RoomFor (mostWords this) (mostScratches this) e₁ → Row rows (partAt parts k .child) e₁
       part-row room =
           let below = asked .below k less in
           record { good = λ place h. asked .good place (omega arith); inside = omega (arith, asked .inside); most = omega (arith, asked .most); room = room }
 
-      pub parts-next : {e₁ code₁ : List ℕ} → Does (one this row (partAt parts k .scratch)) (8 * size this) (scratches this) e code e₁ code₁ → Walked all rows row parts n e₀ code₀ (k + 1) e₁ code₁
+      pub parts-next : {e₁ code₁ : List ℕ} → Does (one this row (partAt parts k .scratch)) (8 * size this) (mostScratches this) e code e₁ code₁ → Walked all rows row parts n e₀ code₀ (k + 1) e₁ code₁
       unfolding sizes count
       parts-next {e₁} {code₁} made =
           let room = room-more in
@@ -92,7 +92,7 @@ module _ {one : Pattern → ℕ → ℕ → Env → Emitted} {all : Parts → �
           let s = size-positive this in
           let t = count-sizes rest in
           let first = partAt parts 0 .scratch in
-          let here : Does (one this row (first + k)) (8 * size this) (scratches this) e code e₁ code₁ = rw (asked .laid k less) at made in
+          let here : Does (one this row (first + k)) (8 * size this) (mostScratches this) e code e₁ code₁ = rw (asked .laid k less) at made in
           let last : first + (k + 1) ≡ suc (first + k) = omega arith in
           record {
             low = omega arith;
@@ -115,31 +115,31 @@ part-slot slots first (suc (suc zero)) l = (refl, refl)
 part-slot slots first (suc (suc (suc zero))) l = (refl, refl)
 part-slot slots first (suc (suc (suc (suc k)))) l = absurd (omega arith)
 
-children-slots : (word first : ℕ) → map (λ p. p .child) (partsFrom (fieldsOf word .slots) first) ≡ fieldsOf word .slots
-unfolding fieldsOf
+children-slots : (word first : ℕ) → map (λ p. p .child) (partsFrom (patternFields word .slots) first) ≡ patternFields word .slots
+unfolding patternFields
 children-slots word first = refl
 
 -- t : [p1 .. pn]
-module _ (rows : List ℕ) (row word : ℕ) {e : List ℕ} (asked : RowAt rows row word e) (eight : fieldsOf word .tag ≡ 8) (n : ℕ) (counted : n ≡ fieldsOf word .n) where
+module _ (rows : List ℕ) (row word : ℕ) {e : List ℕ} (asked : RowAt rows row word e) (eight : patternFields word .tag ≡ 8) (n : ℕ) (counted : n ≡ patternFields word .n) where
   tuple-few : n ≤ 4
   tuple-few = omega (arith, good-row asked .tuple eight .0)
 
-  module _ (slots : List ℕ) (got : slots ≡ fieldsOf word .slots) (first : ℕ) (parts : List Part) (made : parts ≡ partsFrom slots first) where
+  module _ (slots : List ℕ) (got : slots ≡ patternFields word .slots) (first : ℕ) (parts : List Part) (made : parts ≡ partsFrom slots first) where
     parts-in : partsIn rows parts n 0 ≡ partsBy (patternIn rows) (childrenOf word)
     parts-in =
         let same : map (λ p. p .child) (take n parts) ≡ childrenOf word = map-take n parts ∙ rw (made, got, children-slots word first, counted) in
         ap (partsBy (patternIn rows)) same
 
-    pub tuple-is : patternIn rows row ≡ tuple row (fieldsOf word .v) (partsIn rows parts n 0)
+    pub tuple-is : patternIn rows row ≡ tuple row (patternFields word .v) (partsIn rows parts n 0)
     tuple-is = tuple-row asked eight ∙ rw (← parts-in)
 
     pub tuple-counts : count (partsIn rows parts n 0) ≡ n
     tuple-counts = rw parts-in (parts-count (patternIn rows) (childrenOf word) ∙ children-count word ∙ omega (arith, tuple-few))
 
-    pub tuple-room : Room (8 * sizes (partsIn rows parts n 0) + 7) (2 * sizes (partsIn rows parts n 0) + 1) e
+    pub tuple-room : RoomFor (8 * sizes (partsIn rows parts n 0) + 7) (2 * sizes (partsIn rows parts n 0) + 1) e
     unfolding size
     tuple-room =
-        let room = room-as rows row (tuple row (fieldsOf word .v) (partsIn rows parts n 0)) tuple-is (asked .whole) in
+        let room = room-as rows row (tuple row (patternFields word .v) (partsIn rows parts n 0)) tuple-is (asked .whole) in
         record { long = room .long; place = omega (arith, room .place); free = omega (arith, room .free) }
 
     -- a word before the scratch numbers are taken and one after it leave room for the parts

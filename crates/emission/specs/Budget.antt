@@ -7,17 +7,17 @@ use lib.Dec.{T}
 use Rattle.numbers.specs.Limits.{mostPatternRows, mostCodeWords}
 use Rattle.patterns.specs.Forms.{encryptionForm, tupleForm, letForm}
 use Rattle.patterns.specs.Pattern.{Pattern, Parts, count, size, sizes}
-use Rattle.patterns.specs.Row.{fieldsOf}
+use Rattle.patterns.specs.Row.{patternFields}
 use Rattle.patterns.specs.Rules.{rowFits}
 use Rattle.patterns.specs.Tree.{patternAt, patternsOf}
-use Rattle.knowing.specs.Meets.{nextIn, writtenIn, Room}
+use Rattle.knowing.specs.Meets.{nextIn, writtenIn, RoomFor}
 
 -- what a pattern of so many rows emits and takes at most
-abbrev pub words : Pattern → ℕ
-words p = 8 * size p - 1
+abbrev pub mostWords : Pattern → ℕ
+mostWords p = 8 * size p - 1
 
-abbrev pub scratches : Pattern → ℕ
-scratches p = 2 * size p - 1
+abbrev pub mostScratches : Pattern → ℕ
+mostScratches p = 2 * size p - 1
 
 -- a part has one word and one scratch number more
 abbrev pub wordsOf : Parts → ℕ
@@ -31,10 +31,10 @@ patternIn rows row = patternAt (patternsOf rows) row
 
 -- a row of the pattern, good as those below it are, and room for its pattern
 pub record Row (rows : List ℕ) (row : ℕ) (e : List ℕ) : Type 0 where
-  pub good : (place : ℕ) → place ≤ row → T (rowFits place (fieldsOf (getD rows place 0)))
+  pub good : (place : ℕ) → place ≤ row → T (rowFits place (patternFields (getD rows place 0)))
   pub inside : row < length rows
   pub most : row < mostPatternRows
-  pub room : Room (words (patternIn rows row)) (scratches (patternIn rows row)) e
+  pub room : RoomFor (mostWords (patternIn rows row)) (mostScratches (patternIn rows row)) e
 
 -- the same, with the row's word
 pub record RowAt (rows : List ℕ) (row word : ℕ) (e : List ℕ) : Type 0 where

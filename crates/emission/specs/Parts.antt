@@ -6,7 +6,7 @@ use lib.ListN.{length, getD, take, drop}
 use lib.Dec.{T}
 use Rattle.numbers.specs.Limits.{scratchCells, mostPatternRows, mostParts}
 use Rattle.patterns.specs.Pattern.{Parts}
-use Rattle.patterns.specs.Row.{fieldsOf}
+use Rattle.patterns.specs.Row.{patternFields}
 use Rattle.patterns.specs.Rules.{rowFits}
 use Rattle.patterns.specs.Tree.{partsBy}
 use Rattle.theory.specs.Emission.{Env, Emitted}
@@ -32,7 +32,7 @@ partsIn rows parts n k = partsBy (patternIn rows) (map (λ p. p .child) (drop k 
 
 -- parts below their row, with scratch numbers that follow each other, and room for them
 pub record PartsAt (rows : List ℕ) (row : ℕ) (parts : List Part) (n : ℕ) (e : List ℕ) : Type 0 where
-  pub good : (place : ℕ) → place ≤ row → T (rowFits place (fieldsOf (getD rows place 0)))
+  pub good : (place : ℕ) → place ≤ row → T (rowFits place (patternFields (getD rows place 0)))
   pub inside : row < length rows
   pub most : row < mostPatternRows
   pub few : n ≤ mostParts

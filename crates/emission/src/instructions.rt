@@ -18,7 +18,7 @@ ghost use Rattle.code.specs.Instruction.{wordWidths, fieldsOf};
 ghost use Rattle.code.specs.declared.Instruction.the-variants.{Load, Store, StoreConst, Decode, Encode, Create, AnalyzeTuple, CreateTuple, Opposite, KeyOf, Match, Encrypt, Decrypt, Sign, Verify, Hash};
 ghost use Rattle.theory.specs.Emission.{emit};
 ghost use Rattle.knowing.specs.Steps.{readObject, writeObject, readRaw, looks};
-ghost use Rattle.knowing.specs.Meets.{Does, Room};
+ghost use Rattle.knowing.specs.Meets.{Does, RoomFor};
 
 // An instruction that only reads an object variable. The contract speaks of it; the code needs its word alone.
 fn emit_reading(
@@ -29,7 +29,7 @@ fn emit_reading(
     instruction: Instruction,
     word: u32,
 )
-    requires { ⌜ Room 1 0 (now emission) ⌝ }
+    requires { ⌜ RoomFor 1 0 (now emission) ⌝ }
     requires { ⌜ (looks row instruction ≡ readObject row (v .0)) × (word ≡ join wordWidths (fieldsOf instruction)) ⌝ }
     ensures { λ _. ⌜ Does (emit row instruction) 1 0 (now (emission .entry)) (now (code .entry)) (now (emission .exit)) (now (code .exit)) ⌝ }
 {
@@ -46,7 +46,7 @@ fn emit_writing(
     instruction: Instruction,
     word: u32,
 )
-    requires { ⌜ Room 1 0 (now emission) ⌝ }
+    requires { ⌜ RoomFor 1 0 (now emission) ⌝ }
     requires { ⌜ v .0 < variables ⌝ }
     requires { ⌜ (looks row instruction ≡ writeObject row (v .0)) × (word ≡ join wordWidths (fieldsOf instruction)) ⌝ }
     ensures { λ _. ⌜ Does (emit row instruction) 1 0 (now (emission .entry)) (now (code .entry)) (now (emission .exit)) (now (code .exit)) ⌝ }
@@ -64,7 +64,7 @@ fn emit_reading_raw(
     instruction: Instruction,
     word: u32,
 )
-    requires { ⌜ Room 1 0 (now emission) ⌝ }
+    requires { ⌜ RoomFor 1 0 (now emission) ⌝ }
     requires { ⌜ (looks row instruction ≡ readRaw row (r .0)) × (word ≡ join wordWidths (fieldsOf instruction)) ⌝ }
     ensures { λ _. ⌜ Does (emit row instruction) 1 0 (now (emission .entry)) (now (code .entry)) (now (emission .exit)) (now (code .exit)) ⌝ }
 {
@@ -73,14 +73,14 @@ fn emit_reading_raw(
 }
 
 pub fn load(code: &mut Code, emission: &mut Emission, row: u8, r: Raw)
-    requires { ⌜ Room 1 0 (now emission) ⌝ }
+    requires { ⌜ RoomFor 1 0 (now emission) ⌝ }
     ensures { λ _. ⌜ Does (emit row (Load r)) 1 0 (now (emission .entry)) (now (code .entry)) (now (emission .exit)) (now (code .exit)) ⌝ }
 {
     emit_reading_raw(code, emission, row, r, Instruction::Load(r), words::load(r));
 }
 
 pub fn store(code: &mut Code, emission: &mut Emission, row: u8, r: Raw)
-    requires { ⌜ Room 1 0 (now emission) ⌝ }
+    requires { ⌜ RoomFor 1 0 (now emission) ⌝ }
     ensures { λ _. ⌜ Does (emit row (Store r)) 1 0 (now (emission .entry)) (now (code .entry)) (now (emission .exit)) (now (code .exit)) ⌝ }
 {
     write_raw(emission, row, r);
@@ -88,7 +88,7 @@ pub fn store(code: &mut Code, emission: &mut Emission, row: u8, r: Raw)
 }
 
 pub fn store_const(code: &mut Code, emission: &mut Emission, row: u8, c: Object, byte: u8)
-    requires { ⌜ Room 1 0 (now emission) ⌝ }
+    requires { ⌜ RoomFor 1 0 (now emission) ⌝ }
     requires { ⌜ c .0 < variables ⌝ }
     ensures { λ _. ⌜ Does (emit row (StoreConst c byte)) 1 0 (now (emission .entry)) (now (code .entry)) (now (emission .exit)) (now (code .exit)) ⌝ }
 {
@@ -103,7 +103,7 @@ pub fn store_const(code: &mut Code, emission: &mut Emission, row: u8, c: Object,
 }
 
 pub fn decode(code: &mut Code, emission: &mut Emission, row: u8, v: Object)
-    requires { ⌜ Room 1 0 (now emission) ⌝ }
+    requires { ⌜ RoomFor 1 0 (now emission) ⌝ }
     requires { ⌜ v .0 < variables ⌝ }
     ensures { λ _. ⌜ Does (emit row (Decode v)) 1 0 (now (emission .entry)) (now (code .entry)) (now (emission .exit)) (now (code .exit)) ⌝ }
 {
@@ -118,7 +118,7 @@ pub fn decode(code: &mut Code, emission: &mut Emission, row: u8, v: Object)
 }
 
 pub fn encode(code: &mut Code, emission: &mut Emission, row: u8, v: Object)
-    requires { ⌜ Room 1 0 (now emission) ⌝ }
+    requires { ⌜ RoomFor 1 0 (now emission) ⌝ }
     ensures { λ _. ⌜ Does (emit row (Encode v)) 1 0 (now (emission .entry)) (now (code .entry)) (now (emission .exit)) (now (code .exit)) ⌝ }
 {
     emit_reading(
@@ -132,7 +132,7 @@ pub fn encode(code: &mut Code, emission: &mut Emission, row: u8, v: Object)
 }
 
 pub fn create(code: &mut Code, emission: &mut Emission, row: u8, v: Object)
-    requires { ⌜ Room 1 0 (now emission) ⌝ }
+    requires { ⌜ RoomFor 1 0 (now emission) ⌝ }
     requires { ⌜ v .0 < variables ⌝ }
     ensures { λ _. ⌜ Does (emit row (Create v)) 1 0 (now (emission .entry)) (now (code .entry)) (now (emission .exit)) (now (code .exit)) ⌝ }
 {
@@ -154,7 +154,7 @@ pub fn analyze_tuple(
     first: Raw,
     n: u8,
 )
-    requires { ⌜ Room 1 0 (now emission) ⌝ }
+    requires { ⌜ RoomFor 1 0 (now emission) ⌝ }
     ensures { λ _. ⌜ Does (emit row (AnalyzeTuple t first n)) 1 0 (now (emission .entry)) (now (code .entry)) (now (emission .exit)) (now (code .exit)) ⌝ }
 {
     emit_reading(
@@ -168,7 +168,7 @@ pub fn analyze_tuple(
 }
 
 pub fn create_tuple(code: &mut Code, emission: &mut Emission, row: u8, t: Object, first: Raw, n: u8)
-    requires { ⌜ Room 1 0 (now emission) ⌝ }
+    requires { ⌜ RoomFor 1 0 (now emission) ⌝ }
     requires { ⌜ t .0 < variables ⌝ }
     ensures { λ _. ⌜ Does (emit row (CreateTuple t first n)) 1 0 (now (emission .entry)) (now (code .entry)) (now (emission .exit)) (now (code .exit)) ⌝ }
 {
@@ -183,7 +183,7 @@ pub fn create_tuple(code: &mut Code, emission: &mut Emission, row: u8, t: Object
 }
 
 pub fn opposite(code: &mut Code, emission: &mut Emission, row: u8, private: Object, public: Object)
-    requires { ⌜ Room 1 0 (now emission) ⌝ }
+    requires { ⌜ RoomFor 1 0 (now emission) ⌝ }
     requires { ⌜ public .0 < variables ⌝ }
     ensures { λ _. ⌜ Does (emit row (Opposite private public)) 1 0 (now (emission .entry)) (now (code .entry)) (now (emission .exit)) (now (code .exit)) ⌝ }
 {
@@ -193,14 +193,14 @@ pub fn opposite(code: &mut Code, emission: &mut Emission, row: u8, private: Obje
 }
 
 pub fn key_of(code: &mut Code, emission: &mut Emission, row: u8)
-    requires { ⌜ Room 1 0 (now emission) ⌝ }
+    requires { ⌜ RoomFor 1 0 (now emission) ⌝ }
     ensures { λ _. ⌜ Does (emit row KeyOf) 1 0 (now (emission .entry)) (now (code .entry)) (now (emission .exit)) (now (code .exit)) ⌝ }
 {
     append(code, emission, words::key_of());
 }
 
 pub fn compare(code: &mut Code, emission: &mut Emission, row: u8, r: Raw)
-    requires { ⌜ Room 1 0 (now emission) ⌝ }
+    requires { ⌜ RoomFor 1 0 (now emission) ⌝ }
     ensures { λ _. ⌜ Does (emit row (Match r)) 1 0 (now (emission .entry)) (now (code .entry)) (now (emission .exit)) (now (code .exit)) ⌝ }
 {
     emit_reading_raw(
@@ -214,7 +214,7 @@ pub fn compare(code: &mut Code, emission: &mut Emission, row: u8, r: Raw)
 }
 
 pub fn encrypt(code: &mut Code, emission: &mut Emission, row: u8, v: Object)
-    requires { ⌜ Room 1 0 (now emission) ⌝ }
+    requires { ⌜ RoomFor 1 0 (now emission) ⌝ }
     ensures { λ _. ⌜ Does (emit row (Encrypt v)) 1 0 (now (emission .entry)) (now (code .entry)) (now (emission .exit)) (now (code .exit)) ⌝ }
 {
     emit_reading(
@@ -228,7 +228,7 @@ pub fn encrypt(code: &mut Code, emission: &mut Emission, row: u8, v: Object)
 }
 
 pub fn decrypt(code: &mut Code, emission: &mut Emission, row: u8, v: Object)
-    requires { ⌜ Room 1 0 (now emission) ⌝ }
+    requires { ⌜ RoomFor 1 0 (now emission) ⌝ }
     ensures { λ _. ⌜ Does (emit row (Decrypt v)) 1 0 (now (emission .entry)) (now (code .entry)) (now (emission .exit)) (now (code .exit)) ⌝ }
 {
     emit_reading(
@@ -242,14 +242,14 @@ pub fn decrypt(code: &mut Code, emission: &mut Emission, row: u8, v: Object)
 }
 
 pub fn sign(code: &mut Code, emission: &mut Emission, row: u8, v: Object)
-    requires { ⌜ Room 1 0 (now emission) ⌝ }
+    requires { ⌜ RoomFor 1 0 (now emission) ⌝ }
     ensures { λ _. ⌜ Does (emit row (Sign v)) 1 0 (now (emission .entry)) (now (code .entry)) (now (emission .exit)) (now (code .exit)) ⌝ }
 {
     emit_reading(code, emission, row, v, Instruction::Sign(v), words::sign(v));
 }
 
 pub fn verify(code: &mut Code, emission: &mut Emission, row: u8, v: Object, r: Raw)
-    requires { ⌜ Room 1 0 (now emission) ⌝ }
+    requires { ⌜ RoomFor 1 0 (now emission) ⌝ }
     ensures { λ _. ⌜ Does (emit row (Verify v r)) 1 0 (now (emission .entry)) (now (code .entry)) (now (emission .exit)) (now (code .exit)) ⌝ }
 {
     read_object(emission, row, v);
@@ -258,7 +258,7 @@ pub fn verify(code: &mut Code, emission: &mut Emission, row: u8, v: Object, r: R
 }
 
 pub fn hash(code: &mut Code, emission: &mut Emission, row: u8, h: Object)
-    requires { ⌜ Room 1 0 (now emission) ⌝ }
+    requires { ⌜ RoomFor 1 0 (now emission) ⌝ }
     ensures { λ _. ⌜ Does (emit row (Hash h)) 1 0 (now (emission .entry)) (now (code .entry)) (now (emission .exit)) (now (code .exit)) ⌝ }
 {
     append(code, emission, words::hash(h));

@@ -78,7 +78,7 @@ pub record Quiet (f : Env → Emitted) (m : ℕ) (e e′ : List ℕ) : Type 0 wh
   pub long : length e′ ≡ length e
 
 -- there is room for w words and m scratch numbers
-pub record Room (w m : ℕ) (e : List ℕ) : Type 0 where
+pub record RoomFor (w m : ℕ) (e : List ℕ) : Type 0 where
   pub long : length e ≡ 5
   pub place : writtenIn e + w ≤ mostCodeWords
   pub free : nextIn e + m ≤ 191

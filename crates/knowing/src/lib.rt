@@ -17,7 +17,7 @@ ghost use Rattle.theory.specs.Machine.{Line};
 ghost use Rattle.theory.specs.Emission.{ok, refuse};
 ghost use Rattle.knowing.specs.Known.{known};
 ghost use Rattle.knowing.specs.Steps.{readObject, writeObject, readRaw, writeRaw, freeRaw, raise};
-ghost use Rattle.knowing.specs.Meets.{objectsIn, rawsIn, nextIn, refusing, Does, Quiet, Room};
+ghost use Rattle.knowing.specs.Meets.{objectsIn, rawsIn, nextIn, refusing, Does, Quiet, RoomFor};
 
 mod cells;
 
@@ -35,7 +35,7 @@ pub const WRITTEN: usize = 3;
 // The number and the row of the first refusal, or 0.
 pub const REFUSAL: usize = 4;
 
-// Room for the longest code.
+// RoomFor for the longest code.
 pub type Code = [u32; MOST_CODE_WORDS];
 
 // Whether a set of 64 bits has a variable.
@@ -158,7 +158,7 @@ pub fn take(emission: &mut Emission, n: u8) -> u8
 
 // The word behind those that are written.
 pub fn append(code: &mut Code, emission: &mut Emission, word: u32)
-    requires { ⌜ Room 1 0 (now emission) ⌝ }
+    requires { ⌜ RoomFor 1 0 (now emission) ⌝ }
     ensures { λ _. ⌜ ((l : Line) → word ≡ wordOf (l .instruction) → Does (ok (l ∷ [])) 1 0 (now (emission .entry)) (now (code .entry)) (now (emission .exit)) (now (code .exit))) ⌝ }
 {
     let at = emission[WRITTEN];

@@ -17,7 +17,7 @@ use Rattle.theory.specs.Outcome.{Answer, got, not, full}
 use Rattle.theory.specs.World.{Op, Test, create, keyOf}
 use Rattle.theory.specs.RowModel.{Table, withRows, withCounter, rowWorld}
 use Rattle.calls.specs.Run.{stateOver}
-use Rattle.world.specs.Operations.{finding, Makes, MakesOver, NamesAt, OpensOver, CertifiedBy, PartsOver, Tests, TestsOver}
+use Rattle.world.specs.Operations.{finding, MakesWord, MakesOver, NamesAt, OpensOver, CertifiedBy, PartsOver, Tests, TestsOver}
 use Rattle.world.specs.declared.Made.{Made}
 use Rattle.world.specs.declared.Made.the-variants as Made
 use Rattle.world.specs.declared.Named.{Named}
@@ -50,7 +50,7 @@ module _ (accumulator : ℕ) (objects messages : List ℕ) (table : Table) where
   abbrev pub Placing : ℕ → Answer (ℕ × Table)
   Placing word = finding memory word
 
-  pub makes : {o : Op ℕ} {word : ℕ} → Makes o word → rowWorld .apply o memory ≡ Placing word
+  pub makes : {o : Op ℕ} {word : ℕ} → MakesWord o word → rowWorld .apply o memory ≡ Placing word
   makes made = made .says memory
 
   module _ {o : Op ℕ} {answer : Made} (made : MakesOver (table .rows) o answer) where

@@ -13,7 +13,7 @@ use Rattle.terms.specs.declared.Found.the-variants.{At, Full}
 use Rattle.stores.specs.Cells.{unset}
 use Rattle.numbers.specs.Kinds.{kindIn}
 use Rattle.theory.specs.World.{byte, op, encrypt, sign, hash}
-use Rattle.world.specs.Operations.{Makes, MakesOver, NamesAt}
+use Rattle.world.specs.Operations.{MakesWord, MakesOver, NamesAt}
 use Rattle.world.specs.declared.Made.{Made}
 use Rattle.world.specs.declared.Made.the-variants as Made
 use Rattle.world.specs.declared.Named.{Named}
@@ -30,7 +30,7 @@ use Rattle.machine.proofs.AgreeLaws.{reads, gets, fills, answers-as, un
 abbrev over : List ℕ → List ℕ → Slices → Slices
 over objects rows x = withTermRows (withObjects x objects) rows
 
-module _ (g : Registers) (rows objects : List ℕ) (c : Object) (n : ℕ) (kind : ℕ → ℕ) (word : ℕ) (made : Makes (byte n) word) (rows′ : List ℕ) (found : Found)
+module _ (g : Registers) (rows objects : List ℕ) (c : Object) (n : ℕ) (kind : ℕ → ℕ) (word : ℕ) (made : MakesWord (byte n) word) (rows′ : List ℕ) (found : Found)
     (answer : Finds rows (g .used) word found rows′) where
   pub store-const-full : found ≡ Full → DoesStep kind (StoreConst c n) g (λ x. over objects rows x) NoRoom (λ x. over objects rows′ x)
   store-const-full e x = answers-as _ _ (makes _ _ _ _ made) (finds-no-room g _ answer _ _ e)
@@ -91,7 +91,7 @@ module _ (g : Registers) (rows objects : List ℕ) (v : Object) (kind : ℕ → 
     sign-unset e x = reads _ _ (object-row _ _ _ _ (v .0) read isKey) (unset-stops _ _ (accumulator-unset _ _ _ _ e))
 
     module _ (isRow : g .accumulator .0 ≡ unset → ⊥) (word : ℕ) (rows′ : List ℕ) (found : Found) (answer : Finds rows (g .used) word found rows′) where
-      module _ (made : Makes (encrypt key (g .accumulator .0)) word) where
+      module _ (made : MakesWord (encrypt key (g .accumulator .0)) word) where
         pub encrypt-full : found ≡ Full → DoesStep kind (Encrypt v) g (λ x. over objects rows x) NoRoom (λ x. over objects rows′ x)
         encrypt-full e x =
             reads _ _ (object-row _ _ _ _ (v .0) read isKey) (reads _ _ (accumulator-row _ _ _ _ isRow) (answers-as _ _ (makes _ _ _ _ made) (finds-no-room g _ answer _ _ e)))
@@ -101,7 +101,7 @@ module _ (g : Registers) (rows objects : List ℕ) (v : Object) (kind : ℕ → 
         encrypt-next row used g₁ g₂ e p q x =
             rw (q, p) (reads _ _ (object-row _ _ _ _ (v .0) read isKey) (reads _ _ (accumulator-row _ _ _ _ isRow) (answers-as _ _ (makes _ _ _ _ made) (makes-accumulator g _ answer _ e))))
 
-      module _ (made : Makes (sign key (g .accumulator .0)) word) where
+      module _ (made : MakesWord (sign key (g .accumulator .0)) word) where
         pub sign-full : found ≡ Full → DoesStep kind (Sign v) g (λ x. over objects rows x) NoRoom (λ x. over objects rows′ x)
         sign-full e x =
             reads _ _ (object-row _ _ _ _ (v .0) read isKey) (reads _ _ (accumulator-row _ _ _ _ isRow) (answers-as _ _ (makes _ _ _ _ made) (finds-no-room g _ answer _ _ e)))
@@ -115,7 +115,7 @@ module _ (g : Registers) (rows : List ℕ) (kind : ℕ → ℕ) (h : Object) whe
   pub hash-unset : g .accumulator .0 ≡ unset → DoesStep kind (Hash h) g (λ x. withTermRows x rows) (Stuck Unset) (λ x. withTermRows x rows)
   hash-unset e x = unset-stops _ _ (accumulator-unset _ _ _ _ e)
 
-  module _ (isRow : g .accumulator .0 ≡ unset → ⊥) (word : ℕ) (made : Makes (hash (g .accumulator .0)) word) (rows′ : List ℕ) (found : Found) (answer : Finds rows (g .used) word found rows′) where
+  module _ (isRow : g .accumulator .0 ≡ unset → ⊥) (word : ℕ) (made : MakesWord (hash (g .accumulator .0)) word) (rows′ : List ℕ) (found : Found) (answer : Finds rows (g .used) word found rows′) where
     pub hash-full : found ≡ Full → DoesStep kind (Hash h) g (λ x. withTermRows x rows) NoRoom (λ x. withTermRows x rows′)
     hash-full e x = reads _ _ (accumulator-row _ _ _ _ isRow) (answers-as _ _ (makes _ _ _ _ made) (finds-no-room g _ answer _ _ e))
 

@@ -27,7 +27,7 @@ use Rattle.stores.specs.Cells.{unset}
 use Rattle.theory.specs.Outcome.{Outcome, done}
 use Rattle.theory.specs.Outcome as Outcome
 use Rattle.theory.specs.World.{tuple}
-use Rattle.world.specs.Operations.{Makes, PartsOver}
+use Rattle.world.specs.Operations.{MakesWord, PartsOver}
 use Rattle.world.specs.declared.Parted.{Parted}
 use Rattle.world.specs.declared.Parted.the-variants.{Tuple, Not}
 use Rattle.theory.specs.RowModel.{Table, rowWorld}
@@ -156,7 +156,7 @@ module _ (g : Registers) (rows objects messages : List ℕ) (t : Object) (b : Ra
   create-tuple-unset cell l read e x =
       rw (reads-unset _ _ _ _ (g .place) (b .0) i n l (λ k h q. gathered .areRows k h (gathered .each k h ∙ q)) (sym read ∙ e)) (stuck refl refl)
 
-  module _ (past : n ≤ i) (small : n ≤ 4) (word : ℕ) (made : Makes (tuple (take n parts)) word) (rows′ : List ℕ) (found : Found) (answer : Finds rows (g .used) word found rows′) where
+  module _ (past : n ≤ i) (small : n ≤ 4) (word : ℕ) (made : MakesWord (tuple (take n parts)) word) (rows′ : List ℕ) (found : Found) (answer : Finds rows (g .used) word found rows′) where
     all-read : (x : Slices) → reading rowWorld (g .place) (stateAt g (over objects rows x)) (b .0) n ≡ done (take n parts)
     all-read x =
         reads-all _ _ _ _ (g .place) parts (b .0) n (omega (arith, gathered .four)) (λ k l. gathered .each k (omega arith)) (λ k l. gathered .areRows k (omega arith))

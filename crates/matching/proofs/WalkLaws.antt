@@ -8,7 +8,7 @@ use Rattle.numbers.specs.Sorts.{asObject}
 use Rattle.numbers.specs.declared.Raw.{Raw}
 use Rattle.code.specs.declared.Instruction.the-variants.{Load, Decode, AnalyzeTuple, Decrypt}
 use Rattle.patterns.specs.Pattern.{Pattern, plainKey, opKey, certifiedKey, encryption, tuple, letIn, size}
-use Rattle.patterns.specs.Row.{fieldsOf}
+use Rattle.patterns.specs.Row.{patternFields}
 use Rattle.patterns.proofs.PatternLaws.{size-positive, count-sizes}
 use Rattle.answers.specs.declared.Compiled.the-variants.{WrongKind}
 use Rattle.theory.specs.Machine.{named, scratch}
@@ -16,8 +16,8 @@ use Rattle.theory.specs.Emission.{Env, Emitted, refuse, emit, take, _then_}
 use Rattle.theory.specs.Compilers.{LOAD, DECODE, ANALYZE-TUPLE, compile↓, compile↓parts}
 use Rattle.emission.specs.declared.Part.{Part}
 use Rattle.knowing.specs.Steps.{freeRaw, raise}
-use Rattle.knowing.specs.Meets.{nextIn, Does, Quiet, Room}
-use Rattle.emission.specs.Budget.{words, scratches, wordsOf, scratchesOf, patternIn, Row, RowAt}
+use Rattle.knowing.specs.Meets.{nextIn, Does, Quiet, RoomFor}
+use Rattle.emission.specs.Budget.{mostWords, mostScratches, wordsOf, scratchesOf, patternIn, Row, RowAt}
 use Rattle.emission.specs.Parts.{partsFrom, partAt, partsIn, PartsAt}
 use Rattle.knowing.proofs.MeetsLaws.{then-assoc, does-le, does-seq, does-take, does-free}
 use Rattle.emission.proofs.BudgetLaws.{as-row, room-le, room-then, row-below, encryption-room, let-room}
@@ -26,13 +26,13 @@ use Rattle.emission.proofs.PartLaws.{InTurn, Walked, part-room, part-row, parts
 use Rattle.matching.specs.Matches.{Matches, MatchesParts}
 
 -- e : E(key, p)
-module _ (rows : List ℕ) (row word : ℕ) {e : List ℕ} (asked : RowAt rows row word e) (five : fieldsOf word .tag ≡ 5) (child : ℕ) (first : child ≡ getD (fieldsOf word .slots) 0 0) where
+module _ (rows : List ℕ) (row word : ℕ) {e : List ℕ} (asked : RowAt rows row word e) (five : patternFields word .tag ≡ 5) (child : ℕ) (first : child ≡ getD (patternFields word .slots) 0 0) where
   pub encryption-asks : {f g : Env → Emitted} {code e₁ code₁ e₂ code₂ : List ℕ} → Does f 1 0 e code e₁ code₁ → Does g 1 0 e₁ code₁ e₂ code₂ → Row rows child e₂
   encryption-asks k l =
       row-below rows row child (asked .whole) (encryption-child asked child first five) (room-then (omega arith) (omega arith) (encryption-room asked child first five) (does-seq k l))
 
-  module _ {code e′ : List ℕ} (form : ℕ) (read : form ≡ fieldsOf word .f) where
-    pub encryption-done : {e₁ code₁ e₂ code₂ code′ : List ℕ} (v x : ℕ) → v ≡ fieldsOf word .v → x ≡ fieldsOf word .x → form ≡ 0 → Does (emit row (Decode (asObject v))) 1 0 e code e₁ code₁
+  module _ {code e′ : List ℕ} (form : ℕ) (read : form ≡ patternFields word .f) where
+    pub encryption-done : {e₁ code₁ e₂ code₂ code′ : List ℕ} (v x : ℕ) → v ≡ patternFields word .v → x ≡ patternFields word .x → form ≡ 0 → Does (emit row (Decode (asObject v))) 1 0 e code e₁ code₁
         → Does (emit row (Decrypt (asObject x))) 1 0 e₁ code₁ e₂ code₂ → Matches rows child e₂ code₂ e′ code′ → Matches rows row e code e′ code′
     unfolding size
     encryption-done v x variable key plain k l m =
@@ -42,17 +42,17 @@ module _ (rows : List ℕ) (row word : ℕ) {e : List ℕ} (asked : RowAt rows r
 
     -- only a plain key opens
     pub encryption-wrong : (form ≡ 0 → ⊥) → Quiet (λ env. refuse (WrongKind row)) 0 e e′ → Matches rows row e code e′ code
-    encryption-wrong other k = by (fieldsOf word .f) refl
+    encryption-wrong other k = by (patternFields word .f) refl
       where
-        by : (f : ℕ) → fieldsOf word .f ≡ f → Matches rows row e code e′ code
+        by : (f : ℕ) → patternFields word .f ≡ f → Matches rows row e code e′ code
         by zero h = absurd (other (read ∙ h))
-        by (suc zero) h = as-row compile↓ rows row (encryption row (fieldsOf word .v) (opKey (fieldsOf word .x) (fieldsOf word .y)) (patternIn rows child)) (encryption-row asked child first five ∙ rw h) (does-le (omega arith) (omega arith) (k .does code))
-        by (suc (suc zero)) h = as-row compile↓ rows row (encryption row (fieldsOf word .v) (certifiedKey (fieldsOf word .x) (fieldsOf word .y)) (patternIn rows child)) (encryption-row asked child first five ∙ rw h) (does-le (omega arith) (omega arith) (k .does code))
+        by (suc zero) h = as-row compile↓ rows row (encryption row (patternFields word .v) (opKey (patternFields word .x) (patternFields word .y)) (patternIn rows child)) (encryption-row asked child first five ∙ rw h) (does-le (omega arith) (omega arith) (k .does code))
+        by (suc (suc zero)) h = as-row compile↓ rows row (encryption row (patternFields word .v) (certifiedKey (patternFields word .x) (patternFields word .y)) (patternIn rows child)) (encryption-row asked child first five ∙ rw h) (does-le (omega arith) (omega arith) (k .does code))
         by (suc (suc (suc f))) h = absurd (omega (arith, encryption-key asked five))
 
 -- let r = p1 in p2
-module _ (rows : List ℕ) (row word : ℕ) {e : List ℕ} (asked : RowAt rows row word e) (nine : fieldsOf word .tag ≡ 9)
-    (child : ℕ) (first : child ≡ getD (fieldsOf word .slots) 0 0) (other : ℕ) (second : other ≡ getD (fieldsOf word .slots) 1 0) where
+module _ (rows : List ℕ) (row word : ℕ) {e : List ℕ} (asked : RowAt rows row word e) (nine : patternFields word .tag ≡ 9)
+    (child : ℕ) (first : child ≡ getD (patternFields word .slots) 0 0) (other : ℕ) (second : other ≡ getD (patternFields word .slots) 1 0) where
   -- room for the second child, and then for the first
   module _ {e₁ : List ℕ} {r : ℕ} (freed : Quiet (freeRaw row r) 0 e e₁) where
     pub let-second : Row rows other e₁
@@ -61,7 +61,7 @@ module _ (rows : List ℕ) (row word : ℕ) {e : List ℕ} (asked : RowAt rows r
         (room-then (omega arith) (omega arith) (let-room asked child first other second nine) (freed .does []))
 
     module _ {code e₂ code₂ : List ℕ} (walked : Matches rows other e₁ code e₂ code₂) where
-      pub let-loads : Room 1 0 e₂
+      pub let-loads : RoomFor 1 0 e₂
       let-loads = room-then (omega arith) (omega arith) (let-room asked child first other second nine) (does-seq (freed .does code) walked)
 
       module _ {e₃ code₃ : List ℕ} (loaded : Does (emit row (Load (named r))) 1 0 e₂ code₂ e₃ code₃) where
@@ -70,7 +70,7 @@ module _ (rows : List ℕ) (row word : ℕ) {e : List ℕ} (asked : RowAt rows r
             row-below rows row child (asked .whole) (let-children asked child first other second nine .0)
             (room-then (omega arith) (omega arith) (let-room asked child first other second nine) (does-seq (freed .does code) (does-seq walked loaded)))
 
-        pub let-done : r ≡ fieldsOf word .r → {e′ code′ : List ℕ} → Matches rows child e₃ code₃ e′ code′ → Matches rows row e code e′ code′
+        pub let-done : r ≡ patternFields word .r → {e′ code′ : List ℕ} → Matches rows child e₃ code₃ e′ code′ → Matches rows row e code e′ code′
         unfolding size
         let-done h m =
             let s = size-positive (patternIn rows child) in
@@ -91,10 +91,10 @@ in-turn =
 
 module _ (rows : List ℕ) (row : ℕ) (parts : List Part) (n : ℕ) {e₀ : List ℕ} (four : length parts ≡ 4) (asked : PartsAt rows row parts n e₀) {code₀ : List ℕ} (k : ℕ) {e code : List ℕ}
     (walked : Walked compile↓parts rows row parts n e₀ code₀ k e code) (less : k < n) where
-  room : Room (8 * size (patternIn rows (partAt parts k .child))) (scratches (patternIn rows (partAt parts k .child))) e
+  room : RoomFor (8 * size (patternIn rows (partAt parts k .child))) (mostScratches (patternIn rows (partAt parts k .child))) e
   room = part-room in-turn rows row parts n four asked k walked less
 
-  pub part-loads : Room 1 0 e
+  pub part-loads : RoomFor 1 0 e
   part-loads = room-le (omega (arith, size-positive (patternIn rows (partAt parts k .child)))) (omega arith) room
 
   module _ {s : Raw} {e₁ code₁ : List ℕ} (made : s ≡ scratch (partAt parts k .scratch)) (loaded : Does (emit row (Load s)) 1 0 e code e₁ code₁) where
@@ -107,11 +107,11 @@ module _ (rows : List ℕ) (row : ℕ) (parts : List Part) (n : ℕ) {e₀ : Lis
         parts-next in-turn rows row parts n four asked k walked less (does-le (omega (arith, size-positive (patternIn rows (partAt parts k .child)))) (omega arith) (does-seq l m))
 
 -- t : [p1 .. pn]
-module _ (rows : List ℕ) (row word : ℕ) {e : List ℕ} (asked : RowAt rows row word e) (eight : fieldsOf word .tag ≡ 8) (n : ℕ) (counted : n ≡ fieldsOf word .n) where
+module _ (rows : List ℕ) (row word : ℕ) {e : List ℕ} (asked : RowAt rows row word e) (eight : patternFields word .tag ≡ 8) (n : ℕ) (counted : n ≡ patternFields word .n) where
   -- room for ANALYZE TUPLE, once its scratch numbers are taken
-  pub tuple-analyzes : {f : Env → Emitted} {code e₁ code₁ e₂ : List ℕ} → Does f 1 0 e code e₁ code₁ → Quiet (raise n) n e₁ e₂ → Room 1 0 e₂
+  pub tuple-analyzes : {f : Env → Emitted} {code e₁ code₁ e₂ : List ℕ} → Does f 1 0 e code e₁ code₁ → Quiet (raise n) n e₁ e₂ → RoomFor 1 0 e₂
   tuple-analyzes decoded taken =
-      let slots = fieldsOf word .slots in
+      let slots = patternFields word .slots in
       let parts = partsFrom slots 0 in
       let room = tuple-room rows row word asked eight n counted slots refl 0 parts refl in
       let c = count-sizes (partsIn rows parts n 0) in
@@ -122,7 +122,7 @@ module _ (rows : List ℕ) (row word : ℕ) {e : List ℕ} (asked : RowAt rows r
         free = omega (arith, room .free, decoded .free, taken .free);
       }
 
-  pub tuple-done : (slots : List ℕ) (got : slots ≡ fieldsOf word .slots) (first : ℕ) (parts : List Part) (made : parts ≡ partsFrom slots first) (t : ℕ) (s : Raw) → t ≡ fieldsOf word .v → s ≡ scratch first
+  pub tuple-done : (slots : List ℕ) (got : slots ≡ patternFields word .slots) (first : ℕ) (parts : List Part) (made : parts ≡ partsFrom slots first) (t : ℕ) (s : Raw) → t ≡ patternFields word .v → s ≡ scratch first
       → {e₁ e₂ e₃ code code₁ code₃ e′ code′ : List ℕ} → Does (emit row (Decode (asObject t))) 1 0 e code e₁ code₁ → first ≡ nextIn e₁ → Quiet (raise n) n e₁ e₂
       → Does (emit row (AnalyzeTuple (asObject t) s n)) 1 0 e₂ code₁ e₃ code₃ → MatchesParts rows row parts n e₃ code₃ e′ code′ → Matches rows row e code e′ code′
   unfolding size
@@ -135,6 +135,6 @@ module _ (rows : List ℕ) (row word : ℕ) {e : List ℕ} (asked : RowAt rows r
       let l : Does (emit row (ANALYZE-TUPLE t (scratch (nextIn e₁)) n)) 1 0 e₂ code₁ e₃ code₃ = rw here at analyzed in
       let k : Does (compile↓parts ps row (nextIn e₁)) (wordsOf ps) (scratchesOf ps) e₃ code₃ e′ code′ = rw start at m in
       as-row compile↓ rows row (tuple row t ps) (tuple-is rows row word asked eight n counted slots got first parts made ∙ rw variable)
-      (subst (λ (x : ℕ). Does (emit row (DECODE t) then take x (λ rˢ. emit row (ANALYZE-TUPLE t (scratch rˢ) x) then compile↓parts ps row rˢ)) (words (tuple row t ps)) (scratches (tuple row t ps)) e code e′ code′) (sym d)
+      (subst (λ (x : ℕ). Does (emit row (DECODE t) then take x (λ rˢ. emit row (ANALYZE-TUPLE t (scratch rˢ) x) then compile↓parts ps row rˢ)) (mostWords (tuple row t ps)) (mostScratches (tuple row t ps)) e code e′ code′) (sym d)
       (does-le (omega arith) (omega arith)
       (does-seq decoded (does-take (λ rˢ. emit row (ANALYZE-TUPLE t (scratch rˢ) n) then compile↓parts ps row rˢ) taken (does-seq l k)))))

@@ -12,12 +12,12 @@ ghost use Prim.Native.Nat.{_<_};
 ghost use Rattle.numbers.specs.Limits.{variables};
 ghost use Rattle.patterns.specs.Pattern.{opKey, certifiedKey, object, raw, constant, opposite, keyOf, hash};
 ghost use Rattle.theory.specs.Compilers.{compile↓, verifying};
-ghost use Rattle.knowing.specs.Meets.{Does, Room};
+ghost use Rattle.knowing.specs.Meets.{Does, RoomFor};
 
 // v
 pub fn match_object(code: &mut Code, emission: &mut Emission, row: u8, v: Object)
     requires { ⌜ v .0 < variables ⌝ }
-    requires { ⌜ Room 7 1 (now emission) ⌝ }
+    requires { ⌜ RoomFor 7 1 (now emission) ⌝ }
     ensures { λ _. ⌜ Does (compile↓ (object row (v .0))) 7 1 (now (emission .entry)) (now (code .entry)) (now (emission .exit)) (now (code .exit)) ⌝ }
 {
     if object_known(emission, v) {
@@ -32,7 +32,7 @@ pub fn match_object(code: &mut Code, emission: &mut Emission, row: u8, v: Object
 
 // r
 pub fn match_raw(code: &mut Code, emission: &mut Emission, row: u8, r: Raw)
-    requires { ⌜ Room 7 1 (now emission) ⌝ }
+    requires { ⌜ RoomFor 7 1 (now emission) ⌝ }
     ensures { λ _. ⌜ Does (compile↓ (raw row (r .0))) 7 1 (now (emission .entry)) (now (code .entry)) (now (emission .exit)) (now (code .exit)) ⌝ }
 {
     if raw_known(emission, r) {
@@ -45,7 +45,7 @@ pub fn match_raw(code: &mut Code, emission: &mut Emission, row: u8, r: Raw)
 // c : C
 pub fn match_constant(code: &mut Code, emission: &mut Emission, row: u8, c: Object, byte: u8)
     requires { ⌜ c .0 < variables ⌝ }
-    requires { ⌜ Room 7 1 (now emission) ⌝ }
+    requires { ⌜ RoomFor 7 1 (now emission) ⌝ }
     ensures { λ _. ⌜ Does (compile↓ (constant row (c .0) byte)) 7 1 (now (emission .entry)) (now (code .entry)) (now (emission .exit)) (now (code .exit)) ⌝ }
 {
     let s = scratch(take(emission, 1));
@@ -64,7 +64,7 @@ pub fn match_opposite(
     private: Object,
 )
     requires { ⌜ public .0 < variables ⌝ }
-    requires { ⌜ Room 7 1 (now emission) ⌝ }
+    requires { ⌜ RoomFor 7 1 (now emission) ⌝ }
     ensures { λ _. ⌜ Does (compile↓ (opposite row (public .0) (private .0))) 7 1 (now (emission .entry)) (now (code .entry)) (now (emission .exit)) (now (code .exit)) ⌝ }
 {
     let s = scratch(take(emission, 1));
@@ -77,7 +77,7 @@ pub fn match_opposite(
 // k : keyOf(a)
 pub fn match_key_of(code: &mut Code, emission: &mut Emission, row: u8, key: Object, agent: Object)
     requires { ⌜ key .0 < variables ⌝ }
-    requires { ⌜ Room 7 1 (now emission) ⌝ }
+    requires { ⌜ RoomFor 7 1 (now emission) ⌝ }
     ensures { λ _. ⌜ Does (compile↓ (keyOf row (key .0) (agent .0))) 7 1 (now (emission .entry)) (now (code .entry)) (now (emission .exit)) (now (code .exit)) ⌝ }
 {
     instructions::decode(code, emission, row, key);
@@ -91,7 +91,7 @@ pub fn match_key_of(code: &mut Code, emission: &mut Emission, row: u8, key: Obje
 // h : H(r)
 pub fn match_hash(code: &mut Code, emission: &mut Emission, row: u8, h: Object, r: Raw)
     requires { ⌜ h .0 < variables ⌝ }
-    requires { ⌜ Room 7 1 (now emission) ⌝ }
+    requires { ⌜ RoomFor 7 1 (now emission) ⌝ }
     ensures { λ _. ⌜ Does (compile↓ (hash row (h .0) (r .0))) 7 1 (now (emission .entry)) (now (code .entry)) (now (emission .exit)) (now (code .exit)) ⌝ }
 {
     instructions::decode(code, emission, row, h);
@@ -112,7 +112,7 @@ pub fn verify_opposite(
     r: Raw,
 )
     requires { ⌜ public .0 < variables ⌝ }
-    requires { ⌜ Room 6 1 (now emission) ⌝ }
+    requires { ⌜ RoomFor 6 1 (now emission) ⌝ }
     ensures { λ _. ⌜ Does (verifying row (opKey (public .0) (private .0)) (r .0)) 6 1 (now (emission .entry)) (now (code .entry)) (now (emission .exit)) (now (code .exit)) ⌝ }
 {
     instructions::opposite(code, emission, row, private, public);
@@ -129,7 +129,7 @@ pub fn verify_certified(
     r: Raw,
 )
     requires { ⌜ key .0 < variables ⌝ }
-    requires { ⌜ Room 6 1 (now emission) ⌝ }
+    requires { ⌜ RoomFor 6 1 (now emission) ⌝ }
     ensures { λ _. ⌜ Does (verifying row (certifiedKey (key .0) (agent .0)) (r .0)) 6 1 (now (emission .entry)) (now (code .entry)) (now (emission .exit)) (now (code .exit)) ⌝ }
 {
     let s = scratch(take(emission, 1));

@@ -15,7 +15,7 @@ use numbers::limits::MOST_PARTS;
 use patterns::forms as form;
 ghost use mathlib.Core.Path.{_≡_};
 ghost use Rattle.patterns.specs.Forms.{encryptionForm, signatureForm, tupleForm, letForm};
-ghost use Rattle.patterns.specs.Row.{fieldsOf};
+ghost use Rattle.patterns.specs.Row.{patternFields};
 ghost use Rattle.emission.specs.Budget.{Row, RowAt, Leaf};
 ghost use Rattle.emission.specs.Parts.{PartsAt};
 ghost use Rattle.matching.specs.Matches.{Matches, MatchesParts};
@@ -23,7 +23,7 @@ ghost use Rattle.matching.specs.Matches.{Matches, MatchesParts};
 // s : S(key, r)
 fn match_signature(rows: &Rows, code: &mut Code, emission: &mut Emission, row: u8, word: u64)
     requires { ⌜ RowAt (now rows) row word (now emission) ⌝ }
-    requires { ⌜ fieldsOf word .tag ≡ signatureForm ⌝ }
+    requires { ⌜ patternFields word .tag ≡ signatureForm ⌝ }
     ensures { λ _. ⌜ Matches (now (rows .entry)) row (now (emission .entry)) (now (code .entry)) (now (emission .exit)) (now (code .exit)) ⌝ }
 {
     instructions::decode(code, emission, row, patterns::variable(word));
@@ -47,7 +47,7 @@ fn match_signature(rows: &Rows, code: &mut Code, emission: &mut Emission, row: u
 // The pattern of a row with no children.
 fn match_leaf(rows: &Rows, code: &mut Code, emission: &mut Emission, row: u8, word: u64)
     requires { ⌜ RowAt (now rows) row word (now emission) ⌝ }
-    requires { ⌜ Leaf (fieldsOf word .tag) ⌝ }
+    requires { ⌜ Leaf (patternFields word .tag) ⌝ }
     ensures { λ _. ⌜ Matches (now (rows .entry)) row (now (emission .entry)) (now (code .entry)) (now (emission .exit)) (now (code .exit)) ⌝ }
 {
     let tag = patterns::tag(word);
@@ -81,7 +81,7 @@ pub fn match_row(rows: &Rows, code: &mut Code, emission: &mut Emission, row: u8)
 // e : E(key, p)
 fn match_encryption(rows: &Rows, code: &mut Code, emission: &mut Emission, row: u8, word: u64)
     requires { ⌜ RowAt (now rows) row word (now emission) ⌝ }
-    requires { ⌜ fieldsOf word .tag ≡ encryptionForm ⌝ }
+    requires { ⌜ patternFields word .tag ≡ encryptionForm ⌝ }
     ensures { λ _. ⌜ Matches (now (rows .entry)) row (now (emission .entry)) (now (code .entry)) (now (emission .exit)) (now (code .exit)) ⌝ }
 {
     if patterns::key_form(word) == form::PLAIN_KEY {
@@ -97,7 +97,7 @@ fn match_encryption(rows: &Rows, code: &mut Code, emission: &mut Emission, row: 
 // t : [p1 .. pn]
 fn match_tuple(rows: &Rows, code: &mut Code, emission: &mut Emission, row: u8, word: u64)
     requires { ⌜ RowAt (now rows) row word (now emission) ⌝ }
-    requires { ⌜ fieldsOf word .tag ≡ tupleForm ⌝ }
+    requires { ⌜ patternFields word .tag ≡ tupleForm ⌝ }
     ensures { λ _. ⌜ Matches (now (rows .entry)) row (now (emission .entry)) (now (code .entry)) (now (emission .exit)) (now (code .exit)) ⌝ }
 {
     let t = patterns::variable(word);
@@ -139,7 +139,7 @@ fn match_parts(
 // let r = p1 in p2: p2 first, which must set r, and then p1 on what r holds.
 fn match_let(rows: &Rows, code: &mut Code, emission: &mut Emission, row: u8, word: u64)
     requires { ⌜ RowAt (now rows) row word (now emission) ⌝ }
-    requires { ⌜ fieldsOf word .tag ≡ letForm ⌝ }
+    requires { ⌜ patternFields word .tag ≡ letForm ⌝ }
     ensures { λ _. ⌜ Matches (now (rows .entry)) row (now (emission .entry)) (now (code .entry)) (now (emission .exit)) (now (code .exit)) ⌝ }
 {
     let r = patterns::raw(word);

@@ -11,7 +11,7 @@ use lib.Seq.{take-suc, take-all, getD-take, length-take-le}
 use Rattle.word.specs.Lowest.{lowest}
 use Rattle.word.proofs.All.{All, at-all}
 use Rattle.word.proofs.ScanLaws.{Left, scan-hit, scan-miss, scan-end, lowest-same}
-use Rattle.patterns.specs.Row.{fieldsOf, childrenOf}
+use Rattle.patterns.specs.Row.{patternFields, childrenOf}
 use Rattle.patterns.specs.Rules.{rowFits, childrenNamed, badRow, unnamed, badPattern}
 use Rattle.patterns.specs.Marks.{Taken, taking, takeAll, Marked}
 use Rattle.patterns.proofs.RowLaws.{slot-below, child-slot}
@@ -62,7 +62,7 @@ module _ (rows : List ℕ) (marks : List Bool) (place : ℕ) (good : Good rows m
         rw (getD-take (length rows - 1) marks row false (omega arith), all-marked .each row (omega arith)))
 
   -- the row at a place, whether it is good in itself, the marks after it, and whether a child was taken again
-  module _ (word : ℕ) (fits : Bool) (next : List Bool) (again : Bool) (inside : place < length rows) (here : getD rows place 0 ≡ word) (own : fits ≡ rowFits place (fieldsOf word)) (takes : taking next again ≡ takeAll (taking marks false) (childrenOf word)) where
+  module _ (word : ℕ) (fits : Bool) (next : List Bool) (again : Bool) (inside : place < length rows) (here : getD rows place 0 ≡ word) (own : fits ≡ rowFits place (patternFields word)) (takes : taking next again ≡ takeAll (taking marks false) (childrenOf word)) where
     bad-here : badRow rows place word ≡ (not fits || again)
     unfolding badRow
     bad-here = rw (own, ap (λ (t : Taken). t .again) takes, again-all (taking marks false) (childrenNamed (take place rows)) (childrenOf word) (good .marked) (children-below word))

@@ -10,11 +10,11 @@ use Rattle.word.proofs.All.{All, all-getD}
 use Rattle.word.proofs.FieldLaws.{Fit, split-join}
 use Rattle.patterns.specs.Pattern.{Key, plainKey, opKey, certifiedKey, Pattern, object, raw, constant, opposite, keyOf, encryption, signature, hash, tuple, letIn, Parts, end, part}
 use Rattle.patterns.specs.Pattern.{count, size, sizes, RawsBelow, PartsBelow, Packed, PackedParts}
-use Rattle.patterns.specs.Row.{rowWidths, Fields, fieldsOf}
+use Rattle.patterns.specs.Row.{patternWidths, PatternFields, patternFields}
 use Rattle.patterns.specs.Tree.{partsBy, formBy, noPattern, patternAt, patternsFrom, patternsOf, patternOf}
 use Rattle.patterns.specs.Laid.{rowFields, rowBy, keyForm, keyName, keyOther, rootFrom, roots, laid, laidParts, numbered, numberedParts, bare, bareParts, ObjectsBelow, ObjectsInParts, Fits}
 
-abbrev pub fieldsBy : List ℕ → Fields
+abbrev pub fieldsBy : List ℕ → PatternFields
 fieldsBy all =
     record {
       tag = at 0 all;
@@ -29,10 +29,10 @@ fieldsBy all =
     }
 
 -- a row reads as the fields that it was packed from
-row-read : (tag v f x y r : ℕ) (children : List ℕ) → Fit rowWidths (rowFields tag v f x y r children)
-    → fieldsOf (rowBy tag v f x y r children) ≡ fieldsBy (rowFields tag v f x y r children)
-unfolding fieldsOf rowBy
-row-read tag v f x y r children fit = ap fieldsBy (split-join rowWidths (rowFields tag v f x y r children) fit refl)
+row-read : (tag v f x y r : ℕ) (children : List ℕ) → Fit patternWidths (rowFields tag v f x y r children)
+    → patternFields (rowBy tag v f x y r children) ≡ fieldsBy (rowFields tag v f x y r children)
+unfolding patternFields rowBy
+row-read tag v f x y r children fit = ap fieldsBy (split-join patternWidths (rowFields tag v f x y r children) fit refl)
 
 -- the patterns of the rows of a pattern
 unfoldable mutual
@@ -169,24 +169,24 @@ key-form (certifiedKey k a) = omega arith
 -- what a row's fields have room for
 module _ (tag v f x y r : ℕ) (children : List ℕ) where
   pub fields-read : tag < 16 → v < 64 → f < 4 → x < 256 → y < 64 → r < 64 → length children ≤ 4 → All (λ child. child < 128) children
-      → fieldsOf (rowBy tag v f x y r children) ≡ fieldsBy (rowFields tag v f x y r children)
+      → patternFields (rowBy tag v f x y r children) ≡ fieldsBy (rowFields tag v f x y r children)
   fields-read t a b c d e few below =
       let slot = all-getD (λ child. child < 128) children 0 below (omega arith) in
       row-read tag v f x y r children (t, (a, (b, (c, (d, (e, (omega arith, (slot 0, (slot 1, (slot 2, (slot 3, (omega arith, tt))))))))))))
 
 -- a row more is a pattern more
 module _ (built : List Pattern) (place : ℕ) (word : ℕ) (rest : List ℕ) (p : Pattern) where
-  one-more : formBy (patternAt built) place (fieldsOf word) ≡ p → patternsFrom built place (word ∷ rest) ≡ patternsFrom (built ++ (p ∷ [])) (suc place) rest
+  one-more : formBy (patternAt built) place (patternFields word) ≡ p → patternsFrom built place (word ∷ rest) ≡ patternsFrom (built ++ (p ∷ [])) (suc place) rest
   unfolding patternsFrom
   one-more form = ap (λ q. patternsFrom (built ++ (q ∷ [])) (suc place) rest) form
 
-  leaf-more : formBy (patternAt built) place (fieldsOf word) ≡ p → patternsFrom built place (word ∷ rest) ≡ patternsFrom (built ++ (p ∷ [])) (place + 1) rest
+  leaf-more : formBy (patternAt built) place (patternFields word) ≡ p → patternsFrom built place (word ∷ rest) ≡ patternsFrom (built ++ (p ∷ [])) (place + 1) rest
   leaf-more form = one-more form ∙ ap (λ (n : ℕ). patternsFrom (built ++ (p ∷ [])) n rest) (omega arith)
 
 -- an owner after the rows under it
 owner-more : (built under : List Pattern) (place at n : ℕ) (rows : List ℕ) (word : ℕ) (rest : List ℕ) (p : Pattern)
     → patternsFrom built place (rows ++ (word ∷ rest)) ≡ patternsFrom (built ++ under) at (word ∷ rest)
-    → formBy (patternAt (built ++ under)) at (fieldsOf word) ≡ p → suc at ≡ n
+    → formBy (patternAt (built ++ under)) at (patternFields word) ≡ p → suc at ≡ n
     → patternsFrom built place ((rows ++ (word ∷ [])) ++ rest) ≡ patternsFrom (built ++ (under ++ (p ∷ []))) n rest
 owner-more built under place at n rows word rest p before form next =
     ap (patternsFrom built place) (append-assoc rows (word ∷ []) rest) ∙ before ∙ one-more (built ++ under) at word rest p form
@@ -204,7 +204,7 @@ both-more built first second place middle at n front back rest one two next =
 -- the forms that have others under them
 module _ (built : List Pattern) (place : ℕ) (long : length built ≡ place) where
   encryption-form : (e : ℕ) (key : Key) (p : Pattern) → place + size p ≤ 96 → e < 64 → keyName key < 64 → keyOther key < 64
-      → formBy (patternAt (built ++ nodes place p)) (place + size p) (fieldsOf (rowBy 5 e (keyForm key) (keyName key) (keyOther key) 0 (rootFrom place p ∷ [])))
+      → formBy (patternAt (built ++ nodes place p)) (place + size p) (patternFields (rowBy 5 e (keyForm key) (keyName key) (keyOther key) 0 (rootFrom place p ∷ [])))
       ≡ encryption (place + size p) e key (numbered place p)
   encryption-form e key p few a b c =
       ap (formBy (patternAt (built ++ nodes place p)) (place + size p))
@@ -212,7 +212,7 @@ module _ (built : List Pattern) (place : ℕ) (long : length built ≡ place) wh
       ∙ ap₂ (encryption (place + size p) e) (key-read key) (root-end built place p long)
 
   tuple-form : (t : ℕ) (ps : Parts) → place + sizes ps ≤ 96 → t < 64 → count ps ≤ 4
-      → formBy (patternAt (built ++ nodesOf place ps)) (place + sizes ps) (fieldsOf (rowBy 8 t 0 0 0 0 (roots place ps))) ≡ tuple (place + sizes ps) t (numberedParts place ps)
+      → formBy (patternAt (built ++ nodesOf place ps)) (place + sizes ps) (patternFields (rowBy 8 t 0 0 0 0 (roots place ps))) ≡ tuple (place + sizes ps) t (numberedParts place ps)
   tuple-form t ps few a four =
       let most : length (roots place ps) ≤ 4 = omega (arith, roots-count place ps) in
       ap (formBy (patternAt (built ++ nodesOf place ps)) (place + sizes ps))
@@ -221,7 +221,7 @@ module _ (built : List Pattern) (place : ℕ) (long : length built ≡ place) wh
 
   let-form : (r : ℕ) (p₁ p₂ : Pattern) → place + (size p₁ + size p₂) ≤ 96 → r < 64
       → formBy (patternAt (built ++ (nodes place p₁ ++ nodes (place + size p₁) p₂))) (place + (size p₁ + size p₂))
-      (fieldsOf (rowBy 9 0 0 0 0 r (rootFrom place p₁ ∷ rootFrom (place + size p₁) p₂ ∷ [])))
+      (patternFields (rowBy 9 0 0 0 0 r (rootFrom place p₁ ∷ rootFrom (place + size p₁) p₂ ∷ [])))
       ≡ letIn (place + (size p₁ + size p₂)) r (numbered place p₁) (numbered (place + size p₁) p₂)
   let-form r p₁ p₂ few a =
       let later : List Pattern = nodes (place + size p₁) p₂ in
@@ -234,7 +234,7 @@ module _ (built : List Pattern) (place : ℕ) (long : length built ≡ place) wh
 
 -- a form that has none under it
 leaf-form : (below : ℕ → Pattern) (place tag v f x y r : ℕ) → tag < 16 → v < 64 → f < 4 → x < 256 → y < 64 → r < 64
-    → formBy below place (fieldsOf (rowBy tag v f x y r [])) ≡ formBy below place (fieldsBy (rowFields tag v f x y r []))
+    → formBy below place (patternFields (rowBy tag v f x y r [])) ≡ formBy below place (fieldsBy (rowFields tag v f x y r []))
 leaf-form below place tag v f x y r a b c d e g = ap (formBy below place) (fields-read tag v f x y r [] a b c d e g (omega arith) tt)
 
 -- the rows of a pattern add the patterns of its forms, the pattern itself last

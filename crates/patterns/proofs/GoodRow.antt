@@ -10,13 +10,13 @@ use Rattle.word.specs.Lowest.{each}
 use Rattle.word.proofs.All.{All}
 use Rattle.word.proofs.TestLaws.{both, implied, equals, is-below, at-most}
 use Rattle.word.proofs.LowestLaws.{each-all}
-use Rattle.patterns.specs.Row.{Fields, children}
+use Rattle.patterns.specs.Row.{PatternFields, children}
 use Rattle.patterns.proofs.ArmLaws.{below-ten}
 use Rattle.patterns.specs.Rules.{Form, form, forms, formFits, rowFits}
 use Rattle.patterns.specs.GoodRow.{Zero, GoodKey, GoodRow}
 
 -- the same by a form of the table
-record GoodAs (entry : Form) (place : ℕ) (row : Fields) : Type 0 where
+record GoodAs (entry : Form) (place : ℕ) (row : PatternFields) : Type 0 where
   v : T (not (entry .usesV)) → row .v ≡ 0
   f : T (not (entry .usesF)) → row .f ≡ 0
   x : T (not (entry .usesX)) → row .x ≡ 0
@@ -33,7 +33,7 @@ zero-unless : (used : Bool) (field : ℕ) → T (used || eqb field 0) ↔ (T (no
 zero-unless true field = (λ h n. absurd n, λ h. tt)
 zero-unless false field = (λ h n. equals field 0 .0 h, λ h. equals field 0 .1 (h tt))
 
-good-as : (entry : Form) (place : ℕ) (row : Fields) → T (formFits place row entry) ↔ GoodAs entry place row
+good-as : (entry : Form) (place : ℕ) (row : PatternFields) → T (formFits place row entry) ↔ GoodAs entry place row
 good-as entry place row =
     simp (both, zero-unless, implied, at-most, equals, rest, below) (
       λ h.
@@ -63,16 +63,16 @@ abbrev none : Form
 none = form false false false false false 0 0
 
 -- a form of the table, by the tag
-abbrev entry : Fields → ℕ → Form
+abbrev entry : PatternFields → ℕ → Form
 entry row tag = getD (forms (row .f)) tag none
 
-good-fits : (place : ℕ) (row : Fields) → T (rowFits place row) ↔ ((row .tag < 10) × GoodAs (entry row (row .tag)) place row)
+good-fits : (place : ℕ) (row : PatternFields) → T (rowFits place row) ↔ ((row .tag < 10) × GoodAs (entry row (row .tag)) place row)
 good-fits place row =
     let parts = both (ltb (row .tag) 10) (formFits place row (entry row (row .tag))) in
     let table = good-as (entry row (row .tag)) place row in
     (λ h. (is-below (row .tag) 10 .0 (parts .0 h .0), table .0 (parts .0 h .1)), λ g. parts .1 (is-below (row .tag) 10 .1 (g .0), table .1 (g .1)))
 
-module _ (place : ℕ) (row : Fields) where
+module _ (place : ℕ) (row : PatternFields) where
   -- each form from the table
   from-table : (row .tag < 10) × GoodAs (entry row (row .tag)) place row → GoodRow place row
   from-table h =

@@ -17,7 +17,7 @@ use Rattle.word.proofs.LowestLaws.{each-all, lowest-none}
 use Rattle.word.proofs.ScanLaws.{lt-or-ge}
 use Rattle.patterns.specs.Pattern.{Key, plainKey, opKey, certifiedKey, Pattern, object, raw, constant, opposite, keyOf, encryption, signature, hash, tuple, letIn, Parts, end, part}
 use Rattle.patterns.specs.Pattern.{size, sizes, RawsBelow, PartsBelow, Packed, PackedParts}
-use Rattle.patterns.specs.Row.{Fields, fieldsOf, children, childrenOf}
+use Rattle.patterns.specs.Row.{PatternFields, patternFields, children, childrenOf}
 use Rattle.patterns.specs.Rules.{rowFits, repeats, childrenNamed, badRow, unnamed, badPattern}
 use Rattle.patterns.specs.Laid.{rowFields, rowBy, keyForm, keyName, keyOther, rootFrom, roots, laid, laidParts, ObjectsBelow, ObjectsInParts, Fits}
 use Rattle.patterns.proofs.PatternLaws.{size-positive}
@@ -72,24 +72,24 @@ within-here k (suc n) less =
 -- rows that are good in themselves, from a place on
 unfoldable RowsFit : ℕ → List ℕ → Type 0
 RowsFit place [] = Unit {0}
-RowsFit place (word ∷ rest) = T (rowFits place (fieldsOf word)) × RowsFit (suc place) rest
+RowsFit place (word ∷ rest) = T (rowFits place (patternFields word)) × RowsFit (suc place) rest
 
 fit-append : (place at : ℕ) (front back : List ℕ) → at ≡ place + length front → RowsFit place front → RowsFit at back → RowsFit place (front ++ back)
 unfolding RowsFit
 fit-append place at [] back here f b = let same : at ≡ place = omega arith in subst (λ (n : ℕ). RowsFit n back) same b
 fit-append place at (word ∷ front) back here f b = (f .0, fit-append (suc place) at front back (omega arith) (f .1) b)
 
-fit-at : (place : ℕ) (rows : List ℕ) → RowsFit place rows → (i : ℕ) → i < length rows → T (rowFits (place + i) (fieldsOf (getD rows i 0)))
+fit-at : (place : ℕ) (rows : List ℕ) → RowsFit place rows → (i : ℕ) → i < length rows → T (rowFits (place + i) (patternFields (getD rows i 0)))
 unfolding RowsFit
 fit-at place [] fit i inside = absurd (omega arith)
-fit-at place (word ∷ rest) fit zero inside = let same : place ≡ place + 0 = omega arith in subst (λ (n : ℕ). T (rowFits n (fieldsOf word))) same (fit .0)
+fit-at place (word ∷ rest) fit zero inside = let same : place ≡ place + 0 = omega arith in subst (λ (n : ℕ). T (rowFits n (patternFields word))) same (fit .0)
 fit-at place (word ∷ rest) fit (suc i) inside =
     let same : suc place + i ≡ place + suc i = omega arith in
-    subst (λ (n : ℕ). T (rowFits n (fieldsOf (getD rest i 0)))) same (fit-at (suc place) rest (fit .1) i (omega arith))
+    subst (λ (n : ℕ). T (rowFits n (patternFields (getD rest i 0)))) same (fit-at (suc place) rest (fit .1) i (omega arith))
 
 -- a row that is good in itself, and its children
 record Row (at : ℕ) (named : List ℕ) (word : ℕ) : Type 0 where
-  fits : T (rowFits at (fieldsOf word))
+  fits : T (rowFits at (patternFields word))
   names : childrenOf word ≡ named
 
 module _ (at tag v f x y r : ℕ) (named : List ℕ) where
@@ -98,8 +98,8 @@ module _ (at tag v f x y r : ℕ) (named : List ℕ) where
   row-of a b c d e g few below fit =
       let read = fields-read tag v f x y r named a b c d e g few below in
       record {
-        fits = subst (λ (row : Fields). T (rowFits at row)) (sym read) fit;
-        names = ap (λ (row : Fields). children row) read ∙ children-taken named few;
+        fits = subst (λ (row : PatternFields). T (rowFits at row)) (sym read) fit;
+        names = ap (λ (row : PatternFields). children row) read ∙ children-taken named few;
       }
 
 -- rows that pass, where so many from a place on are named, each once
@@ -303,9 +303,9 @@ module _ (rows : List ℕ) (passes : Passes 0 rows (length rows - 1)) where
   unfolding badRow
   row-good place inside =
       let same : 0 + place ≡ place = omega arith in
-      let fits : T (rowFits place (fieldsOf (getD rows place 0))) = subst (λ (n : ℕ). T (rowFits n (fieldsOf (getD rows place 0)))) same (fit-at 0 rows (passes .fit) place inside) in
+      let fits : T (rowFits place (patternFields (getD rows place 0))) = subst (λ (n : ℕ). T (rowFits n (patternFields (getD rows place 0)))) same (fit-at 0 rows (passes .fit) place inside) in
       let once = prefix-once rows (λ k. rw (passes .named k) (within-once k 0 (length rows - 1))) place inside in
-      good (rowFits place (fieldsOf (getD rows place 0))) (repeats (childrenNamed (take place rows)) (childrenOf (getD rows place 0))) fits
+      good (rowFits place (patternFields (getD rows place 0))) (repeats (childrenNamed (take place rows)) (childrenOf (getD rows place 0))) fits
       (never-repeats (childrenNamed (take place rows)) (childrenOf (getD rows place 0)) once)
     where
       good : (fits again : Bool) → T fits → again ≡ false → T (not (not fits || again))

@@ -12,7 +12,7 @@ use Rattle.word.specs.Lowest.{LowestBad, AllGood}
 use Rattle.word.proofs.TestLaws.{both, twice, equals, at-most}
 use Rattle.word.proofs.LowestLaws.{one-of-two, none-bad, lowest-bad}
 use Rattle.patterns.specs.Pattern.{Key, plainKey, opKey, certifiedKey}
-use Rattle.patterns.specs.Row.{Fields}
+use Rattle.patterns.specs.Row.{PatternFields}
 use Rattle.patterns.specs.Rules.{badPattern}
 use Rattle.patterns.specs.Tree.{keyBy}
 use Rattle.patterns.specs.Kinds.{privateSide, publicSide, encryptionKey, wrongKind}
@@ -24,7 +24,7 @@ use Rattle.patterns.proofs.KindLaws.{wrong-rows, other-way}
 use Rattle.patterns.proofs.RuleLaws.{all-good}
 
 -- what holds of each form of a key holds of a row's
-by-key : (P : Key → Type 0) (row : Fields) → row .f ≤ 2 → (row .f ≡ 0 → P (plainKey (row .x))) → (row .f ≡ 1 → P (opKey (row .x) (row .y))) → (row .f ≡ 2 → P (certifiedKey (row .x) (row .y)))
+by-key : (P : Key → Type 0) (row : PatternFields) → row .f ≤ 2 → (row .f ≡ 0 → P (plainKey (row .x))) → (row .f ≡ 1 → P (opKey (row .x) (row .y))) → (row .f ≡ 2 → P (certifiedKey (row .x) (row .y)))
     → P (keyBy row)
 by-key P row = go (row .f) refl
   where
@@ -38,7 +38,7 @@ by-key P row = go (row .f) refl
 other : {A : Type 0} {m n k : ℕ} → m ≡ n → m ≡ k → T (not (eqb n k)) → A
 other {n = n} {k = k} e e′ differ = absurd (T-not (eqb n k) differ (equals n k .1 (sym e ∙ e′)))
 
-module _ (kind : ℕ → ℕ) (row : Fields) (few : row .f ≤ 2) where
+module _ (kind : ℕ → ℕ) (row : PatternFields) (few : row .f ≤ 2) where
   private-says : T (privateSide kind (keyBy row)) ↔ PrivateKey kind row
   private-says =
       by-key (λ key. T (privateSide kind key) ↔ PrivateKey kind row) row few
@@ -58,7 +58,7 @@ module _ (kind : ℕ → ℕ) (row : Fields) (few : row .f ≤ 2) where
   key-says true = public-says
   key-says false = private-says
 
-module _ (create : Bool) (kind : ℕ → ℕ) (row : Fields) where
+module _ (create : Bool) (kind : ℕ → ℕ) (row : PatternFields) where
   bare-says : T (leb 1 (kind (row .v)) && leb (kind (row .v)) 9) ↔ ((1 ≤ kind (row .v)) × (kind (row .v) ≤ 9))
   bare-says = simp (both, at-most) Iff·rfl
 

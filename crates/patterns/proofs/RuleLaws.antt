@@ -15,12 +15,12 @@ use Rattle.word.proofs.LowestLaws.{one-of, none-with, lowest-with}
 use Rattle.patterns.specs.Row.{childrenOf}
 use Rattle.patterns.specs.Rules.{rowFits, repeats, childrenNamed, badRow, unnamed, badPattern}
 use Rattle.patterns.proofs.MarkLaws.{one-append}
-use Rattle.patterns.specs.GoodRow.{GoodRow, fieldsAt, childrenAt, Names, TakenBefore, NamesTaken, BadRow, Unnamed}
+use Rattle.patterns.specs.GoodRow.{GoodRow, fieldsAt, childrenAt, NamesChild, TakenBefore, NamesTaken, BadRow, Unnamed}
 use Rattle.patterns.proofs.GoodRow.{good-row}
 
 -- a child that some row names
 abbrev pub Named : List ℕ → ℕ → Type 0
-Named rows child = (owner : ℕ) × (slot : ℕ) × Names rows owner slot child
+Named rows child = (owner : ℕ) × (slot : ℕ) × NamesChild rows owner slot child
 
 module _ (word : ℕ) (rest : List ℕ) (child : ℕ) where
   -- a name in the first row, and in the others
@@ -30,7 +30,7 @@ module _ (word : ℕ) (rest : List ℕ) (child : ℕ) where
   named-later : Named rest child → Named (word ∷ rest) child
   named-later n = (suc (n .0), n .1, record { inside = omega (arith, n .2 .inside); used = n .2 .used; here = n .2 .here })
 
-  named-split : (owner slot : ℕ) → Names (word ∷ rest) owner slot child → T (oneOf (childrenOf word) child) ⊎ Named rest child
+  named-split : (owner slot : ℕ) → NamesChild (word ∷ rest) owner slot child → T (oneOf (childrenOf word) child) ⊎ Named rest child
   named-split zero slot n = inl (one-of (childrenOf word) child .1 (slot, n .used, n .here))
   named-split (suc owner) slot n = inr (owner, slot, record { inside = omega (arith, n .inside); used = n .used; here = n .here })
 
@@ -90,13 +90,13 @@ module _ (rows : List ℕ) (place : ℕ) (inside : place < length rows) where
   front-length : length (take place rows) ≡ place
   front-length = length-take-le place rows (omega arith)
 
-  front-names : {owner slot child : ℕ} → Names (take place rows) owner slot child → (owner < place) × Names rows owner slot child
+  front-names : {owner slot child : ℕ} → NamesChild (take place rows) owner slot child → (owner < place) × NamesChild rows owner slot child
   front-names {owner} n =
       let less : owner < place = omega (arith, front-length, n .inside) in
       let same = getD-take place rows owner 0 less in
       (less, record { inside = omega arith; used = rw same at (n .used); here = rw same at (n .here) })
 
-  names-front : {owner slot child : ℕ} → owner < place → Names rows owner slot child → Names (take place rows) owner slot child
+  names-front : {owner slot child : ℕ} → owner < place → NamesChild rows owner slot child → NamesChild (take place rows) owner slot child
   names-front {owner} less n =
       let same = getD-take place rows owner 0 less in
       record { inside = omega (arith, front-length); used = rw same (n .used); here = rw same (n .here) }
@@ -115,7 +115,7 @@ module _ (rows : List ℕ) (place : ℕ) (inside : place < length rows) where
   earlier-taken slot used (inr o) =
       record { owner = place; other = o .0; names = record { inside = inside; used = omega (arith, o .1); here = o .2 }; before = inr (refl, o .1) }
 
-  taken-earlier : {slot child : ℕ} → Names rows place slot child → TakenBefore rows place slot child → Earlier slot
+  taken-earlier : {slot child : ℕ} → NamesChild rows place slot child → TakenBefore rows place slot child → Earlier slot
   taken-earlier {slot} {child} n t =
       ⊎-elim (λ less. inl (rw (n .here) (named-says (take place rows) child .1 (t .owner, t .other, names-front less (t .names)))))
       (λ o. inr (t .other, o .1, rw (o .0) at (t .names .here) ∙ sym (n .here))) (t .before)
@@ -200,8 +200,8 @@ module _ (rows : List ℕ) where
 pub record ChildOnce (rows : List ℕ) (row : ℕ) : Type 0 where
   pub owner : ℕ
   pub slot : ℕ
-  pub names : Names rows owner slot row
-  pub only : (other place : ℕ) → Names rows other place row → (other ≡ owner) × (place ≡ slot)
+  pub names : NamesChild rows owner slot row
+  pub only : (other place : ℕ) → NamesChild rows other place row → (other ≡ owner) × (place ≡ slot)
 
 -- what a pattern that passes says of its rows
 module _ (rows : List ℕ) (passed : badPattern rows ≡ none) where
@@ -231,7 +231,7 @@ module _ (rows : List ℕ) (passed : badPattern rows ≡ none) where
       go true e = refl
       go false e = absurd (bad-pattern-none rows .0 passed .1 row inside λ owner slot n. rw e at (named-says rows row .1 (owner, slot, n)))
 
-  never-taken : {place slot child : ℕ} → Names rows place slot child → TakenBefore rows place slot child → ⊥
+  never-taken : {place slot child : ℕ} → NamesChild rows place slot child → TakenBefore rows place slot child → ⊥
   never-taken {place} {slot} {child} n t = no-bad place (n .inside) (inr (record { slot = slot; child = child; names = n; taken = t }))
 
   -- every row but the last is a child exactly once
@@ -240,7 +240,7 @@ module _ (rows : List ℕ) (passed : badPattern rows ≡ none) where
       let n = named-says rows row .0 (rw (all-named row inside) tt) in
       record { owner = n .0; slot = n .1; names = n .2; only = λ other place m. same (n .2) m }
     where
-      same : {owner slot other place : ℕ} → Names rows owner slot row → Names rows other place row → (other ≡ owner) × (place ≡ slot)
+      same : {owner slot other place : ℕ} → NamesChild rows owner slot row → NamesChild rows other place row → (other ≡ owner) × (place ≡ slot)
       same {owner} {slot} {other} {place} n m =
           let a : ¬ (other < owner) = λ l. never-taken n (record { owner = other; other = place; names = m; before = inl l }) in
           let b : ¬ (owner < other) = λ l. never-taken m (record { owner = owner; other = slot; names = n; before = inl l }) in

@@ -15,7 +15,7 @@ use Rattle.word.proofs.LowestLaws.{lowest-none}
 use Rattle.word.proofs.ScanLaws.{lt-or-ge}
 use Rattle.word.proofs.All.{All, all-at, all-getD, all-append, all-map}
 use Rattle.patterns.specs.Pattern.{Pattern, object, encryption, tuple, letIn, part, count, size, sizes, RawsBelow, PartsBelow, Packed, PackedParts}
-use Rattle.patterns.specs.Row.{Fields, fieldsOf, childrenOf}
+use Rattle.patterns.specs.Row.{PatternFields, patternFields, childrenOf}
 use Rattle.patterns.specs.Rules.{childrenNamed, badPattern}
 use Rattle.patterns.specs.Tree.{keyBy, partsBy, formsBy, formBy, noPattern, patternAt, patternsOf, patternOf}
 use Rattle.patterns.specs.Kinds.{formKinds, wrongKind, RightKinds, RightParts}
@@ -59,9 +59,9 @@ front-one = four _ λ a b c d. refl
 front-two : (slots : List ℕ) → length slots ≡ 4 → take 2 slots ≡ getD slots 0 0 ∷ getD slots 1 0 ∷ []
 front-two = four _ λ a b c d. refl
 
-module _ (place word : ℕ) (good : GoodRow place (fieldsOf word)) where
-  abbrev row : Fields
-  row = fieldsOf word
+module _ (place word : ℕ) (good : GoodRow place (patternFields word)) where
+  abbrev row : PatternFields
+  row = patternFields word
 
   abbrev formAt : (ℕ → Pattern) → ℕ → Pattern
   formAt below tag = getD (formsBy below place row) tag (object place (row .v))
@@ -193,15 +193,15 @@ unfolding PartsBelow
 parts-raws below raws [] = tt
 parts-raws below raws (child ∷ rest) = (raws child, parts-raws below raws rest)
 
-raws-form : (below : ℕ → Pattern) → ((row : ℕ) → RawsBelow 64 (below row)) → (place word : ℕ) → RawsBelow 64 (formBy below place (fieldsOf word))
+raws-form : (below : ℕ → Pattern) → ((row : ℕ) → RawsBelow 64 (below row)) → (place word : ℕ) → RawsBelow 64 (formBy below place (patternFields word))
 unfolding RawsBelow
 raws-form below raws place word =
     let r = raw-below word in
-    all-getD (RawsBelow 64) (formsBy below place (fieldsOf word)) (object place (fieldsOf word .v))
-    (tt, (r, (tt, (tt, (tt, (raws _, (r, (r, (parts-raws below raws (childrenOf word), ((r, raws _, raws _), tt)))))))))) tt (fieldsOf word .tag)
+    all-getD (RawsBelow 64) (formsBy below place (patternFields word)) (object place (patternFields word .v))
+    (tt, (r, (tt, (tt, (tt, (raws _, (r, (r, (parts-raws below raws (childrenOf word), ((r, raws _, raws _), tt)))))))))) tt (patternFields word .tag)
 
 -- what every form has over patterns that have it, the pattern of any rows has
-every-pattern : (P : Pattern → Type 0) → P noPattern → ((below : ℕ → Pattern) → ((row : ℕ) → P (below row)) → (place word : ℕ) → P (formBy below place (fieldsOf word)))
+every-pattern : (P : Pattern → Type 0) → P noPattern → ((below : ℕ → Pattern) → ((row : ℕ) → P (below row)) → (place word : ℕ) → P (formBy below place (patternFields word)))
     → (rows : List ℕ) → P (patternOf rows)
 unfolding patternOf
 every-pattern P absent form rows = from-below (λ place. P (all place)) row-has (length rows - 1)
@@ -236,13 +236,13 @@ unfolding count
 parts-count below [] = refl
 parts-count below (child ∷ rest) = ap suc (parts-count below rest)
 
-packed-form : (below : ℕ → Pattern) → ((row : ℕ) → Packed (below row)) → (place word : ℕ) → Packed (formBy below place (fieldsOf word))
+packed-form : (below : ℕ → Pattern) → ((row : ℕ) → Packed (below row)) → (place word : ℕ) → Packed (formBy below place (patternFields word))
 unfolding Packed
 packed-form below packed place word =
     let b = byte-below word in
     let few : count (partsBy below (childrenOf word)) ≤ 4 = omega (arith, parts-count below (childrenOf word), children-count word) in
-    all-getD Packed (formsBy below place (fieldsOf word)) (object place (fieldsOf word .v))
-    (tt, (tt, (b, (tt, (tt, (packed _, (tt, (tt, ((few, parts-packed below packed (childrenOf word)), ((packed _, packed _), tt)))))))))) tt (fieldsOf word .tag)
+    all-getD Packed (formsBy below place (patternFields word)) (object place (patternFields word .v))
+    (tt, (tt, (b, (tt, (tt, (packed _, (tt, (tt, ((few, parts-packed below packed (childrenOf word)), ((packed _, packed _), tt)))))))))) tt (patternFields word .tag)
 
 pub packed : (rows : List ℕ) → Packed (patternOf rows)
 unfolding Packed

@@ -7,7 +7,7 @@ use Rattle.word.specs.Fields.{join}
 use Rattle.patterns.specs.Forms.{objectForm, rawForm, constantForm, oppositeForm, keyOfForm, encryptionForm, signatureForm, hashForm, tupleForm, letForm, plainForm, opForm, certifiedForm}
 use Rattle.patterns.specs.Pattern.{Key, plainKey, opKey, certifiedKey, Pattern, object, raw, constant, opposite, keyOf, encryption, signature, hash, tuple, letIn, Parts, end, part}
 use Rattle.patterns.specs.Pattern.{size, sizes, RawsBelow, Packed}
-use Rattle.patterns.specs.Row.{rowWidths}
+use Rattle.patterns.specs.Row.{patternWidths}
 
 -- the fields of a row over its children
 abbrev pub rowFields : ℕ → ℕ → ℕ → ℕ → ℕ → ℕ → List ℕ → List ℕ
@@ -15,7 +15,7 @@ rowFields tag v f x y r children =
     tag ∷ v ∷ f ∷ x ∷ y ∷ r ∷ length children ∷ getD children 0 0 ∷ getD children 1 0 ∷ getD children 2 0 ∷ getD children 3 0 ∷ 0 ∷ []
 
 unfoldable pub rowBy : ℕ → ℕ → ℕ → ℕ → ℕ → ℕ → List ℕ → ℕ
-rowBy tag v f x y r children = join rowWidths (rowFields tag v f x y r children)
+rowBy tag v f x y r children = join patternWidths (rowFields tag v f x y r children)
 
 -- F, X and Y of a key
 abbrev pub keyForm : Key → ℕ

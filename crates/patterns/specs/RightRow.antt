@@ -5,9 +5,9 @@ use mathlib.Core.Logic.{_⊎_}
 use mathlib.Core.Bool.{Bool, true, false, not}
 use Rattle.numbers.specs.Kinds.{byteKind, agentKind, publicKey, privateKey, sharedKey, encryptionKind, signatureKind, hashKind, tupleKind}
 use Rattle.patterns.specs.Forms.{objectForm, constantForm, oppositeForm, keyOfForm, encryptionForm, signatureForm, hashForm, tupleForm, plainForm, opForm, certifiedForm}
-use Rattle.patterns.specs.Row.{Fields}
+use Rattle.patterns.specs.Row.{PatternFields}
 
-module _ (kind : ℕ → ℕ) (row : Fields) where
+module _ (kind : ℕ → ℕ) (row : PatternFields) where
   -- the key of a matched E or a created S: a variable of kind 5 or 6
   pub record PrivateKey : Type 0 where
     pub plain : row .f ≡ plainForm
@@ -24,7 +24,7 @@ module _ (kind : ℕ → ℕ) (row : Fields) where
   RightKey false = PrivateKey
 
 -- every variable of a row has the kind that the row's form wants
-pub record RightRow (create : Bool) (kind : ℕ → ℕ) (row : Fields) : Type 0 where
+pub record RightRow (create : Bool) (kind : ℕ → ℕ) (row : PatternFields) : Type 0 where
   pub object : row .tag ≡ objectForm → (byteKind ≤ kind (row .v)) × (kind (row .v) ≤ hashKind)
   pub constant : row .tag ≡ constantForm → kind (row .v) ≡ byteKind
   pub opposite : row .tag ≡ oppositeForm → (kind (row .v) ≡ publicKey) × (kind (row .y) ≡ privateKey)

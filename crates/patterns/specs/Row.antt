@@ -4,11 +4,11 @@ use mathlib.Core.List.{List, [], _∷_}
 use lib.ListN.{take, drop}
 use Rattle.word.specs.Fields.{split, at}
 
-abbrev pub rowWidths : List ℕ
-rowWidths = 4 ∷ 6 ∷ 2 ∷ 8 ∷ 6 ∷ 6 ∷ 3 ∷ 7 ∷ 7 ∷ 7 ∷ 7 ∷ 1 ∷ []
+abbrev pub patternWidths : List ℕ
+patternWidths = 4 ∷ 6 ∷ 2 ∷ 8 ∷ 6 ∷ 6 ∷ 3 ∷ 7 ∷ 7 ∷ 7 ∷ 7 ∷ 1 ∷ []
 
 -- v, f, x, y and r are V, F, X, Y and R
-pub record Fields : Type 0 where
+pub record PatternFields : Type 0 where
   pub tag : ℕ
   pub v : ℕ
   pub f : ℕ
@@ -19,9 +19,9 @@ pub record Fields : Type 0 where
   pub slots : List ℕ
   pub spare : ℕ
 
-unfoldable pub fieldsOf : ℕ → Fields
-fieldsOf word =
-    let all = split rowWidths word in
+unfoldable pub patternFields : ℕ → PatternFields
+patternFields word =
+    let all = split patternWidths word in
     record {
       tag = at 0 all;
       v = at 1 all;
@@ -35,8 +35,8 @@ fieldsOf word =
     }
 
 -- the children, in their slots from the first on
-abbrev pub children : Fields → List ℕ
+abbrev pub children : PatternFields → List ℕ
 children row = take (row .n) (row .slots)
 
 abbrev pub childrenOf : ℕ → List ℕ
-childrenOf word = children (fieldsOf word)
+childrenOf word = children (patternFields word)

@@ -5,12 +5,12 @@ use mathlib.Core.List.{[], _∷_}
 use lib.ListN.{getD}
 use lib.Dec.{eqb, leb}
 use Rattle.numbers.specs.Kinds.{byteKind, agentKind, publicKey, privateKey, encryptionKind, signatureKind, hashKind, tupleKind}
-use Rattle.patterns.specs.Row.{Fields}
+use Rattle.patterns.specs.Row.{PatternFields}
 use Rattle.patterns.specs.Tree.{keyBy}
 use Rattle.patterns.specs.Kinds.{encryptionKey, signatureKey}
 
 -- the kinds of V, Y and the key, by a tag
-unfoldable pub kindsBy : Bool → (ℕ → ℕ) → Fields → ℕ → Bool
+unfoldable pub kindsBy : Bool → (ℕ → ℕ) → PatternFields → ℕ → Bool
 kindsBy create kind row tag =
     getD
     ((leb byteKind (kind (row .v)) && leb (kind (row .v)) hashKind)
@@ -26,5 +26,5 @@ kindsBy create kind row tag =
     ∷ [])
     tag (leb byteKind (kind (row .v)) && leb (kind (row .v)) hashKind)
 
-abbrev pub rowKinds : Bool → (ℕ → ℕ) → Fields → Bool
+abbrev pub rowKinds : Bool → (ℕ → ℕ) → PatternFields → Bool
 rowKinds create kind row = kindsBy create kind row (row .tag)

@@ -8,7 +8,7 @@ use lib.Dec.{eqb, leb, ltb}
 use Rattle.numbers.specs.Limits.{mostParts}
 use Rattle.word.specs.Lowest.{lowest, each, oneOf}
 use Rattle.patterns.specs.Forms.{opForm, certifiedForm, formCount}
-use Rattle.patterns.specs.Row.{Fields, fieldsOf, children, childrenOf}
+use Rattle.patterns.specs.Row.{PatternFields, patternFields, children, childrenOf}
 
 -- the fields that a form uses, and how many children it has
 pub record Form : Type 0 where
@@ -43,27 +43,27 @@ abbrev zeroUnless : Bool → ℕ → Bool
 zeroUnless used field = used || eqb field 0
 
 -- unused fields are zero
-abbrev pub unusedZero : Form → Fields → Bool
+abbrev pub unusedZero : Form → PatternFields → Bool
 unusedZero form row =
     zeroUnless (form .usesV) (row .v) && zeroUnless (form .usesF) (row .f) && zeroUnless (form .usesX) (row .x)
     && zeroUnless (form .usesY) (row .y) && zeroUnless (form .usesR) (row .r) && each (eqb 0) (drop (row .n) (row .slots))
     && eqb (row .spare) 0
 
-abbrev pub countFits : Form → Fields → Bool
+abbrev pub countFits : Form → PatternFields → Bool
 countFits form row = leb (form .least) (row .n) && leb (row .n) (form .most)
 
 -- F=3 is bad; X above 63 is bad in a key
-abbrev pub keyFits : Form → Fields → Bool
+abbrev pub keyFits : Form → PatternFields → Bool
 keyFits form row = not (form .usesF) || (leb (row .f) certifiedForm && leb (row .x) 63)
 
 -- a child has a smaller number than its owner
-abbrev pub childrenBelow : ℕ → Fields → Bool
+abbrev pub childrenBelow : ℕ → PatternFields → Bool
 childrenBelow place row = each (λ child. ltb child place) (children row)
 
-abbrev pub formFits : ℕ → Fields → Form → Bool
+abbrev pub formFits : ℕ → PatternFields → Form → Bool
 formFits place row form = unusedZero form row && countFits form row && keyFits form row && childrenBelow place row
 
-abbrev pub rowFits : ℕ → Fields → Bool
+abbrev pub rowFits : ℕ → PatternFields → Bool
 rowFits place row = ltb (row .tag) formCount && formFits place row (getD (forms (row .f)) (row .tag) (form false false false false false 0 0))
 
 -- a child is named that is already taken, by a row before or by a slot before
@@ -75,7 +75,7 @@ abbrev pub childrenNamed : List ℕ → List ℕ
 childrenNamed rows = flatMap childrenOf rows
 
 unfoldable pub badRow : List ℕ → ℕ → ℕ → Bool
-badRow rows place word = not (rowFits place (fieldsOf word)) || repeats (childrenNamed (take place rows)) (childrenOf word)
+badRow rows place word = not (rowFits place (patternFields word)) || repeats (childrenNamed (take place rows)) (childrenOf word)
 
 -- a row that nobody names; the root, which is the last, is exempt
 unfoldable pub unnamed : List ℕ → ℕ → ℕ → Bool

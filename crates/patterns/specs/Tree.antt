@@ -3,9 +3,9 @@ use Prim.Native.Nat.{ℕ, zero, suc, _-_}
 use mathlib.Core.List.{List, [], _∷_, _++_}
 use lib.ListN.{length, getD}
 use Rattle.patterns.specs.Pattern.{Key, plainKey, opKey, certifiedKey, Pattern, object, raw, constant, opposite, keyOf, encryption, signature, hash, tuple, letIn, Parts, end, part}
-use Rattle.patterns.specs.Row.{Fields, fieldsOf, children}
+use Rattle.patterns.specs.Row.{PatternFields, patternFields, children}
 
-abbrev pub keyBy : Fields → Key
+abbrev pub keyBy : PatternFields → Key
 keyBy row = getD (plainKey (row .x) ∷ opKey (row .x) (row .y) ∷ certifiedKey (row .x) (row .y) ∷ []) (row .f) (plainKey (row .x))
 
 abbrev pub partsBy : (ℕ → Pattern) → List ℕ → Parts
@@ -13,7 +13,7 @@ partsBy below [] = end
 partsBy below (child ∷ rest) = part (below child) (partsBy below rest)
 
 -- the forms of a row, by tag
-abbrev pub formsBy : (ℕ → Pattern) → ℕ → Fields → List Pattern
+abbrev pub formsBy : (ℕ → Pattern) → ℕ → PatternFields → List Pattern
 formsBy below place row =
     object place (row .v)
     ∷ raw place (row .r)
@@ -27,7 +27,7 @@ formsBy below place row =
     ∷ letIn place (row .r) (below (getD (row .slots) 0 0)) (below (getD (row .slots) 1 0))
     ∷ []
 
-abbrev pub formBy : (ℕ → Pattern) → ℕ → Fields → Pattern
+abbrev pub formBy : (ℕ → Pattern) → ℕ → PatternFields → Pattern
 formBy below place row = getD (formsBy below place row) (row .tag) (object place (row .v))
 
 -- a row that is not there
@@ -41,7 +41,7 @@ patternAt built row = getD built row noPattern
 unfoldable pub patternsFrom : List Pattern → ℕ → List ℕ → List Pattern
 patternsFrom built place [] = built
 patternsFrom built place (word ∷ rest) =
-    patternsFrom (built ++ (formBy (patternAt built) place (fieldsOf word) ∷ [])) (suc place) rest
+    patternsFrom (built ++ (formBy (patternAt built) place (patternFields word) ∷ [])) (suc place) rest
 
 unfoldable pub patternsOf : List ℕ → List Pattern
 patternsOf rows = patternsFrom [] zero rows

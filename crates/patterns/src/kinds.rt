@@ -5,7 +5,7 @@ ghost use lib.ListN.{length};
 ghost use Rattle.numbers.specs.Kinds.{kindIn};
 ghost use Rattle.numbers.specs.Limits.{mostPatternRows};
 ghost use Rattle.word.specs.Lowest.{placeOf};
-ghost use Rattle.patterns.specs.Row.{fieldsOf};
+ghost use Rattle.patterns.specs.Row.{patternFields};
 ghost use Rattle.patterns.specs.Tree.{keyBy};
 ghost use Rattle.patterns.specs.Kinds.{privateSide, publicSide, encryptionKey, wrongKind};
 ghost use Rattle.patterns.specs.RowKinds.{rowKinds};
@@ -25,7 +25,7 @@ fn kind_of(kinds: &[u8], v: Object) -> u8
 
 // What opens or signs is private or shared.
 fn private_side(kinds: &[u8], word: u64) -> bool
-    ensures { λ r. ⌜ r ≡ privateSide (kindIn (now (kinds .entry))) (keyBy (fieldsOf word)) ⌝ }
+    ensures { λ r. ⌜ r ≡ privateSide (kindIn (now (kinds .entry))) (keyBy (patternFields word)) ⌝ }
 {
     let key = kind_of(kinds, row::key(word));
     let form = row::key_form(word);
@@ -38,7 +38,7 @@ fn private_side(kinds: &[u8], word: u64) -> bool
 
 // What seals or verifies is public or shared.
 fn public_side(kinds: &[u8], word: u64) -> bool
-    ensures { λ r. ⌜ r ≡ publicSide (kindIn (now (kinds .entry))) (keyBy (fieldsOf word)) ⌝ }
+    ensures { λ r. ⌜ r ≡ publicSide (kindIn (now (kinds .entry))) (keyBy (patternFields word)) ⌝ }
 {
     let key = kind_of(kinds, row::key(word));
     let other = kind_of(kinds, row::y(word));
@@ -52,7 +52,7 @@ fn public_side(kinds: &[u8], word: u64) -> bool
 
 // The key of a created E or, the other way round, of a created S.
 fn key_fits(create: bool, kinds: &[u8], word: u64) -> bool
-    ensures { λ r. ⌜ r ≡ encryptionKey create (kindIn (now (kinds .entry))) (keyBy (fieldsOf word)) ⌝ }
+    ensures { λ r. ⌜ r ≡ encryptionKey create (kindIn (now (kinds .entry))) (keyBy (patternFields word)) ⌝ }
 {
     if create {
         public_side(kinds, word)
@@ -62,7 +62,7 @@ fn key_fits(create: bool, kinds: &[u8], word: u64) -> bool
 }
 
 fn row_kinds(create: bool, kinds: &[u8], word: u64) -> bool
-    ensures { λ r. ⌜ r ≡ rowKinds create (kindIn (now (kinds .entry))) (fieldsOf word) ⌝ }
+    ensures { λ r. ⌜ r ≡ rowKinds create (kindIn (now (kinds .entry))) (patternFields word) ⌝ }
 {
     let own = kind_of(kinds, row::variable(word));
     let other = kind_of(kinds, row::y(word));

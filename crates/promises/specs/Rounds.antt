@@ -12,7 +12,7 @@ use Rattle.code.specs.GoodWords.{GoodWord}
 use Rattle.terms.specs.Rules.{usedRows}
 use Rattle.terms.specs.Table.{ValidTable}
 use Rattle.stores.specs.Cells.{unset}
-use Rattle.stores.specs.ValidStores.{UnsetOrUsed}
+use Rattle.stores.specs.GoodStores.{UnsetOrUsed}
 use Rattle.theory.specs.Outcome.{Outcome, done, stuck, room}
 use Rattle.theory.specs.RowModel.{rowWorld}
 use Rattle.theory.specs.Machine.{State, exec}

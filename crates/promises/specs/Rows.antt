@@ -8,15 +8,15 @@ use Rattle.word.specs.All.{All}
 use Rattle.word.specs.Fields.{split, at}
 use Rattle.terms.specs.Row.{rowOf, tagOf, shapeOf}
 
-pub record Fields : Type 0 where
+pub record TermFields : Type 0 where
   pub tag : ℕ
   pub n : ℕ
   pub zero : ℕ
   -- C1 to C4
   pub parts : List ℕ
 
-abbrev pub fieldsOf : ℕ → Fields
-fieldsOf word =
+abbrev pub termFields : ℕ → TermFields
+termFields word =
     let all = split (4 ∷ 4 ∷ 8 ∷ 12 ∷ 12 ∷ 12 ∷ 12 ∷ []) word in
     record { tag = at 0 all; n = at 1 all; zero = at 2 all; parts = at 3 all ∷ at 4 all ∷ at 5 all ∷ at 6 all ∷ [] }
 
@@ -26,13 +26,13 @@ AllZero parts = All (λ part. part ≡ 0) parts
 -- known tag, and every field that the tag does not use is zero
 pub record PackedRow (word : ℕ) : Type 0 where
   pub bits : word < 2 ^ 64
-  pub known : (1 ≤ fieldsOf word .tag) × (fieldsOf word .tag ≤ 10)
+  pub known : (1 ≤ termFields word .tag) × (termFields word .tag ≤ 10)
   -- a byte, a name, an agent: below the tag there is a number in the low 16 bits and nothing else
-  pub number : fieldsOf word .tag ≤ 6 → word % 2 ^ 60 < 2 ^ 16
-  pub encryption : fieldsOf word .tag ≡ 7 → (fieldsOf word .n ≡ 0) × (fieldsOf word .zero ≡ 0) × AllZero (drop 2 (fieldsOf word .parts))
-  pub signature : fieldsOf word .tag ≡ 8 → (fieldsOf word .n ≡ 0) × (fieldsOf word .zero ≡ 0) × AllZero (drop 2 (fieldsOf word .parts))
-  pub hash : fieldsOf word .tag ≡ 9 → (fieldsOf word .n ≡ 0) × (fieldsOf word .zero ≡ 0) × AllZero (drop 1 (fieldsOf word .parts))
-  pub tuple : fieldsOf word .tag ≡ 10 → (fieldsOf word .n ≤ 4) × (fieldsOf word .zero ≡ 0) × AllZero (drop (fieldsOf word .n) (fieldsOf word .parts))
+  pub number : termFields word .tag ≤ 6 → word % 2 ^ 60 < 2 ^ 16
+  pub encryption : termFields word .tag ≡ 7 → (termFields word .n ≡ 0) × (termFields word .zero ≡ 0) × AllZero (drop 2 (termFields word .parts))
+  pub signature : termFields word .tag ≡ 8 → (termFields word .n ≡ 0) × (termFields word .zero ≡ 0) × AllZero (drop 2 (termFields word .parts))
+  pub hash : termFields word .tag ≡ 9 → (termFields word .n ≡ 0) × (termFields word .zero ≡ 0) × AllZero (drop 1 (termFields word .parts))
+  pub tuple : termFields word .tag ≡ 10 → (termFields word .n ≤ 4) × (termFields word .zero ≡ 0) × AllZero (drop (termFields word .n) (termFields word .parts))
 
 -- and that is what the known tag and the packing equation of a good row come to
 pub record Rows : Type 0 where

@@ -12,7 +12,7 @@ use Rattle.word.proofs.All.{all-map}
 use Rattle.word.proofs.TestLaws.{both, fails, equals, is-below}
 use Rattle.word.proofs.LowestLaws.{each-all}
 use Rattle.stores.specs.Certificates.{agentOf, keyOf, pairFits, agentsOnce}
-use Rattle.stores.specs.ValidStores.{GoodPair, AgentsOnce, ValidCertificates}
+use Rattle.stores.specs.GoodStores.{GoodPair, AgentsOnce, ValidCertificates}
 
 good-pair : (rows : List ℕ) (used word : ℕ) → T (pairFits rows used word) ↔ GoodPair rows used word
 unfolding pairFits

@@ -15,7 +15,7 @@ use Rattle.terms.specs.Row.{tagOf}
 use Rattle.stores.specs.Cells.{unset, isSet}
 use Rattle.stores.specs.Certificates.{pairFits, agentsOnce}
 use Rattle.stores.specs.Valid.{kindsFit, eachVariable, undeclaredUnset, cellFits, objectFits, declared, valid}
-use Rattle.stores.specs.ValidStores.{EachVariable, UndeclaredUnset, HoldsKind, UnsetOrUsed, KnownKinds, Declared, ValidStores}
+use Rattle.stores.specs.GoodStores.{EachVariable, UndeclaredUnset, HoldsKind, UnsetOrUsed, KnownKinds, Declared, GoodStores}
 use Rattle.stores.proofs.CertificateLaws.{valid-certificates}
 
 -- each test, as a proposition
@@ -81,7 +81,7 @@ module _ (rows : List ℕ) (used : ℕ) (kinds objects messages certificates : L
       six : (a b c d e f : Bool) → T (a && b && c && d && e && f) ↔ ((T a × T b × T c) × T (d && e) × T f)
       six a b c d e f = simp both (λ h. ((h .0 .0 .0 .0 .0, h .0 .0 .0 .0 .1, h .0 .0 .0 .1), (h .0 .0 .1, h .0 .1), h .1), λ h. (((((h .0 .0, h .0 .1), h .0 .2), h .1 .0), h .1 .1), h .2))
 
-  pub valid-stores : T (valid rows used kinds objects messages certificates accumulator) ↔ ValidStores rows used kinds objects messages certificates accumulator
+  pub valid-stores : T (valid rows used kinds objects messages certificates accumulator) ↔ GoodStores rows used kinds objects messages certificates accumulator
   valid-stores =
       Iff·trans stores-parts
       (simp (known-kinds, objects-fit, cells-fit, valid-certificates rows used certificates, unset-or-used used accumulator) (

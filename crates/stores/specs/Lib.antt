@@ -2,4 +2,4 @@
 pub mod Cells
 pub mod Certificates
 pub mod Valid
-pub mod ValidStores
+pub mod GoodStores

@@ -20,7 +20,7 @@ use Rattle.terms.specs.Table.{NumberFits}
 use Rattle.terms.proofs.TableLaws.{GoodShape, good-word}
 use Rattle.terms.proofs.FinderLaws.{located-as}
 use Rattle.stores.specs.Certificates.{agentOf, keyOf, certified}
-use Rattle.stores.specs.ValidStores.{GoodPair}
+use Rattle.stores.specs.GoodStores.{GoodPair}
 use Rattle.theory.specs.Outcome.{got, full}
 use Rattle.theory.specs.Model.{numberOf}
 use Rattle.theory.specs.RowModel.{Table, withRows, withCounter, name, placed, rowModel, rowWorld}

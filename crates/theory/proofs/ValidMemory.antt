@@ -8,7 +8,7 @@ use lib.Seq.{getD-set-other}
 use Rattle.terms.specs.Rules.{usedRows}
 use Rattle.terms.specs.Table.{GoodTerm, ValidTable}
 use Rattle.terms.proofs.TableLaws.{used-rows, used-added, valid-added, valid-raised}
-use Rattle.stores.specs.ValidStores.{ValidCertificates}
+use Rattle.stores.specs.GoodStores.{ValidCertificates}
 use Rattle.stores.proofs.CertificateLaws.{certificates-kept}
 use Rattle.theory.specs.RowModel.{Table, withRows, withCounter}
 use Rattle.numbers.specs.Limits.{mostNames}

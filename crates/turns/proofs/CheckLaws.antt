@@ -25,41 +25,41 @@ use Rattle.calls.specs.Frame.{badRoundWord}
 use Rattle.calls.specs.Round.{RoundLent, received, untouched, roundLengthsFit, recordFits, roundRefusals, roundBy, round}
 use Rattle.calls.proofs.CompileLaws.{first-none, when-none, map-none}
 use Rattle.calls.proofs.RunLaws.{storesFit, stores-valid}
-use Rattle.turns.specs.Found.{turnRefusals, foundBy}
+use Rattle.turns.specs.Found.{turnRefusals, roundFinding}
 use Rattle.turns.specs.declared.checks.Finding.{Finding}
 use Rattle.turns.specs.declared.checks.Finding.the-variants.{Refused, Accepted}
 
 -- 14, 13, 12
 module _ (session : Session) (rounds used : ℕ) where
-  pub turn-ended : rounds ≤ session .round → Refused RoleEnded ≡ foundBy (first (turnRefusals session rounds)) used
+  pub turn-ended : rounds ≤ session .round → Refused RoleEnded ≡ roundFinding (first (turnRefusals session rounds)) used
   unfolding first
   turn-ended past = rw (le-leb rounds (session .round) past)
 
   module _ (before : session .round < rounds) where
-    pub turn-waits : isSet (session .answer) ≡ true → Refused NotTaken ≡ foundBy (first (turnRefusals session rounds)) used
+    pub turn-waits : isSet (session .answer) ≡ true → Refused NotTaken ≡ roundFinding (first (turnRefusals session rounds)) used
     unfolding first
     turn-waits set = rw (lt-leb rounds (session .round) before, set)
 
     module _ (taken : isSet (session .answer) ≡ false) where
-      pub turn-empty : isSet (session .message) ≡ false → Refused NoMessage ≡ foundBy (first (turnRefusals session rounds)) used
+      pub turn-empty : isSet (session .message) ≡ false → Refused NoMessage ≡ roundFinding (first (turnRefusals session rounds)) used
       unfolding first
       turn-empty unset = rw (lt-leb rounds (session .round) before, taken, unset)
 
-      pub turn-accepted : isSet (session .message) ≡ true → Accepted used ≡ foundBy (first (turnRefusals session rounds)) used
+      pub turn-accepted : isSet (session .message) ≡ true → Accepted used ≡ roundFinding (first (turnRefusals session rounds)) used
       unfolding first
       turn-accepted set = rw (lt-leb rounds (session .round) before, taken, set)
 
-pub found-some : (o : Option Rounded) (used : ℕ) {answer : Rounded} → Refused answer ≡ foundBy o used → o ≡ some answer
+pub found-some : (o : Option Rounded) (used : ℕ) {answer : Rounded} → Refused answer ≡ roundFinding o used → o ≡ some answer
 found-some (some other) used e = cc
 found-some none used e = absurd (let z : _≡_ {A = ℕ} 0 1 = cc in omega arith)
 
-pub found-none : (o : Option Rounded) {count used : ℕ} → Accepted count ≡ foundBy o used → (o ≡ none) × (count ≡ used)
+pub found-none : (o : Option Rounded) {count used : ℕ} → Accepted count ≡ roundFinding o used → (o ≡ none) × (count ≡ used)
 found-none none e = (refl, cc)
 found-none (some other) e = absurd (let z : _≡_ {A = ℕ} 0 1 = cc in omega arith)
 
 module _ (x : RoundLent) (code : List ℕ) where
   abbrev finding : Finding
-  finding = foundBy (first (roundRefusals x code)) (usedRows (x .terms))
+  finding = roundFinding (first (roundRefusals x code)) (usedRows (x .terms))
 
   -- 1, in two parts
   pub lengths-same : {slices answer : Bool} {counted : ℕ}
@@ -90,7 +90,7 @@ module _ (x : RoundLent) (code : List ℕ) where
         found-word e = rw (fits, rows, holds, e)
 
         pub found-turn : badRoundWord (kindIn (x .kinds)) code ≡ none → {used : ℕ} → used ≡ usedRows (x .terms) → {answer : Finding}
-            → answer ≡ foundBy (first (turnRefusals (x .session) (x .rounds))) used → answer ≡ finding
+            → answer ≡ roundFinding (first (turnRefusals (x .session) (x .rounds))) used → answer ≡ finding
         unfolding first
         found-turn e counted said = said ∙ rw (counted, fits, rows, holds, e)
 

@@ -20,6 +20,6 @@ turnRefusals session rounds =
     ∷ when (not (isSet (session .message))) NoMessage
     ∷ []
 
-abbrev pub foundBy : Option Rounded → ℕ → Finding
-foundBy (some answer) used = Refused answer
-foundBy none used = Accepted used
+abbrev pub roundFinding : Option Rounded → ℕ → Finding
+roundFinding (some answer) used = Refused answer
+roundFinding none used = Accepted used

@@ -7,7 +7,7 @@ ghost use Rattle.stores.specs.Valid.{cellFits, valid};
 ghost use Rattle.terms.specs.Rules.{usedRows};
 ghost use Rattle.numbers.specs.Limits.{variables, messageCells, mostCertificates, mostTermRows, mostNames, mostRounds, mostRoundWords};
 ghost use Rattle.calls.specs.Round.{roundRefusals};
-ghost use Rattle.turns.specs.Found.{turnRefusals, foundBy};
+ghost use Rattle.turns.specs.Found.{turnRefusals, roundFinding};
 use crate::words::first_bad_round_word;
 use answers::Ran;
 use answers::Rounded;
@@ -85,7 +85,7 @@ fn record_fits(
 
 // 14, 13, 12.
 fn turn(session: Session, rounds: u32, used: u16) -> Finding
-    ensures { λ r. ⌜ r ≡ foundBy (first (turnRefusals session rounds)) used ⌝ }
+    ensures { λ r. ⌜ r ≡ roundFinding (first (turnRefusals session rounds)) used ⌝ }
 {
     if rounds <= session.round {
         return Finding::Refused(Rounded::RoleEnded);
@@ -109,7 +109,7 @@ pub fn look(
     terms: &[u64],
     code: &[u32],
 ) -> Finding
-    ensures { λ r. ⌜ r ≡ foundBy (first (roundRefusals (record { session = session; rounds = rounds; kinds = now (kinds .entry); objects = now (objects .entry); messages = now (messages .entry); certificates = now (certificates .entry); terms = now (terms .entry) }) (now (code .entry)))) (usedRows (now (terms .entry))) ⌝ }
+    ensures { λ r. ⌜ r ≡ roundFinding (first (roundRefusals (record { session = session; rounds = rounds; kinds = now (kinds .entry); objects = now (objects .entry); messages = now (messages .entry); certificates = now (certificates .entry); terms = now (terms .entry) }) (now (code .entry)))) (usedRows (now (terms .entry))) ⌝ }
 {
     let counter = session.counter;
     let counted = tables::used_rows(terms);

@@ -16,23 +16,23 @@ use Rattle.theory.specs.Model.{opposite}
 use Rattle.theory.specs.RowModel.{rowModel}
 use Rattle.world.specs.declared.Made.the-variants.{Word, Not}
 use Rattle.world.specs.declared.Named.the-variants as Named
-use Rattle.world.specs.Operations.{Makes, MakesOver, NamesAt}
+use Rattle.world.specs.Operations.{MakesWord, MakesOver, NamesAt}
 use Rattle.world.proofs.LookLaws.{kind-tag, look-atom}
 
 -- terms that can always be made
-pub byte-made : {n word : ℕ} → word ≡ rowOf (atom 1 n) → Makes (byte n) word
+pub byte-made : {n word : ℕ} → word ≡ rowOf (atom 1 n) → MakesWord (byte n) word
 byte-made packs = record { says = λ x. rw packs }
 
-pub encrypt-made : {key body word : ℕ} → word ≡ rowOf (encrypted key body) → Makes (encrypt key body) word
+pub encrypt-made : {key body word : ℕ} → word ≡ rowOf (encrypted key body) → MakesWord (encrypt key body) word
 encrypt-made packs = record { says = λ x. rw packs }
 
-pub sign-made : {key body word : ℕ} → word ≡ rowOf (signed key body) → Makes (sign key body) word
+pub sign-made : {key body word : ℕ} → word ≡ rowOf (signed key body) → MakesWord (sign key body) word
 sign-made packs = record { says = λ x. rw packs }
 
-pub hash-made : {body word : ℕ} → word ≡ rowOf (hashed body) → Makes (hash body) word
+pub hash-made : {body word : ℕ} → word ≡ rowOf (hashed body) → MakesWord (hash body) word
 hash-made packs = record { says = λ x. rw packs }
 
-pub tuple-made : {parts : List ℕ} {word : ℕ} → word ≡ rowOf (tupled parts) → Makes (tuple parts) word
+pub tuple-made : {parts : List ℕ} {word : ℕ} → word ≡ rowOf (tupled parts) → MakesWord (tuple parts) word
 tuple-made packs = record { says = λ x. rw packs }
 
 pub ruleset making-ways = (byte-made, encrypt-made, sign-made, hash-made, tuple-made)

@@ -51,7 +51,7 @@ asTested Tested.Holds = got tt
 asTested (Tested.Not reason) = not (reasonNumber reason)
 
 -- a term is made in any memory, and a condition tested
-pub record Makes (o : Op ℕ) (word : ℕ) : Type 0 where
+pub record MakesWord (o : Op ℕ) (word : ℕ) : Type 0 where
   pub says : (x : Table) → rowWorld .apply o x ≡ finding x word
 
 pub record Tests (t : Test ℕ) (answer : Tested) : Type 0 where

@@ -3,7 +3,7 @@ ghost use Prim.Native.Nat.{_≤_, _<_};
 ghost use lib.ListN.{take};
 ghost use Rattle.numbers.specs.Limits.{mostParts};
 ghost use Rattle.theory.specs.World.{byte, op, encrypt, sign, hash, tuple};
-ghost use Rattle.world.specs.Operations.{Makes, MakesOver, NamesAt};
+ghost use Rattle.world.specs.Operations.{MakesWord, MakesOver, NamesAt};
 use super::Made;
 use super::Named;
 use answers::Reason;
@@ -14,7 +14,7 @@ use numbers::kinds::PUBLIC_KEY;
 use numbers::limits::MOST_NAMES;
 
 pub fn byte(number: u8) -> u64
-    ensures { λ r. ⌜ Makes (byte number) r ⌝ }
+    ensures { λ r. ⌜ MakesWord (byte number) r ⌝ }
 {
     terms::atom_word(BYTE, number as u16)
 }
@@ -42,19 +42,19 @@ pub fn opposite(rows: &[u64], key: TermRow) -> Made
 }
 
 pub fn encrypt(key: TermRow, body: TermRow) -> u64
-    ensures { λ r. ⌜ Makes (encrypt (key .0) (body .0)) r ⌝ }
+    ensures { λ r. ⌜ MakesWord (encrypt (key .0) (body .0)) r ⌝ }
 {
     terms::encrypted_word(key, body)
 }
 
 pub fn sign(key: TermRow, body: TermRow) -> u64
-    ensures { λ r. ⌜ Makes (sign (key .0) (body .0)) r ⌝ }
+    ensures { λ r. ⌜ MakesWord (sign (key .0) (body .0)) r ⌝ }
 {
     terms::signed_word(key, body)
 }
 
 pub fn hash(body: TermRow) -> u64
-    ensures { λ r. ⌜ Makes (hash (body .0)) r ⌝ }
+    ensures { λ r. ⌜ MakesWord (hash (body .0)) r ⌝ }
 {
     terms::hashed_word(body)
 }
@@ -62,7 +62,7 @@ pub fn hash(body: TermRow) -> u64
 // The tuple of the first n of four rows.
 pub fn tuple(rows: [u16; 4], n: usize) -> u64
     requires { ⌜ n ≤ mostParts ⌝ }
-    ensures { λ r. ⌜ Makes (tuple (take n rows)) r ⌝ }
+    ensures { λ r. ⌜ MakesWord (tuple (take n rows)) r ⌝ }
 {
     terms::tuple_word(rows, n)
 }

@@ -7,14 +7,14 @@ use lib.ListN.{length, getD}
 use borrow.Author.Needs.{needs, scaled-fits}
 use Rattle.word.specs.Lowest.{placeOf}
 use Rattle.word.proofs.ScanLaws.{Left, scan-hit, scan-miss, scan-end}
-use Rattle.patterns.specs.Row.{fieldsOf}
+use Rattle.patterns.specs.Row.{patternFields}
 use Rattle.patterns.specs.RowKinds.{rowKinds}
 use Rattle.patterns.proofs.KindLaws.{wrong-rows}
 use Rattle.patterns.proofs.kinds.first_wrong_kind.Statement.{statement}
 use Rattle.patterns.proofs.kinds.first_wrong_kind.Tie as tie
 
 abbrev wrong : Bool → List ℕ → ℕ → ℕ → Bool
-wrong create kinds place word = not (rowKinds create (λ v. getD kinds v 0) (fieldsOf word))
+wrong create kinds place word = not (rowKinds create (λ v. getD kinds v 0) (patternFields word))
 
 abbrev Inv-loop : tie.InvT-loop
 Inv-loop create kinds rows place₀ place = (place ≤ length rows) × Left (wrong create kinds) rows place

@@ -1,5 +1,5 @@
 use mathlib.Core.Path.{_∙_}
-use Rattle.patterns.specs.Row.{fieldsOf}
+use Rattle.patterns.specs.Row.{patternFields}
 use Rattle.word.proofs.OneOfLaws.{one-of-pair}
 use Rattle.patterns.proofs.KindLaws.{plain-else}
 use borrow.Author.Needs.{needs}
@@ -25,7 +25,7 @@ returns-3 : tie.Need-returns-3
 returns-3 c =
     let read = c .before .before in
     let form = c .before .key-form .ensures in
-    one-of-pair (read .kind-of .result) 5 6 ∙ rw (plain-else (fieldsOf (read .before .before .before .args .word)) (λ op. c .match .rest .0 .1 (form ∙ op)) (λ own. c .match .rest .1 (form ∙ own)), read .kind-of .ensures, read .before .key .ensures)
+    one-of-pair (read .kind-of .result) 5 6 ∙ rw (plain-else (patternFields (read .before .before .before .args .word)) (λ op. c .match .rest .0 .1 (form ∙ op)) (λ own. c .match .rest .1 (form ∙ own)), read .kind-of .ensures, read .before .key .ensures)
 
 pub private-side-spec : {M : Type 1} → statement M
 private-side-spec =

@@ -1,5 +1,5 @@
 use native.Mathlib.Omega.{arith}
-use Rattle.patterns.specs.Row.{fieldsOf}
+use Rattle.patterns.specs.Row.{patternFields}
 use Rattle.patterns.specs.RowKinds.{kindsBy}
 use Rattle.word.proofs.ArmLaws.{past}
 use Rattle.patterns.proofs.KindLaws.{other-way, kinds-past}
@@ -71,7 +71,7 @@ returns-10 c = rw (← c .before .tag .ensures, c .match .keys10)
 returns-11 : tie.Need-returns-11
 returns-11 c =
     let word = c .before .before .before .before .before .before .before .args .word in
-    rw (kinds-past _ _ (fieldsOf word) (rw (← c .before .tag .ensures) (past 0 10 (c .before .tag .result) (c .match .rest) (omega arith))), c .before .before .before .before .kind-of .ensures, c .before .before .before .before .before .variable .ensures)
+    rw (kinds-past _ _ (patternFields word) (rw (← c .before .tag .ensures) (past 0 10 (c .before .tag .result) (c .match .rest) (omega arith))), c .before .before .before .before .kind-of .ensures, c .before .before .before .before .before .variable .ensures)
 
 pub row-kinds-spec : {M : Type 1} → statement M
 row-kinds-spec =

@@ -1,5 +1,5 @@
 use borrow.Author.Needs.{needs}
-use Rattle.patterns.specs.Row.{fieldsOf}
+use Rattle.patterns.specs.Row.{patternFields}
 use Rattle.patterns.proofs.row.raw.Statement.{statement}
 use Rattle.patterns.proofs.row.raw.Tie as tie
 
@@ -7,7 +7,7 @@ cast-t4 : tie.Need-cast-t4
 cast-t4 c = search needs
 
 returns : tie.Need-returns
-unfolding fieldsOf
+unfolding patternFields
 returns c = search needs
 
 pub raw-spec : {M : Type 1} → statement M

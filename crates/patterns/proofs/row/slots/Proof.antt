@@ -1,5 +1,5 @@
 use borrow.Author.Needs.{needs}
-use Rattle.patterns.specs.Row.{fieldsOf}
+use Rattle.patterns.specs.Row.{patternFields}
 use Rattle.patterns.proofs.row.slots.Statement.{statement}
 use Rattle.patterns.proofs.row.slots.Tie as tie
 
@@ -16,7 +16,7 @@ cast-t13 : tie.Need-cast-t13
 cast-t13 c = search needs
 
 returns : tie.Need-returns
-unfolding fieldsOf
+unfolding patternFields
 returns c = search needs
 
 pub slots-spec : {M : Type 1} → statement M

@@ -1,5 +1,5 @@
 use borrow.Author.Needs.{needs}
-use Rattle.patterns.specs.Row.{fieldsOf}
+use Rattle.patterns.specs.Row.{patternFields}
 use Rattle.patterns.proofs.row.spare.Statement.{statement}
 use Rattle.patterns.proofs.row.spare.Tie as tie
 
@@ -7,7 +7,7 @@ cast-result : tie.Need-cast-result
 cast-result c = search needs
 
 returns : tie.Need-returns
-unfolding fieldsOf
+unfolding patternFields
 returns c = search needs
 
 pub spare-spec : {M : Type 1} → statement M

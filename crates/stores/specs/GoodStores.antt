@@ -51,7 +51,7 @@ pub record Declared (kinds objects : List ℕ) : Type 0 where
   pub undeclared : EachVariable UndeclaredUnset kinds objects
 
 -- not 3, as run sees it
-pub record ValidStores (rows : List ℕ) (used : ℕ) (kinds objects messages certificates : List ℕ) (accumulator : ℕ) : Type 0 where
+pub record GoodStores (rows : List ℕ) (used : ℕ) (kinds objects messages certificates : List ℕ) (accumulator : ℕ) : Type 0 where
   pub known : KnownKinds kinds
   pub undeclared : EachVariable UndeclaredUnset kinds objects
   pub typed : EachVariable (HoldsKind rows used) kinds objects
