@@ -66,15 +66,15 @@ pub fn look(
     ) {
         return Finding::Refused(Ran::Limit, 0);
     }
-    let checked = terms::first_bad_row(rows, counter);
+    let checked = tables::first_bad_row(rows, counter);
     match checked {
         Checked::Bad(row) => {
-            let counted = terms::used_rows(rows) as u16;
+            let counted = tables::used_rows(rows) as u16;
             Finding::Refused(Ran::BadTerm(row), counted)
         }
         Checked::Used(count) => {
             let used = count as u16;
-            if !stores::valid(
+            if !validity::valid(
                 rows,
                 used,
                 kinds,
@@ -85,7 +85,7 @@ pub fn look(
             ) {
                 return Finding::Refused(Ran::BadStore, used);
             }
-            let place = code::first_bad_word(kinds, words);
+            let place = operands::first_bad_word(kinds, words);
             match place {
                 Place::At(word) => Finding::Refused(Ran::BadWord(word), used),
                 Place::Nowhere => Finding::Accepted(used),

@@ -27,7 +27,7 @@ impl Registers {
     {
         let used = self.used;
         let word = world::byte(byte);
-        let Found::At(row, used) = terms::find(rows, used, word) else {
+        let Found::At(row, used) = finder::find(rows, used, word) else {
             return Step::NoRoom;
         };
         set_object(objects, c, row);
@@ -48,7 +48,7 @@ impl Registers {
             return Step::NoRoom;
         };
         let used = self.used;
-        let Found::At(row, used) = terms::find(rows, used, word) else {
+        let Found::At(row, used) = finder::find(rows, used, word) else {
             return Step::NoRoom;
         };
         set_object(objects, v, row);
@@ -78,7 +78,7 @@ impl Registers {
             Made::Not(reason) => Step::Stuck(reason),
             Made::Word(word) => {
                 let used = self.used;
-                let Found::At(row, used) = terms::find(rows, used, word) else {
+                let Found::At(row, used) = finder::find(rows, used, word) else {
                     return Step::NoRoom;
                 };
                 set_object(objects, public, row);
@@ -103,7 +103,7 @@ impl Registers {
         }
         let used = self.used;
         let word = world::encrypt(key, body);
-        let Found::At(row, used) = terms::find(rows, used, word) else {
+        let Found::At(row, used) = finder::find(rows, used, word) else {
             return Step::NoRoom;
         };
         Step::Next(self.using_rows(used).holding(row))
@@ -125,7 +125,7 @@ impl Registers {
         }
         let used = self.used;
         let word = world::sign(key, body);
-        let Found::At(row, used) = terms::find(rows, used, word) else {
+        let Found::At(row, used) = finder::find(rows, used, word) else {
             return Step::NoRoom;
         };
         Step::Next(self.using_rows(used).holding(row))
@@ -142,7 +142,7 @@ impl Registers {
         }
         let used = self.used;
         let word = world::hash(body);
-        let Found::At(row, used) = terms::find(rows, used, word) else {
+        let Found::At(row, used) = finder::find(rows, used, word) else {
             return Step::NoRoom;
         };
         Step::Next(self.using_rows(used).holding(row))

@@ -92,7 +92,7 @@ impl Registers {
         }
         let used = self.used;
         let word = world::tuple(parts, count);
-        let Found::At(row, used) = terms::find(rows, used, word) else {
+        let Found::At(row, used) = finder::find(rows, used, word) else {
             return Step::NoRoom;
         };
         set_object(objects, t, row);

@@ -3,4 +3,3 @@ pub mod Cells
 pub mod Certificates
 pub mod Valid
 pub mod GoodStores
-pub mod Answer

@@ -4,5 +4,3 @@ pub mod ShapeLaws
 pub mod RowLaws
 pub mod TableLaws
 pub mod FinderLaws
-pub mod BlockLaws
-pub mod RuleLaws

@@ -5,7 +5,7 @@ use mathlib.Core.List.{List, [], _∷_}
 use native.Mathlib.Decide.{ℕ-discrete}
 use native.Mathlib.Omega.{arith}
 use lib.ListN.{length, getD, take, drop}
-use lib.Seq.{getD-take, getD-drop}
+use lib.Seq.{getD-take, getD-drop, length-take-le, take-all}
 use borrow.Author.Tests.{ne-eqb}
 use Rattle.word.specs.Fields.{split, at}
 use Rattle.terms.specs.Shape.{Shape, atom, encrypted, signed, hashed, tupled, partsOf}
@@ -85,3 +85,25 @@ module _ (word : ℕ) where
   pub parts-at : (slot : ℕ) → slot < length (partsOf (shapeOf word)) → getD (partsOf (shapeOf word)) slot 0 ≡ field (3 + slot) word
   parts-at slot h =
       ap (λ (parts : List ℕ). getD parts slot 0) parts-taken ∙ getD-take _ (slotsOf word) slot 0 h ∙ getD-drop 3 (split termWidths word) slot 0
+
+-- how many slots a row uses, by its tag
+module _ (word tag : ℕ) (is : tag ≡ tagOf word) where
+  pub slots-encrypted : tag ≡ 7 → 2 ≡ length (partsOf (shapeOf word))
+  slots-encrypted e = rw (shape-encrypted word (sym is ∙ e))
+
+  pub slots-signed : tag ≡ 8 → 2 ≡ length (partsOf (shapeOf word))
+  slots-signed e = rw (shape-signed word (sym is ∙ e))
+
+  pub slots-hashed : tag ≡ 9 → 1 ≡ length (partsOf (shapeOf word))
+  slots-hashed e = rw (shape-hashed word (sym is ∙ e))
+
+  pub slots-tupled : (n : ℕ) → tag ≡ 10 → n ≡ field 1 word → n < 4 → n ≡ length (partsOf (shapeOf word))
+  slots-tupled n e count h = rw (shape-tupled word (sym is ∙ e), ← count, length-take-le n (slotsOf word) (omega arith))
+
+  pub slots-full : (n : ℕ) → tag ≡ 10 → n ≡ field 1 word → 4 ≤ n → 4 ≡ length (partsOf (shapeOf word))
+  slots-full n e count h = rw (shape-tupled word (sym is ∙ e), ← count, take-all n (slotsOf word) h)
+
+  pub slots-atom : (tag ≡ 7 → ⊥) → (tag ≡ 8 → ⊥) → (tag ≡ 9 → ⊥) → (tag ≡ 10 → ⊥) → 0 ≡ length (partsOf (shapeOf word))
+  slots-atom a b c d = rw (shape-atom word (λ low high. omega arith))
+
+pub ruleset slots-ways = (slots-encrypted, slots-signed, slots-hashed, slots-tupled, slots-full, slots-atom, arith)

@@ -1,11 +1,8 @@
 // The term table.
 use numbers::TermRow;
 
-mod finder;
 mod row;
-mod rules;
 
-pub use finder::find;
 pub use row::atom_word;
 pub use row::encrypted_word;
 pub use row::hashed_word;
@@ -16,10 +13,7 @@ pub use row::row_at;
 pub use row::signed_word;
 pub use row::tag;
 pub use row::tuple_word;
-pub use rules::first_bad_row;
-pub use rules::row_fits;
-pub use rules::used_rows;
-pub use rules::used_slots;
+pub use row::used_slots;
 
 // What the finder answers: the term's row and the number of used rows then, or that there is no room.
 pub enum Found {

@@ -1,13 +1,14 @@
 // A term row's fields, and the words of shapes.
 ghost use mathlib.Core.Path.{_≡_};
 ghost use Prim.Native.Nat.{_+_, _<_, _≤_};
-ghost use lib.ListN.{take};
+ghost use lib.ListN.{length, take};
 ghost use Rattle.word.specs.Fields.{split, at};
 ghost use Rattle.numbers.specs.Limits.{mostParts};
-ghost use Rattle.terms.specs.Shape.{atom, encrypted, signed, hashed, tupled};
-ghost use Rattle.terms.specs.Row.{termWidths, atomWidths, tagOf, rowOf, rowAt};
+ghost use Rattle.terms.specs.Shape.{atom, encrypted, signed, hashed, tupled, partsOf};
+ghost use Rattle.terms.specs.Row.{termWidths, atomWidths, tagOf, shapeOf, rowOf, rowAt};
 use numbers::TermRow;
 use numbers::kinds;
+use numbers::limits::MOST_PARTS;
 
 // The row at a number, and the unused row past the end.
 pub fn row_at(rows: &[u64], row: TermRow) -> u64
@@ -40,6 +41,23 @@ pub fn part(word: u64, slot: usize) -> TermRow
     ensures { λ r. ⌜ r .0 ≡ at (3 + slot) (split termWidths word) ⌝ }
 {
     TermRow(((word >> (36 - 12 * slot as u64)) % 4096) as u16)
+}
+
+// How many of its four slots a row uses, the key counted.
+pub fn used_slots(word: u64) -> usize
+    ensures { λ r. ⌜ (r ≡ length (partsOf (shapeOf word))) × (r ≤ mostParts) ⌝ }
+{
+    let t = tag(word);
+    match t {
+        kinds::ENCRYPTION => 2,
+        kinds::SIGNATURE => 2,
+        kinds::HASH => 1,
+        kinds::TUPLE => {
+            let n = part_count(word) as usize;
+            if n < MOST_PARTS { n } else { MOST_PARTS }
+        }
+        _ => 0,
+    }
 }
 
 pub fn atom_word(tag: u8, number: u16) -> u64

@@ -71,7 +71,7 @@ fn record_fits(
 ) -> bool
     ensures { λ r. ⌜ r ≡ (valid (now (terms .entry)) used (now (kinds .entry)) (now (objects .entry)) (now (messages .entry)) (now (certificates .entry)) (session .message) && cellFits used (session .answer)) ⌝ }
 {
-    stores::valid(
+    validity::valid(
         terms,
         used,
         kinds,
@@ -112,7 +112,7 @@ pub fn look(
     ensures { λ r. ⌜ r ≡ roundFinding (first (roundRefusals (record { session = session; rounds = rounds; kinds = now (kinds .entry); objects = now (objects .entry); messages = now (messages .entry); certificates = now (certificates .entry); terms = now (terms .entry) }) (now (code .entry)))) (usedRows (now (terms .entry))) ⌝ }
 {
     let counter = session.counter;
-    let counted = terms::used_rows(terms);
+    let counted = tables::used_rows(terms);
     let slices = slices_fit(
         kinds.len(),
         objects.len(),
@@ -125,7 +125,7 @@ pub fn look(
         return Finding::Refused(Rounded::Ran(Ran::Limit));
     }
     let used = counted as u16;
-    let checked = terms::first_bad_row(terms, counter);
+    let checked = tables::first_bad_row(terms, counter);
     match checked {
         Checked::Bad(row) => Finding::Refused(Rounded::Ran(Ran::BadTerm(row))),
         Checked::Used(_) => {

@@ -22,7 +22,7 @@ fn good_round_word(kinds: &[u8], words: usize, place: usize, word: u32) -> bool
     if place + 1 == words {
         return word == OUTPUT;
     }
-    code::good_word(kinds, word)
+    operands::good_word(kinds, word)
 }
 
 // Refusal 9.

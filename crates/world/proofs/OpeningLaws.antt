@@ -18,9 +18,9 @@ use Rattle.terms.specs.Shape.{Shape, atom, encrypted, signed, hashed, tupled, k
 use Rattle.terms.specs.Row.{termWidths, tagOf, shapeOf}
 use Rattle.terms.proofs.ShapeLaws.{shape-tupled}
 use Rattle.stores.specs.Certificates.{agentOf, keyOf as keyIn, certified}
-use Rattle.stores.specs.Answer.{certificateOf}
-use Rattle.stores.specs.declared.Certificate.{Certificate}
-use Rattle.stores.specs.declared.Certificate.the-variants.{Key, None}
+use Rattle.certificates.specs.Answer.{certificateOf}
+use Rattle.certificates.specs.declared.Certificate.{Certificate}
+use Rattle.certificates.specs.declared.Certificate.the-variants.{Key, None}
 use Rattle.theory.specs.Outcome.{got, andThen, sure}
 use Rattle.theory.specs.Outcome as Outcome
 use Rattle.theory.specs.World.{decrypt}

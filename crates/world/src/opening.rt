@@ -5,16 +5,16 @@ use super::Opened;
 use super::Parted;
 use super::keys::goes_with;
 use answers::Reason;
+use certificates::Certificate;
 use numbers::TermRow;
 use numbers::kinds::ENCRYPTION;
 use numbers::kinds::TUPLE;
-use stores::Certificate;
 
 // The public key of an agent's certificate.
 pub fn key_of(certificates: &[u64], agent: TermRow) -> Opened
     ensures { λ r. ⌜ CertifiedBy (now (certificates .entry)) (agent .0) r ⌝ }
 {
-    let Certificate::Key(key) = stores::certified(certificates, agent) else {
+    let Certificate::Key(key) = certificates::certified(certificates, agent) else {
         return Opened::Not(Reason::NoCertificate);
     };
     Opened::Row(key)

@@ -1,0 +1,2 @@
+-- What is said of an agent.
+pub mod Answer

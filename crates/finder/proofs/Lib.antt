@@ -1,0 +1,2 @@
+-- Laws of rows looked at eight at a time.
+pub mod BlockLaws

@@ -1,0 +1,2 @@
+-- Laws of the rules of a row.
+pub mod RuleLaws

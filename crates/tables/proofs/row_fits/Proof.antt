@@ -1,0 +1,97 @@
+-- The rules one after another: each joins what was found so far.
+use Prim.Native.Nat.{ℕ}
+use mathlib.Core.Path.{_≡_, refl, _∙_, ap}
+use mathlib.Core.Logic.{⊎-elim}
+use mathlib.Core.Bool.{Bool, not, _&&_}
+use lib.ListN.{getD}
+use borrow.Author.Needs.{needs}
+use Rattle.terms.specs.Row.{shapeOf}
+use Rattle.terms.specs.Rules.{knownTag, isPacked, numberFits, partsBelow, keyKindFits}
+use Rattle.tables.proofs.RuleLaws.{and-more, and-kept}
+use Rattle.tables.proofs.row_fits.Statement.{statement}
+use Rattle.tables.proofs.row_fits.Tie as tie
+
+-- what is found of the row by the first rules, one more at a time
+module _ (s : tie.Start) where
+  abbrev word : ℕ
+  word = getD (s .args .rows .now) (s .args .row) 0
+
+  abbrev zeros : Bool
+  zeros = knownTag word && isPacked word
+
+  abbrev numbers : Bool
+  numbers = zeros && numberFits (s .args .counter) (shapeOf word)
+
+  abbrev parts : Bool
+  parts = numbers && partsBelow (s .args .row) (shapeOf word)
+
+  abbrev keys : Bool
+  keys = parts && keyKindFits (s .args .rows .now) (shapeOf word)
+
+zeros-join : (c : tie.Joined1) → c .if1 .if2 ≡ zeros (c .before .before .before .before)
+zeros-join c =
+    ⊎-elim (λ w. and-more (c .before .known-tag .ensures) (w .0 .taken) (w .2 ∙ w .1 .ensures))
+    (λ w. and-kept _ (c .before .known-tag .ensures) (w .0 .left) (w .1)) (c .if1 .came)
+
+numbers-join : (c : tie.Joined2) → c .if2 .if3 ≡ numbers (c .before .before .before .before .before)
+numbers-join c =
+    ⊎-elim (λ w. and-more (zeros-join (c .before)) (w .0 .taken) (w .2 ∙ w .1 .ensures))
+    (λ w. and-kept _ (zeros-join (c .before)) (w .0 .left) (w .1))
+    (c .if2 .came)
+
+parts-join : (c : tie.Joined3) → c .if3 .if4 ≡ parts (c .before .before .before .before .before .before)
+parts-join c =
+    ⊎-elim (λ w. and-more (numbers-join (c .before)) (w .0 .taken) (w .2 ∙ w .1 .ensures))
+    (λ w. and-kept _ (numbers-join (c .before)) (w .0 .left) (w .1))
+    (c .if3 .came)
+
+keys-join : (c : tie.Joined4) → c .if4 .if5 ≡ keys (c .before .before .before .before .before .before .before)
+keys-join c =
+    ⊎-elim (λ w. and-more (parts-join (c .before)) (w .0 .taken) (w .2 ∙ w .1 .ensures))
+    (λ w. and-kept _ (parts-join (c .before)) (w .0 .left) (w .1))
+    (c .if4 .came)
+
+mul-word : tie.Need-mul-word
+mul-word c = search needs
+
+shared-slice-read-word : tie.Need-shared-slice-read-word
+shared-slice-read-word c = search needs
+
+known-tag-requires : tie.Need-known-tag-requires
+known-tag-requires c κs = search needs
+
+is-packed-requires : tie.Need-is-packed-requires
+is-packed-requires c κs = search needs
+
+number-fits-requires : tie.Need-number-fits-requires
+number-fits-requires c κs = search needs
+
+parts-below-requires : tie.Need-parts-below-requires
+parts-below-requires c κs = search needs
+
+key-kind-fits-requires : tie.Need-key-kind-fits-requires
+key-kind-fits-requires c κs = search needs
+
+earlier-equal-requires : tie.Need-earlier-equal-requires
+earlier-equal-requires c κs = search needs
+
+returns : tie.Need-returns
+returns c = and-more (keys-join (c .before .before)) (c .before .if5 .taken) (ap not (c .earlier-equal .ensures))
+
+returns-2 : tie.Need-returns-2
+returns-2 c = and-kept _ (keys-join (c .before)) (c .if5 .left) refl
+
+pub row-fits-spec : {M : Type 1} → statement M
+row-fits-spec =
+    tie.close
+    (tie.spec
+    mul-word
+    shared-slice-read-word
+    known-tag-requires
+    is-packed-requires
+    number-fits-requires
+    parts-below-requires
+    key-kind-fits-requires
+    earlier-equal-requires
+    returns
+    returns-2)
