@@ -10,23 +10,9 @@ use Rattle.word.proofs.All.{All, all-getD}
 use Rattle.word.proofs.FieldLaws.{Fit, split-join}
 use Rattle.patterns.specs.Pattern.{Key, plainKey, opKey, certifiedKey, Pattern, object, raw, constant, opposite, keyOf, encryption, signature, hash, tuple, letIn, Parts, end, part}
 use Rattle.patterns.specs.Pattern.{count, size, sizes, RawsBelow, PartsBelow, Packed, PackedParts}
-use Rattle.patterns.specs.Row.{patternWidths, PatternFields, patternFields}
+use Rattle.patterns.specs.Row.{patternWidths, PatternFields, fieldsBy, patternFields}
 use Rattle.patterns.specs.Tree.{partsBy, formBy, noPattern, patternAt, patternsFrom, patternsOf, patternOf}
 use Rattle.patterns.specs.Laid.{rowFields, rowBy, keyForm, keyName, keyOther, rootFrom, roots, laid, laidParts, numbered, numberedParts, bare, bareParts, ObjectsBelow, ObjectsInParts, Fits}
-
-abbrev pub fieldsBy : List ℕ → PatternFields
-fieldsBy all =
-    record {
-      tag = at 0 all;
-      v = at 1 all;
-      f = at 2 all;
-      x = at 3 all;
-      y = at 4 all;
-      r = at 5 all;
-      n = at 6 all;
-      slots = take 4 (drop 7 all);
-      spare = at 11 all;
-    }
 
 -- a row reads as the fields that it was packed from
 row-read : (tag v f x y r : ℕ) (children : List ℕ) → Fit patternWidths (rowFields tag v f x y r children)

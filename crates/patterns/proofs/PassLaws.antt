@@ -17,13 +17,13 @@ use Rattle.word.proofs.LowestLaws.{each-all, lowest-none}
 use Rattle.word.proofs.ScanLaws.{lt-or-ge}
 use Rattle.patterns.specs.Pattern.{Key, plainKey, opKey, certifiedKey, Pattern, object, raw, constant, opposite, keyOf, encryption, signature, hash, tuple, letIn, Parts, end, part}
 use Rattle.patterns.specs.Pattern.{size, sizes, RawsBelow, PartsBelow, Packed, PackedParts}
-use Rattle.patterns.specs.Row.{PatternFields, patternFields, children, childrenOf}
+use Rattle.patterns.specs.Row.{PatternFields, fieldsBy, patternFields, children, childrenOf}
 use Rattle.patterns.specs.Rules.{rowFits, repeats, childrenNamed, badRow, unnamed, badPattern}
 use Rattle.patterns.specs.Laid.{rowFields, rowBy, keyForm, keyName, keyOther, rootFrom, roots, laid, laidParts, ObjectsBelow, ObjectsInParts, Fits}
 use Rattle.patterns.proofs.PatternLaws.{size-positive}
 use Rattle.patterns.proofs.CheckLaws.{named-append, named-one, named-more}
 use Rattle.patterns.proofs.SumLaws.{times, times-here, times-else, times-append, times-middle, times-none, times-some}
-use Rattle.patterns.proofs.EveryLaws.{fieldsBy, fields-read, children-taken, key-form, root-below, roots-below, roots-count, laid-length, laid-lengths}
+use Rattle.patterns.proofs.EveryLaws.{fields-read, children-taken, key-form, root-below, roots-below, roots-count, laid-length, laid-lengths}
 
 -- how often a number is among so many from a first on: once or never
 unfoldable within : ℕ → ℕ → ℕ → ℕ

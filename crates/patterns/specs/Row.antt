@@ -19,20 +19,21 @@ pub record PatternFields : Type 0 where
   pub slots : List ℕ
   pub spare : ℕ
 
+abbrev pub fieldsBy : List ℕ → PatternFields
+fieldsBy all = record {
+  tag = at 0 all;
+  v = at 1 all;
+  f = at 2 all;
+  x = at 3 all;
+  y = at 4 all;
+  r = at 5 all;
+  n = at 6 all;
+  slots = take 4 (drop 7 all);
+  spare = at 11 all;
+}
+
 unfoldable pub patternFields : ℕ → PatternFields
-patternFields word =
-    let all = split patternWidths word in
-    record {
-      tag = at 0 all;
-      v = at 1 all;
-      f = at 2 all;
-      x = at 3 all;
-      y = at 4 all;
-      r = at 5 all;
-      n = at 6 all;
-      slots = take 4 (drop 7 all);
-      spare = at 11 all;
-    }
+patternFields word = fieldsBy (split patternWidths word)
 
 -- the children, in their slots from the first on
 abbrev pub children : PatternFields → List ℕ
