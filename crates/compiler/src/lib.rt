@@ -13,7 +13,7 @@ use emission::Code;
 use looking::look;
 use numbers::limits::VARIABLES;
 use walking::clear;
-use walking::no_words;
+pub use walking::no_words;
 use walking::walk;
 
 mod cells;
