@@ -106,9 +106,15 @@ unfoldable pub roundStart : List ℕ → ℕ → ℕ
 roundStart ends zero = 0
 roundStart ends (suc round) = getD ends round 0
 
+-- there is such a round, and its words lie in order within the code
+unfoldable pub isRound : List ℕ → List ℕ → ℕ → Bool
+isRound code ends round = ltb round (length ends) && leb (roundStart ends round) (getD ends round 0) && leb (getD ends round 0) (length code)
+
 -- a round's own words; empty where there is no such round
 unfoldable pub roundPart : List ℕ → List ℕ → ℕ → List ℕ
 roundPart code ends round =
-    let start = roundStart ends round in
-    let end = getD ends round 0 in
-    cond (ltb round (length ends) && leb start end && leb end (length code)) (take (end - start) (drop start code)) []
+    cond (isRound code ends round) (take (getD ends round 0 - roundStart ends round) (drop (roundStart ends round) code)) []
+
+-- their place in the code
+unfoldable pub roundPlace : List ℕ → List ℕ → ℕ → ℕ
+roundPlace code ends round = cond (isRound code ends round) (roundStart ends round) 0

@@ -29,7 +29,7 @@ pub record Compiles (create : Bool) (pattern kinds objects named : List ℕ) (an
   pub long : compiledNumber answer ≡ 0 → length buffer ≡ 768
 
 -- an answer that is not done has another number
-not-done : (answer : Compiled) → NotDone answer → compiledNumber answer ≡ 0 → ⊥
+pub not-done : (answer : Compiled) → NotDone answer → compiledNumber answer ≡ 0 → ⊥
 not-done (Done words) h = λ e. h words refl
 not-done Limit h = λ e. omega arith
 not-done BadStore h = λ e. omega arith

@@ -14,7 +14,7 @@ pub use knowing::set_cells;
 use looking::look;
 use numbers::limits::VARIABLES;
 use walking::clear;
-use walking::no_words;
+pub use walking::no_words;
 use walking::walk;
 
 mod looking;

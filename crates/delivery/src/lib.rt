@@ -7,7 +7,7 @@ ghost use Rattle.numbers.specs.Limits.{mostCodeWords};
 ghost use Rattle.calls.specs.Compile.{written, usedPart};
 use answers::Compiled;
 
-fn copy(words: &[u32], code: &mut [u32])
+pub fn copy(words: &[u32], code: &mut [u32])
     requires { ⌜ length (now words) ≤ length (now code) ⌝ }
     ensures { λ _. ⌜ now (code .exit) ≡ now (words .entry) ++ drop (length (now (words .entry))) (now (code .entry)) ⌝ }
 {

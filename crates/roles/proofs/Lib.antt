@@ -1,0 +1,6 @@
+-- Laws of a role's halves in turn.
+pub mod RoleLaws
+pub mod RoundLaws
+pub mod CountLaws
+pub mod WriteLaws
+pub mod AnswerLaws

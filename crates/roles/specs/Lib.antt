@@ -1,0 +1,3 @@
+-- What counting a role's words and writing them answer.
+pub mod Counted
+pub mod Written
