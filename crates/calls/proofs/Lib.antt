@@ -11,5 +11,6 @@ pub mod ValidLent
 pub mod ValidAgain
 pub mod FinishLaws
 pub mod StateBack
+pub mod CarryLaws
 pub mod Demand3
 pub mod Theorems

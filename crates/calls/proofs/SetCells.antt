@@ -5,20 +5,23 @@ use mathlib.Core.Option.{Option, none, some}
 use mathlib.Core.List.{List, [], _∷_, _++_}
 use Prim.Native.Nat.{ℕ, zero, suc}
 use native.Mathlib.Omega.{arith}
-use lib.ListN.{length, getD, drop}
+use lib.ListN.{length, getD, take, drop}
 use lib.Dec.{eqb, leb}
 use Rattle.answers.specs.declared.Compiled.{Compiled}
 use Rattle.answers.specs.declared.Compiled.the-variants.{Done, CodeTooShort}
-use Rattle.stores.specs.Cells.{unset, isSet, held}
+use Rattle.stores.specs.Cells.{unset, isSet, held, storeOf}
 use Rattle.stores.specs.Valid.{undeclaredUnset, eachVariable, declared}
 use Rattle.patterns.specs.Tree.{patternOf}
 use Rattle.theory.specs.Outcome.{isSome}
 use Rattle.theory.specs.World.{World}
+use Rattle.theory.specs.RowModel.{rowWorld}
 use Rattle.theory.specs.Machine.{Stores}
 use Rattle.theory.specs.Emission.{Emitted, ok, refuse}
 use Rattle.calls.specs.Compile.{SameSet, CompileOutcome, codeWords, entry, tables, leaves, written, finished, refusals, emitted, compileBy, compile}
 use Rattle.answers.specs.First.{first}
 use Rattle.numbers.specs.Kinds.{kindIn}
+use Rattle.numbers.specs.Limits.{namedCells}
+use Rattle.calls.specs.Run.{Lent, stateOver, stateOf}
 use Rattle.theory.proofs.Compiled.{known}
 
 -- compile sees of a cell whether it holds a row
@@ -34,6 +37,12 @@ set-held cell = go (eqb cell unset)
 pub entry-known : (W : World) (objects named : List ℕ) (n : Stores W) → ((v : ℕ) → isSet (getD objects v unset) ≡ isSome (n .σ v))
     → ((r : ℕ) → isSet (getD named r unset) ≡ isSome (n .ρ r)) → entry objects named ≡ known W n
 entry-known W objects named n object raw = λ i. record { objects = λ v. object v i; raws = λ r. raw r i; next = 0 }
+
+pub lent-known : (x : Lent) → entry (x .objects) (take namedCells (x .messages)) ≡ known rowWorld (stateOf x .stores)
+unfolding stateOver storeOf
+lent-known x =
+    entry-known rowWorld (x .objects) (take namedCells (x .messages)) (stateOf x .stores)
+    (λ v. set-held (getD (x .objects) v unset)) (λ r. set-held (getD (take namedCells (x .messages)) r unset))
 
 set-function : (cells others : List ℕ) → SameSet cells others → _≡_ {A = ℕ → Bool} (λ v. isSet (getD cells v unset)) (λ v. isSet (getD others v unset))
 set-function cells others s = fun-ext (s .same-set)

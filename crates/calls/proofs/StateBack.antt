@@ -1,6 +1,6 @@
 -- The cells that a finished run leaves are its last state again.
 use Prim.Native.Nat.{ℕ, zero, _<_, _≤_}
-use mathlib.Core.Path.{_≡_, refl, sym, _∙_, ap, fun-ext}
+use mathlib.Core.Path.{_≡_, refl, sym, _∙_, fun-ext}
 use mathlib.Core.Option.{Option, none, some}
 use mathlib.Core.List.{List}
 use native.Mathlib.Nat.{zero-add}

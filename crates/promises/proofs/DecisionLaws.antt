@@ -27,9 +27,9 @@ use Rattle.promises.specs.Conditions.{Room}
 use Rattle.promises.specs.Demand3.{Prepared, MatchesTo, CreatesTo, DecidesMatch, DecidesCreation}
 use Rattle.promises.proofs.CodeLaws.{right-kinds, own-answer, own-words}
 use Rattle.promises.proofs.RunLaws.{finished}
-use Rattle.promises.proofs.ValidLaws.{after-finish, message-finish}
+use Rattle.promises.proofs.ReadingLaws.{after-finish, message-finish}
 
-enough : {x : Lent} {count : ℕ} → Room x count → Free count count (stateOf x .stores .memory)
+pub enough : {x : Lent} {count : ℕ} → Room x count → Free count count (stateOf x .stores .memory)
 unfolding stateOver
 enough r = (r .rows, r .names)
 

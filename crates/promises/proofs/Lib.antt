@@ -23,6 +23,11 @@ pub mod LookLaws
 pub mod MeaningLaws
 pub mod Demand1
 pub mod RoundLaws
+pub mod HalvesLaws
+pub mod RoundDecisionLaws
+pub mod RoleLaws
+pub mod Halves
+pub mod Echo
 pub mod ListingLaws
 pub mod Printed
 pub mod Example

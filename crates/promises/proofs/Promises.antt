@@ -13,6 +13,8 @@ use Rattle.promises.proofs.Demand3.{demand-3}
 use Rattle.promises.proofs.Example.{example}
 use Rattle.promises.proofs.ForC.{for-c}
 use Rattle.promises.proofs.RoundLaws.{round-table}
+use Rattle.promises.proofs.Halves.{halves-in-turn}
+use Rattle.promises.proofs.Echo.{worked-echo}
 use Rattle.promises.proofs.ListingLaws.{listing-table}
 use Rattle.promises.proofs.Printed.{printed}
 use Rattle.outcomes.proofs.Listed.{listing-short, cut}
@@ -30,6 +32,8 @@ promises = record {
   for-c = for-c;
   example = example;
   rounds = round-table;
+  halves = halves-in-turn;
+  echo = worked-echo;
   listings = listing-table;
   program = record { fits = listing-short; cut = cut; printed = λ bytes wrote long. Listed.printed bytes wrote long };
   printed = printed;

@@ -6,25 +6,21 @@ use mathlib.Core.Bool.{Bool, true, false}
 use mathlib.Core.Option.{some}
 use mathlib.Core.List.{List, map}
 use native.Mathlib.Omega.{arith}
-use lib.ListN.{length, getD, take}
+use lib.ListN.{length}
 use Rattle.answers.specs.Numbers.{ranReason}
 use Rattle.answers.specs.declared.Ran.{Ran}
 use Rattle.answers.specs.declared.Ran.the-variants as Ran
-use Rattle.stores.specs.Cells.{unset, storeOf}
 use Rattle.patterns.specs.Tree.{patternOf}
 use Rattle.patterns.proofs.TreeLaws.{raws-below}
 use Rattle.theory.specs.Outcome.{Outcome, done, stuck, room}
 use Rattle.theory.specs.RowModel.{rowWorld}
 use Rattle.theory.specs.TermModel.{Term}
 use Rattle.theory.specs.Machine.{Line, exec}
-use Rattle.numbers.specs.Limits.{namedCells, variables}
+use Rattle.numbers.specs.Limits.{variables}
 use Rattle.theory.specs.Compilers.{compile↓, compile↑}
 use Rattle.numbers.specs.Kinds.{kindIn}
-use Rattle.calls.specs.Compile.{entry}
 use Rattle.calls.specs.Run.{Lent, stateOver, stateOf, linesOf, run}
-use Rattle.theory.proofs.Compiled.{known}
-use Rattle.calls.proofs.SetCells as SetCells
-use Rattle.calls.proofs.SetCells.{set-held}
+use Rattle.calls.proofs.SetCells.{lent-known}
 use Rattle.theory.proofs.Places.{movedTo, same-instructions}
 use Rattle.calls.proofs.CompiledWords.{compiled-words-read}
 use Rattle.theory.proofs.Theorems.{reads-set-matching, reads-set-creating}
@@ -51,12 +47,6 @@ stuck-there (done a) why e = absurd (let z : _≡_ {A = ℕ} 0 1 = cc in omega a
 stuck-there (stuck place other) why e = (place, cc)
 stuck-there (room place) why e = absurd (let z : _≡_ {A = ℕ} 0 1 = cc in omega arith)
 
-entry-known : (x : Lent) → entry (x .objects) (take namedCells (x .messages)) ≡ known rowWorld (stateOf x .stores)
-unfolding stateOver storeOf
-entry-known x =
-    SetCells.entry-known rowWorld (x .objects) (take namedCells (x .messages)) (stateOf x .stores)
-    (λ v. set-held (getD (x .objects) v unset)) (λ r. set-held (getD (take namedCells (x .messages)) r unset))
-
 module _ {create : Bool} {pattern : List ℕ} {x : Lent} {code : List ℕ} (c : CodeFor create pattern x code) (p : Passed x code) where
   long : length (x .kinds) ≡ variables
   long = passed-valid p .within .kinds
@@ -79,11 +69,11 @@ match-reads {pattern} {code} {x} {m} c message e =
     let stuck = lines-stuck c p word 1 h in
     let row = held-row (x .terms) (x .accumulator) m message in
     reads-set-matching (kindIn (x .kinds)) (patternOf pattern) (raws-below pattern) (stateOf x) (row .0) (row .1)
-    (ap (compile↓ (patternOf pattern)) (sym (entry-known x)) ∙ written c (long c p) .compiles .emits) (stuck .0) (stuck .1)
+    (ap (compile↓ (patternOf pattern)) (sym (lent-known x)) ∙ written c (long c p) .compiles .emits) (stuck .0) (stuck .1)
 
 pub create-reads : {pattern code : List ℕ} {x : Lent} → CodeFor true pattern x code → ranReason (run x code .answer) ≢ 1
 create-reads {pattern} {code} {x} c e =
     let (word, p, h) = unset-steps x code (run x code .answer) (run-gives x code refl) e in
     let stuck = lines-stuck c p word 1 h in
     reads-set-creating (kindIn (x .kinds)) (patternOf pattern) (raws-below pattern) (stateOf x)
-    (ap (compile↑ (kindIn (x .kinds)) (patternOf pattern)) (sym (entry-known x)) ∙ written c (long c p) .compiles .emits) (stuck .0) (stuck .1)
+    (ap (compile↑ (kindIn (x .kinds)) (patternOf pattern)) (sym (lent-known x)) ∙ written c (long c p) .compiles .emits) (stuck .0) (stuck .1)

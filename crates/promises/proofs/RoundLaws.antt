@@ -167,10 +167,10 @@ module _ (x : RoundLent) (code : List ℕ) where
   passed-steps p =
       rw (passes-when (roundLengthsFit x code) (Ran Ran.Limit) (p .lengths), p .rows, passes-when (recordFits x code) (Ran Ran.BadStore) (p .stores), p .words)
 
-  turn-answer : Turn → round x code .answer ≡ roundEnded (length code) x stepsIn .answer
+  turn-steps : Turn → round x code ≡ roundEnded (length code) x stepsIn
   unfolding round first
-  turn-answer turn =
-      ap (λ r. roundBy x code r .answer) (sym (passed-steps (turn .passed)))
+  turn-steps turn =
+      ap (roundBy x code) (sym (passed-steps (turn .passed)))
       ∙ rw (is-false overdue (fails overdue .0 (turn .goes-on)), is-false (isSet (x .session .answer)) (fails (isSet (x .session .answer)) .0 (turn .taken)), is-true (isSet (x .session .message)) (turn .waiting))
 
   gives-answer : (answer : Rounded) → RoundGives answer → round x code .answer ≡ answer
@@ -187,9 +187,9 @@ module _ (x : RoundLent) (code : List ℕ) where
   gives-answer NoMessage (p, o, a, m) =
       ap (λ r. roundBy x code r .answer) (sym (passed-steps p))
       ∙ rw (is-false overdue (fails overdue .0 o), is-false (isSet (x .session .answer)) (fails (isSet (x .session .answer)) .0 a), is-false (isSet (x .session .message)) (fails (isSet (x .session .message)) .0 m))
-  gives-answer (Ran (Ran.Stuck word reason)) (turn, e) = turn-answer turn ∙ rw e (ap (λ why. Ran (Ran.Stuck word why)) (reason-known reason))
-  gives-answer (Ran (Ran.NoRoom word)) (turn, e) = turn-answer turn ∙ rw e
-  gives-answer (Ran (Ran.Done words)) (turn, n, (t, e)) = turn-answer turn ∙ rw (e, n)
+  gives-answer (Ran (Ran.Stuck word reason)) (turn, e) = ap (λ o. o .answer) (turn-steps turn) ∙ rw e (ap (λ why. Ran (Ran.Stuck word why)) (reason-known reason))
+  gives-answer (Ran (Ran.NoRoom word)) (turn, e) = ap (λ o. o .answer) (turn-steps turn) ∙ rw e
+  gives-answer (Ran (Ran.Done words)) (turn, n, (t, e)) = ap (λ o. o .answer) (turn-steps turn) ∙ rw (e, n)
 
   -- the tests and the conditions say the same
   within : T (roundLengthsFit x code) ↔ RoundWithin x code
@@ -310,6 +310,14 @@ module _ (x : RoundLent) (code : List ℕ) where
       waiting = set-cell (x .session .message) .1 (d .waiting);
     },
   )
+
+  -- a round that is due is its steps
+  pub due-steps : Due x code → round x code ≡ roundEnded (length code) x stepsIn
+  due-steps d = turn-steps (due .1 d)
+
+  -- and one that is done was due
+  pub done-steps : roundedNumber (round x code .answer) ≡ 0 → Due x code × ((t : State rowWorld) × (stepsIn ≡ done t) × (round x code ≡ sentBy (length code) x t))
+  done-steps e = let (turn, _, (t, q)) = means (e, refl, refl) in (due .0 turn, (t, q, round-leaves .2 t q turn))
 
   says : (answer : Rounded) → RoundGives answer → RoundAnswers (round x code) (roundedNumber answer) (roundedPlace answer) (roundedReason answer)
   says answer g = let e = gives-answer answer g in (ap roundedNumber e, ap roundedPlace e, ap roundedReason e)

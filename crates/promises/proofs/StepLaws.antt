@@ -66,12 +66,6 @@ module _ {W : World} (calm : Calm W) (kind : ℕ → ℕ) where
   exec-ends : (code : List Line) (s : State W) → Outcomes.Ends Any Reasoned (Unit {0}) (Leaves W Any s) (exec W kind code s)
   exec-ends code s = Steps.exec-ends unset kind (λ place. tt) (λ x _. moves x) code s tt
 
-  pub named-past : (code : List Line) (s t : State W) → exec W kind code s ≡ done t → KeptPast W s t
-  named-past code s t e = kept (rw e at (exec-ends code s))
-    where
-      kept : Outcomes.Ends Any Reasoned (Unit {0}) (Leaves W Any s) (done t) → KeptPast W s t
-      kept (Outcomes.ends left) = left .past
-
   pub exec-reasoned : (code : List Line) (s : State W) {place why : ℕ} → exec W kind code s ≡ stuck place why → Reasoned why
   exec-reasoned code s {place} {why} e = reason (rw e at (exec-ends code s))
     where

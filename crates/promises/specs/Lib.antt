@@ -13,6 +13,8 @@ pub mod Demand3
 pub mod Demand2
 pub mod Demand1
 pub mod Rounds
+pub mod Halves
+pub mod Echo
 pub mod Listing
 pub mod Example
 pub mod ForC

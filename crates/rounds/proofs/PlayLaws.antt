@@ -19,17 +19,17 @@ use Rattle.terms.proofs.TableLaws.{used-rows}
 use Rattle.stores.specs.Cells.{unset}
 use Rattle.theory.specs.Outcome.{Outcome, done, stuck, room}
 use Rattle.theory.specs.RowModel.{rowWorld}
-use Rattle.theory.specs.Machine.{State, exec}
-use Rattle.theory.proofs.InTurn.{from, exec-from}
-use Rattle.calls.specs.Run.{RunOutcome, stateOf, leftBy, linesFrom, ended, runBy}
+use Rattle.theory.specs.Machine.{State}
+use Rattle.theory.proofs.InTurn.{from}
+use Rattle.calls.specs.Run.{RunOutcome, stateOf, leftBy, ended, runBy}
 use Rattle.calls.specs.Frame.{middle}
 use Rattle.calls.specs.Round.{RoundLent, RoundOutcome, received, answered, sentBy, roundEnded, roundRefusals, round}
-use Rattle.calls.proofs.FrameLaws.{lines-later}
+use Rattle.calls.proofs.FrameLaws.{later-steps, middle-length}
 use Rattle.calls.proofs.RunLaws.{stepsOf}
 use Rattle.execution.specs.Steps.{cellsAfter, Ready}
 use Rattle.running.proofs.EndLaws.{withCells}
 use Rattle.turns.specs.Played.{inRound}
-use Rattle.turns.proofs.WordLaws.{middle-length, good-middle}
+use Rattle.turns.proofs.WordLaws.{good-middle}
 use Rattle.turns.proofs.CheckLaws.{RoundPassed, round-stepped}
 use Rattle.rounds.proofs.PlaceLaws.{StopsBefore, stops-before}
 
@@ -55,11 +55,8 @@ module _ (x : RoundLent) (code : List ℕ) where
   abbrev pub between : Outcome (State rowWorld)
   between = stepsOf (received x) (middle code)
 
-  pub later-steps : exec rowWorld (kindIn (x .kinds)) (linesFrom 1 (middle code)) (stateOf (received x)) ≡ from 1 between
-  later-steps = ap (λ lines. exec rowWorld (kindIn (x .kinds)) lines (stateOf (received x))) (lines-later 1 0 (middle code)) ∙ exec-from rowWorld (kindIn (x .kinds)) 1 (linesFrom 0 (middle code)) (stateOf (received x))
-
   pub round-later : first (roundRefusals x code) ≡ none → roundEnded (length code) x (from 1 between) ≡ round x code
-  round-later e = ap (roundEnded (length code) x) (sym later-steps) ∙ round-stepped x code e
+  round-later e = ap (roundEnded (length code) x) (sym (later-steps (kindIn (x .kinds)) 1 (middle code) (stateOf (received x)))) ∙ round-stepped x code e
 
   -- what a done run leaves of a round, and any other
   abbrev sent : RunOutcome → RoundOutcome

@@ -2,7 +2,6 @@
 use Prim.Native.Nat.{ℕ, _+_, _≤_}
 use mathlib.Core.Path.{_≡_, refl, _∙_}
 use mathlib.Core.List.{List, [], _∷_}
-use native.Mathlib.Omega.{arith}
 use lib.Dec.{T, leb}
 use Rattle.word.specs.All.{All}
 use Rattle.word.proofs.TestLaws.{both, at-most}
@@ -12,7 +11,7 @@ use Rattle.code.specs.declared.Instruction.{Instruction}
 use Rattle.code.specs.declared.Instruction.the-variants.{Load, Store, StoreConst, Decode, Encode, Create, AnalyzeTuple, CreateTuple, Opposite, KeyOf, Match, Encrypt, Decrypt, Sign, Verify, Hash}
 use Rattle.numbers.specs.declared.Object.{Object}
 use Rattle.numbers.specs.declared.Raw.{Raw}
-use Rattle.theory.specs.Outcome.{Outcome, done, stuck, room, bind, at, need}
+use Rattle.theory.specs.Outcome.{Outcome, done, bind, at, need}
 use Rattle.theory.specs.World.{World, Op, Test}
 use Rattle.theory.specs.World as Voc
 use Rattle.theory.specs.Machine.{Line, State, message, messages, step, exec}

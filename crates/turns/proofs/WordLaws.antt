@@ -1,5 +1,5 @@
 -- The words of a round: which of them is bad, and what no bad one leaves true.
-use mathlib.Core.Path.{_≡_, refl, sym, _∙_, ap}
+use mathlib.Core.Path.{_≡_, refl, sym, ap}
 use mathlib.Core.Bool.{Bool, true, false, not}
 use mathlib.Core.Option.{none}
 use mathlib.Core.List.{List}
@@ -8,14 +8,14 @@ use native.Mathlib.Numerals.{add-one}
 use native.Mathlib.Omega.{arith}
 use borrow.Author.Tests.{eq-eqb, ne-eqb}
 use lib.Dec.{eqb}
-use lib.ListN.{length, getD, take, drop, length-take, length-drop}
-use lib.Seq.{getD-take, getD-drop}
+use lib.ListN.{length, getD, take, drop}
 use Rattle.word.specs.Lowest.{placeOf}
 use Rattle.word.specs.declared.Place.the-variants.{At, Nowhere}
 use Rattle.word.proofs.ScanLaws.{Left, scan-hit, scan-miss, scan-end}
 use Rattle.word.proofs.LowestLaws.{lowest-none}
 use Rattle.code.specs.Words.{goodWord, badWord}
 use Rattle.calls.specs.Frame.{inputWord, outputWord, middle, goodRoundWord, badRoundWord}
+use Rattle.calls.proofs.FrameLaws.{middle-length, middle-at}
 
 -- a word by its place
 module _ (kind : ℕ → ℕ) (words place word : ℕ) where
@@ -67,19 +67,9 @@ unfolding middle
 middle-part code = let same : length code - 1 - 1 ≡ length code - 2 = omega arith in ap (λ n. take n (drop 1 code)) same
 
 module _ (code : List ℕ) (two : 2 ≤ length code) where
-  pub middle-length : length (middle code) + 2 ≡ length code
-  unfolding middle
-  middle-length = omega (arith, length-take (length code - 2) (drop 1 code), length-drop 1 code)
-
-  pub middle-at : (i : ℕ) → i < length (middle code) → getD (middle code) i 0 ≡ getD code (1 + i) 0
-  unfolding middle
-  middle-at i inside =
-      let within : i < length code - 2 = omega (arith, middle-length) in
-      getD-take (length code - 2) (drop 1 code) i 0 within ∙ getD-drop 1 code i 0
-
   -- are good for run
   pub good-middle : (kind : ℕ → ℕ) → badRoundWord kind code ≡ none → badWord kind (middle code) ≡ none
   unfolding badWord badRoundWord
   good-middle kind e = lowest-none (λ place word. not (goodWord kind word)) 0 (middle code) .1 λ i inside.
-      let within : 1 + i < length code = omega (arith, middle-length) in
-      rw (middle-at i inside, good-between kind (length code) (1 + i) (getD code (1 + i) 0) (λ z. omega arith) (λ z. omega (arith, middle-length))) (lowest-none (bad kind (length code)) 0 code .0 e (1 + i) within)
+      let within : 1 + i < length code = omega (arith, middle-length code two) in
+      rw (middle-at code two i inside, good-between kind (length code) (1 + i) (getD code (1 + i) 0) (λ z. omega arith) (λ z. omega (arith, middle-length code two))) (lowest-none (bad kind (length code)) 0 code .0 e (1 + i) within)
