@@ -27,5 +27,6 @@ pub mod ListingLaws
 pub mod Printed
 pub mod Example
 pub mod ForC
+pub mod RoundsForC
 pub mod Functions
 pub mod Promises

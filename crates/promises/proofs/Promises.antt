@@ -14,6 +14,7 @@ use Rattle.promises.proofs.Demand3.{demand-3}
 use Rattle.promises.proofs.Example.{example}
 use Rattle.promises.proofs.ForC.{for-c}
 use Rattle.promises.proofs.RoundLaws.{round-table}
+use Rattle.promises.proofs.RoundsForC.{rounds-for-c}
 use Rattle.promises.proofs.ListingLaws.{listing-table}
 use Rattle.promises.proofs.Printed.{printed}
 use Rattle.outcomes.proofs.Listed.{listing-short, cut}
@@ -32,6 +33,7 @@ promises = record {
   for-c = for-c;
   example = example;
   rounds = round-table;
+  rounds-for-c = rounds-for-c;
   listings = listing-table;
   program = record { fits = listing-short; cut = cut; printed = λ bytes wrote long. Listed.printed bytes wrote long };
   printed = printed;

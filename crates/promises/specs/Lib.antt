@@ -16,5 +16,6 @@ pub mod Rounds
 pub mod Listing
 pub mod Example
 pub mod ForC
+pub mod RoundsForC
 pub mod Functions
 pub mod Promises

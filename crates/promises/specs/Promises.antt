@@ -19,6 +19,7 @@ use Rattle.promises.specs.Example.{Example}
 use Rattle.promises.specs.ForC.{ForC}
 use Rattle.calls.specs.Round.{RoundLent}
 use Rattle.promises.specs.Rounds.{RoundTable}
+use Rattle.promises.specs.RoundsForC.{RoundsForC}
 use Rattle.promises.specs.Listing.{ListingTable, Printed, Program}
 
 pub record Promises (M : Type 1) : Type 2 where
@@ -42,6 +43,8 @@ pub record Promises (M : Type 1) : Type 2 where
   pub example : Example
   -- every number of a round exactly where its condition holds, and nothing changed by any answer but 0
   pub rounds : (x : RoundLent) (code : List ℕ) → RoundTable x code
+  -- the same over bytes, and what a take does there
+  pub rounds-for-c : RoundsForC
   -- what a bundle's listing prints
   pub listings : (bytes : List ℕ) → ListingTable bytes
   -- the program around it
