@@ -3,8 +3,10 @@
  *
  * cram_compile turns a message pattern into code, for matching a message or for creating one.
  * cram_run runs code over a table of abstract terms.
+ * cram_compile_role compiles a whole role, all its patterns in turn; cram_round plays a round of it, which matches a
+ * message and creates the answer, on a session record; cram_take takes the answer from the record.
  *
- * What holds for both calls
+ * What holds for every call
  *
  * - They take any input, end, and use no heap, no global and no file. They may be called from several threads
  *   over different slices.
@@ -14,8 +16,8 @@
  *   memory that was lent. A slice of length 0 is never read or written, so any other pointer will do for it.
  * - Slices given as const are only read. Nothing is kept after the return.
  * - With any answer but 0 every lent byte is as it was before the call.
- * - Stack: cram_compile takes at most CRAM_COMPILE_STACK_BYTES, cram_run at most CRAM_RUN_STACK_BYTES, each with all
- *   its frames.
+ * - Stack: cram_compile takes at most CRAM_COMPILE_STACK_BYTES, cram_run CRAM_RUN_STACK_BYTES, cram_compile_role
+ *   CRAM_ROLE_STACK_BYTES, and cram_round, also cram_take, CRAM_ROUND_STACK_BYTES, each with all its frames.
  *
  * Elements; fields are listed from the most significant bit down, unused fields are zero
  *
@@ -50,6 +52,10 @@
  *     10 OPPOSITE K k     11 KEY OF           12 MATCH r          13 ENCRYPT v
  *     14 DECRYPT v        15 SIGN v           16 VERIFY v r       17 HASH h
  *   For 8 and 9, B is the first of n consecutive message cells, n is at most 4 and B + n at most 256.
+ * - Code of a round: the word INPUT (0x00000000), the words that match, the words that create, the word OUTPUT
+ *   (0x08000000).
+ * - Session record, 20 bytes, five fields of 4: used rows of the table, name counter, round, message, answer. The round
+ *   is the number of the next one, from 0. Message and answer are a used row, or 65535 where none waits.
  *
  * Matching a message in short, where the slices are as cram_compile and cram_run below have them:
  *
@@ -62,6 +68,19 @@
  *
  * The named cells are the first 128 bytes of the message cells. For creating, pass 1 and CRAM_UNSET as the message; the
  * created message is then r.accumulator.
+ *
+ * A role in short, and then a message whose row the caller has put into bytes 12 to 15 of the record; `from` and `to`
+ * are the words up to the end of the round before (0 for the first) and of this round, as ends has them:
+ *
+ *   struct cram_role c = cram_compile_role(rows, 8 * all_rows, counts, 2 * rounds, kinds, 64, objects, 128,
+ *                                          messages, 128, ends, 2 * rounds, code, 4 * CRAM_ROLE_WORDS);
+ *   if (c.number == CRAM_DONE) {
+ *       struct cram_rounded r = cram_round(session, 20, rounds, kinds, 64, objects, 128, messages, 512, certificates,
+ *                                          8 * certified, terms, 32768, code + 4 * from, 4 * (to - from));
+ *       if (r.number == CRAM_DONE) { ... send cram_take(session, 20).answer ... }
+ *   }
+ *
+ * The record starts with the table's used rows, the next name, round 0, and 65535 twice.
  */
 #ifndef CRAM_H
 #define CRAM_H
@@ -80,16 +99,22 @@ extern "C" {
 #define CRAM_TERM_ROWS 4096u     /* at most */
 #define CRAM_CERTIFICATES 32u    /* at most */
 #define CRAM_COUNTER 65536u      /* the name counter's highest value; CREATE then finds no name */
-#define CRAM_UNSET 65535u        /* a cell or an accumulator that is unset */
+#define CRAM_UNSET 65535u        /* a cell, an accumulator, a message or an answer that is unset */
+#define CRAM_ROUNDS 16u          /* at most, of a role, and at least 1 */
+#define CRAM_ROUND_WORDS 1538u   /* at most, in a round, with INPUT and OUTPUT; at least 2 */
+#define CRAM_ROLE_WORDS 24576u   /* no role has more */
+#define CRAM_SESSION_BYTES 20u   /* of the session record */
 #define CRAM_COMPILE_STACK_BYTES 16384u /* see above */
 #define CRAM_RUN_STACK_BYTES 65536u     /* see above */
+#define CRAM_ROLE_STACK_BYTES 16384u    /* see above */
+#define CRAM_ROUND_STACK_BYTES 65536u   /* see above */
 
-/* What a number says, in both calls. */
+/* What a number says, in every call. Compile is a role's too, and run a round's. */
 enum {
     CRAM_DONE = 0,           /* place: words written, or words run */
     CRAM_LIMIT = 1,          /* a length, a count, the direction or the counter is outside its limit; place 0 */
     CRAM_BAD_TERM = 2,       /* run: a term row breaks a rule; place: the lowest such row */
-    CRAM_BAD_STORE = 3,      /* a kind above 10, or a bad cell, certificate or accumulator; place 0 */
+    CRAM_BAD_STORE = 3,      /* a kind above 10, or a bad cell, certificate, accumulator, message or answer; place 0 */
     CRAM_BAD_PATTERN = 4,    /* compile: a bad pattern row; place: see cram_compile */
     CRAM_WRONG_KIND = 5,     /* compile: a variable of the wrong kind; place: the lowest such pattern row */
     CRAM_WRITTEN_SET = 6,    /* compile: a variable would be written while set; place: the pattern row */
@@ -97,10 +122,13 @@ enum {
     CRAM_SHORT = 8,          /* compile: the code slice is too short; place: words needed */
     CRAM_BAD_WORD = 9,       /* run: a bad code word; place: the lowest such word */
     CRAM_STUCK = 10,         /* run: the word at this place cannot be run; the reason says why */
-    CRAM_NO_ROOM = 11        /* run: a new row is needed and none is unused, or CREATE at counter 65536; place: word */
+    CRAM_NO_ROOM = 11,       /* run: a new row is needed and none is unused, or CREATE at counter 65536; place: word */
+    CRAM_NO_MESSAGE = 12,    /* round: no message waits; place 0 */
+    CRAM_NOT_TAKEN = 13,     /* round: the last answer has not been taken; place 0 */
+    CRAM_ROLE_ENDED = 14     /* round: the role has no round left; place 0 */
 };
 
-/* Why a run is stuck. The reason is 0 with every other number. */
+/* Why a run or a round is stuck. The reason is 0 with every other number. */
 enum {
     CRAM_OPERAND_UNSET = 1,  /* an operand or an accumulator that the word reads is unset */
     CRAM_OTHER_KIND = 2,     /* DECODE of a message of another kind */
@@ -123,6 +151,23 @@ struct cram_ran {
     uint32_t used;        /* rows before the first zero row of the table after the call; 0 with number 1 */
     uint32_t counter;     /* after the run; as given with any number but 0 */
     uint32_t accumulator; /* after the run, CRAM_UNSET if unset; as given with any number but 0 */
+};
+
+struct cram_role {
+    uint32_t number;
+    uint32_t place;
+    uint32_t half;        /* the half that is refused, 0..31; 0 where none is */
+};
+
+struct cram_rounded {
+    uint32_t number;
+    uint32_t place;
+    uint32_t reason;
+};
+
+struct cram_taken {
+    uint32_t number;
+    uint32_t answer;
 };
 
 /*
@@ -189,6 +234,84 @@ struct cram_ran cram_run(const uint8_t *kinds, size_t kinds_len,
                          uint8_t *terms, size_t terms_len,
                          uint32_t counter,
                          const uint8_t *code, size_t code_len);
+
+/*
+ * Compiles a role: 1 to 16 rounds of two halves each, a pattern that is matched and then one that is created.
+ *
+ *   rows      the pattern rows of all halves, half after half (8 bytes each)
+ *   counts    the rows of each half (2 to 32 bytes, 2 a round): half 2i is matched in round i, half 2i + 1 created
+ *   kinds     64 kinds (64 bytes), of all halves
+ *   objects   64 object cells (128 bytes)
+ *   named     64 named message cells (128 bytes)
+ *   ends      a number a round (2 bytes each): the words up to the round's end
+ *   code      any number of words; the first `place` words are written where the number is 0, later ones stay
+ *
+ * Round i's code is the words of code from ends[i - 1], or 0 for the first round, up to ends[i]. Of the cells it
+ * matters only which are set. Each half finds set what was set before the role and what earlier halves have written;
+ * scratch cells start again with each half.
+ * The numbers are looked at in the order 1 of the call; then, half by half, 1 of the half and 3 to 7 as cram_compile
+ * has them; then 8:
+ *   0   place: words written, with INPUT and OUTPUT (at most 24576)
+ *   1   a length as above is not kept, the rounds are not 1 to 16, or the counts' sum is not the rows lent: half 0.
+ *       Or a half has no row or above 96: that half
+ *   3   as in cram_compile; half 0
+ *   4, 5, 6, 7   as in cram_compile, of a half; place: the row in that half, from 0
+ *   8   place: words needed by the whole role; nothing is written; half 0
+ */
+struct cram_role cram_compile_role(const uint8_t *rows, size_t rows_len,
+                                   const uint8_t *counts, size_t counts_len,
+                                   const uint8_t *kinds, size_t kinds_len,
+                                   const uint8_t *objects, size_t objects_len,
+                                   const uint8_t *named, size_t named_len,
+                                   uint8_t *ends, size_t ends_len,
+                                   uint8_t *code, size_t code_len);
+
+/*
+ * Plays a round of a role.
+ *
+ *   session       the session record (20 bytes), with a message and no answer
+ *   rounds        the rounds of the role, 1 to 16
+ *   kinds         64 kinds (64 bytes)
+ *   objects       64 object cells (128 bytes)
+ *   messages      256 message cells (512 bytes)
+ *   certificates  0 to 32 certificates (0 to 256 bytes)
+ *   terms         0 to 4096 term rows (0 to 32768 bytes), as cram_run has them
+ *   code          the round's own words: 2 to 1538 (8 to 6152 bytes)
+ *
+ * INPUT takes the message for the accumulator, the words up to OUTPUT are run as by cram_run, and OUTPUT puts the
+ * accumulator into the record as the answer. A round that is done writes objects, messages, new rows and the record in
+ * place: used rows and counter after the run, the next round, message 65535, and the answer. After any other number all
+ * are as before. It is not checked that the cells which are set are those that the role was compiled for.
+ * Where several records share a table, bring used and counter of a record up to date before its round: a record whose
+ * used is behind is refused with 1, one whose counter alone is behind with 2.
+ * The numbers are looked at in the order 1, 2, 3, 9, 14, 13, 12, and then word after word:
+ *   0    place: words run, which is all of them with INPUT and OUTPUT
+ *   1    a length as above is not kept, the record's counter is above 65536, the rounds are not 1 to 16, or the
+ *        record's used is not the number of rows before the first zero row
+ *   2    as in cram_run
+ *   3    as in cram_run, with the message for the accumulator; or an answer that is neither 65535 nor a used row
+ *   9    place: the lowest bad word: the first is INPUT, the last OUTPUT, each between is good for cram_run
+ *   10   place: the word, where INPUT is word 0; the reason says why
+ *   11   place: the word
+ *   12   the message is 65535
+ *   13   the answer is not 65535
+ *   14   the record's round is not below rounds
+ */
+struct cram_rounded cram_round(uint8_t *session, size_t session_len,
+                               uint32_t rounds,
+                               const uint8_t *kinds, size_t kinds_len,
+                               uint8_t *objects, size_t objects_len,
+                               uint8_t *messages, size_t messages_len,
+                               const uint8_t *certificates, size_t certificates_len,
+                               uint8_t *terms, size_t terms_len,
+                               const uint8_t *code, size_t code_len);
+
+/*
+ * Takes the answer that waits in a session record (20 bytes), and puts 65535 there.
+ *   0   answer: what stood there, 65535 where none waited; nothing else is looked at
+ *   1   the record is not 20 bytes; the answer is then 65535
+ */
+struct cram_taken cram_take(uint8_t *session, size_t session_len);
 
 #ifdef __cplusplus
 }

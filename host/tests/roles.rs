@@ -45,7 +45,6 @@ macro_rules! held {
 }
 
 held!(by_halves, cram_host::by_halves::ROLES);
-#[cfg(feature = "roles")]
 held!(archive, cram_host::roles::ARCHIVE);
 
 #[test]

@@ -30,15 +30,15 @@ use Rattle.promises.proofs.Demand3.{demand-3}
 
 module _ {A : Type 0} where
   -- what is so whether a test holds or not
-  by-test : (b : Bool) → (T b → A) → ((T b → ⊥) → A) → A
+  pub by-test : (b : Bool) → (T b → A) → ((T b → ⊥) → A) → A
   by-test true passes fails = passes tt
   by-test false passes fails = fails λ n. n
 
 -- bytes are below 256 wherever they are read, and whole slices are the spelling of their elements
-below : (bytes : List ℕ) → Bytes bytes → Below 256 bytes
+pub below : (bytes : List ℕ) → Bytes bytes → Below 256 bytes
 below bytes all = all-getD (λ byte. byte < 256) bytes 0 all (omega arith)
 
-spells : (size : ℕ) (bytes : List ℕ) → Whole size bytes → Bytes bytes → spelled size (elements size bytes) ≡ bytes
+pub spells : (size : ℕ) (bytes : List ℕ) → Whole size bytes → Bytes bytes → spelled size (elements size bytes) ≡ bytes
 spells size bytes fits all = spelled-elements size bytes (equals (length bytes % size) 0 .1 fits) (below bytes all)
 
 module _ (create : ℕ) (pattern kinds objects named code : List ℕ) where

@@ -32,4 +32,5 @@ pub mod ListingLaws
 pub mod Printed
 pub mod Example
 pub mod ForC
+pub mod RoundsForC
 pub mod Promises

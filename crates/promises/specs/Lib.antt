@@ -18,4 +18,5 @@ pub mod Echo
 pub mod Listing
 pub mod Example
 pub mod ForC
+pub mod RoundsForC
 pub mod Promises

@@ -20,6 +20,7 @@ use Rattle.calls.specs.Round.{RoundLent}
 use Rattle.promises.specs.Rounds.{RoundTable}
 use Rattle.promises.specs.Halves.{HalvesInTurn}
 use Rattle.promises.specs.Echo.{Echo}
+use Rattle.promises.specs.RoundsForC.{RoundsForC}
 use Rattle.promises.specs.Listing.{ListingTable, Printed, Program}
 
 pub record Promises : Type 0 where
@@ -45,6 +46,8 @@ pub record Promises : Type 0 where
   pub halves : HalvesInTurn
   -- its premises met by a round that sends a nonce back
   pub echo : Echo
+  -- the same over bytes, and what a take does there
+  pub rounds-for-c : RoundsForC
   -- what a bundle's listing prints
   pub listings : (bytes : List ℕ) → ListingTable bytes
   -- the program around it

@@ -1,4 +1,5 @@
 //! Times the archive against the second implementation, in one run, and measures the archive's stack.
+use cram_host::roles::ARCHIVE as ROLES;
 use cram_host::{measured, plain, stack, ARCHIVE};
 
 /// Each figure is the median of so many samples.
@@ -39,8 +40,14 @@ fn main() {
             print("  of which one search over 4,096 rows", [0, 1].map(|i| (times[i] - base[i]) / words));
         }
     }
+    let engines = [&ROLES, &plain::ROLES];
     #[cfg(feature = "roles")]
-    roles::times();
+    for (name, lent) in measured::role_compiles() {
+        print(name, medians(&lent, engines, |lent, engine| lent.call(engine).place));
+    }
+    for (name, lent) in measured::rounds() {
+        print(name, medians(&lent, engines, |lent, engine| lent.call(engine).place));
+    }
     println!("\nBytes of stack, by painting it before the call:");
     for (name, mut lent) in measured::compiles() {
         println!("{:<45}{:>12}", name, stack::taken_by(|| lent.call(&ARCHIVE)));
@@ -49,32 +56,11 @@ fn main() {
         println!("{:<45}{:>12}", name, stack::taken_by(|| lent.call(&ARCHIVE)));
     }
     #[cfg(feature = "roles")]
-    roles::stacks();
-}
-
-#[cfg(feature = "roles")]
-mod roles {
-    use super::{medians, print};
-    use cram_host::roles::ARCHIVE;
-    use cram_host::{measured, plain, stack};
-
-    pub fn times() {
-        let engines = [&ARCHIVE, &plain::ROLES];
-        for (name, lent) in measured::role_compiles() {
-            print(name, medians(&lent, engines, |lent, engine| lent.call(engine).place));
-        }
-        for (name, lent) in measured::rounds() {
-            print(name, medians(&lent, engines, |lent, engine| lent.call(engine).place));
-        }
+    for (name, mut lent) in measured::role_compiles() {
+        println!("{:<45}{:>12}", name, stack::taken_by(|| lent.call(&ROLES)));
     }
-
-    pub fn stacks() {
-        for (name, mut lent) in measured::role_compiles() {
-            println!("{:<45}{:>12}", name, stack::taken_by(|| lent.call(&ARCHIVE)));
-        }
-        for (name, mut lent) in measured::rounds() {
-            println!("{:<45}{:>12}", name, stack::taken_by(|| lent.call(&ARCHIVE)));
-        }
+    for (name, mut lent) in measured::rounds() {
+        println!("{:<45}{:>12}", name, stack::taken_by(|| lent.call(&ROLES)));
     }
 }
 
