@@ -1,6 +1,7 @@
 // What a call answers, one enum for each kind of call, and the numbers that it comes back as.
 mod rounds;
 
+pub use rounds::NONE_WAITS;
 pub use rounds::Rounded;
 pub use rounds::Session;
 ghost use mathlib.Core.Path.{_≡_};

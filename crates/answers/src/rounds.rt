@@ -4,7 +4,9 @@ ghost use Prim.Native.Nat.{_≤_};
 ghost use Rattle.answers.specs.RoundNumbers.{roundedNumber, roundedPlace, roundedReason};
 use super::Ran;
 
-// The session record: 65,535 is no message and no answer.
+// No message, and no answer, in a record.
+pub const NONE_WAITS: u32 = 65535;
+
 pub struct Session {
     pub used: u32,
     pub counter: u32,

@@ -1,5 +1,6 @@
 // The instruction and its word.
 pub mod fields;
+pub mod frame;
 pub mod operations;
 pub mod words;
 

@@ -1,4 +1,4 @@
-// The numbers of the operations, in the order of figure 4. 0 and 1 are INPUT and OUTPUT, which are no instructions.
+// The numbers of the operations, in the order of figure 4. 0 and 1 are no instructions: `frame` has them.
 pub const LOAD: u32 = 2;
 
 pub const STORE: u32 = 3;

@@ -2,6 +2,7 @@
 ghost use mathlib.Core.Path.{_≡_};
 ghost use Rattle.lending.specs.RoundEntry.{roundEntry, takeEntry};
 use crate::round_tables;
+use answers::NONE_WAITS;
 use answers::Ran;
 use answers::Rounded;
 use lending::RoundAnswer;
@@ -72,7 +73,7 @@ pub extern "C" fn cram_take(session: &mut [u8]) -> TakeAnswer
     if session.len() != RECORD_BYTES {
         return TakeAnswer {
             number: 1,
-            answer: 65535,
+            answer: NONE_WAITS,
         };
     }
     let taken = rounds::take_of(sessions::unpack(session));

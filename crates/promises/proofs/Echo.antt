@@ -14,7 +14,7 @@ use Rattle.terms.specs.Rules.{usedRows, knownTag, isPacked, numberFits, partsBe
 use Rattle.stores.specs.Cells.{held, cellOf, storeOf, cellsFrom}
 use Rattle.stores.specs.Certificates.{agentsOnce}
 use Rattle.stores.specs.Valid.{kindsFit, eachVariable, valid}
-use Rattle.patterns.specs.Row.{fieldsOf}
+use Rattle.patterns.specs.Row.{patternFields}
 use Rattle.patterns.specs.Rules as Patterns
 use Rattle.patterns.specs.Tree.{patternsFrom, patternsOf, patternOf}
 use Rattle.patterns.specs.Kinds.{wrongKind}
@@ -42,11 +42,11 @@ abbrev between : Env
 between = addObject before 0
 
 matching : half false (echo .matching) (echo-lent .kinds) before ≡ ok (lineAt 0 (Decode (asObject 0)) ∷ []) between
-unfolding flatMap lowestFrom each oneOf kindsFit fieldsOf Patterns.repeats Patterns.badRow Patterns.unnamed Patterns.badPattern patternsFrom patternsOf patternOf wrongKind put behind andThen emit first undeclaredUnknown declaredKnown half
+unfolding flatMap lowestFrom each oneOf kindsFit patternFields Patterns.repeats Patterns.badRow Patterns.unnamed Patterns.badPattern patternsFrom patternsOf patternOf wrongKind put behind andThen emit first undeclaredUnknown declaredKnown half
 matching = refl
 
 creating : half true (echo .creating) (echo-lent .kinds) between ≡ ok (lineAt 0 (Encode (asObject 0)) ∷ []) between
-unfolding flatMap lowestFrom each oneOf kindsFit fieldsOf Patterns.repeats Patterns.badRow Patterns.unnamed Patterns.badPattern patternsFrom patternsOf patternOf wrongKind put behind andThen emit first undeclaredUnknown declaredKnown half
+unfolding flatMap lowestFrom each oneOf kindsFit patternFields Patterns.repeats Patterns.badRow Patterns.unnamed Patterns.badPattern patternsFrom patternsOf patternOf wrongKind put behind andThen emit first undeclaredUnknown declaredKnown half
 creating = refl
 
 code : RoundCode (echo-lent .kinds) before echo between

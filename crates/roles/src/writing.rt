@@ -11,12 +11,9 @@ ghost use Rattle.calls.specs.Role.{sum, endsFrom, inTurn, halvesFrom};
 ghost use Rattle.knowing.specs.Known.{known};
 ghost use Rattle.compiler.specs.CompileKnown.{fromKnown};
 ghost use Rattle.roles.specs.Written.{roundEmitted, CodeFits, codeLeft, RoundsFit, roundsIn};
+use code::frame::INPUT;
+use code::frame::OUTPUT;
 use delivery::copy;
-
-// Operations 0 and 1, with every other field zero.
-const INPUT: u32 = 0;
-
-const OUTPUT: u32 = 0x08000000;
 
 // Where words end, and which cells are set after them.
 pub struct Written {

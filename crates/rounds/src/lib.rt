@@ -1,6 +1,7 @@
 // A round of a role on a session record.
 ghost use mathlib.Core.Path.{_≡_};
 ghost use Rattle.calls.specs.Round.{round, takenOf};
+use answers::NONE_WAITS;
 use answers::Rounded;
 use answers::Session;
 use turns::Finding;
@@ -28,7 +29,7 @@ pub fn take_of(session: Session) -> Taken
         counter: session.counter,
         round: session.round,
         message: session.message,
-        answer: 65535,
+        answer: NONE_WAITS,
     };
     Taken {
         session: left,

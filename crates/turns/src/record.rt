@@ -4,6 +4,7 @@ ghost use Prim.Native.Nat.{_<_, _≤_};
 ghost use Rattle.answers.specs.Numbers.{ranPlace};
 ghost use Rattle.numbers.specs.Limits.{mostRounds, mostRoundWords};
 ghost use Rattle.turns.specs.Played.{inRound, sessionAfter};
+use answers::NONE_WAITS;
 use answers::Ran;
 use answers::Session;
 use machine::Registers;
@@ -35,7 +36,7 @@ pub fn session_after(session: Session, registers: Registers) -> Session
         used: registers.used as u32,
         counter: registers.counter,
         round: session.round + 1,
-        message: 65535,
+        message: NONE_WAITS,
         answer: sent,
     }
 }

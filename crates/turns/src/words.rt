@@ -5,12 +5,9 @@ ghost use lib.ListN.{length};
 ghost use Rattle.word.specs.Lowest.{placeOf};
 ghost use Rattle.numbers.specs.Kinds.{kindIn};
 ghost use Rattle.calls.specs.Frame.{goodRoundWord, badRoundWord};
+use code::frame::INPUT;
+use code::frame::OUTPUT;
 use word::Place;
-
-// Operations 0 and 1, with every other field zero.
-const INPUT: u32 = 0;
-
-const OUTPUT: u32 = 0x08000000;
 
 fn good_round_word(kinds: &[u8], words: usize, place: usize, word: u32) -> bool
     requires { ⌜ place < words ⌝ }
