@@ -15,7 +15,7 @@ use Rattle.code.proofs.WordLaws.{no-bad-word-iff}
 use Rattle.terms.specs.Rules.{usedRows}
 use Rattle.terms.proofs.TableLaws.{used-rows}
 use Rattle.stores.specs.Cells.{unset, held}
-use Rattle.stores.specs.ValidStores.{UnsetOrUsed}
+use Rattle.stores.specs.GoodStores.{UnsetOrUsed}
 use Rattle.patterns.specs.Tree.{patternOf}
 use Rattle.theory.specs.Outcome.{Outcome, done, stuck, room}
 use Rattle.theory.specs.RowModel.{rowWorld}

@@ -16,7 +16,7 @@ use Rattle.answers.specs.declared.Ran.the-variants.{Done, Limit, BadTerm, BadSt
 use Rattle.answers.specs.declared.rounds.Rounded.the-variants.{Ran}
 use Rattle.terms.specs.Rules.{usedRows}
 use Rattle.stores.specs.Cells.{unset}
-use Rattle.stores.specs.ValidStores.{UnsetOrUsed}
+use Rattle.stores.specs.GoodStores.{UnsetOrUsed}
 use Rattle.patterns.specs.Tree.{patternOf}
 use Rattle.theory.specs.TermModel.{Term}
 use Rattle.theory.specs.Machine.{Line}

@@ -1,11 +1,11 @@
 -- What a round finds before its steps: each check in its order, and what their passing leaves true.
 use Prim.Native.Nat.{ℕ, _<_, _≤_}
-use mathlib.Core.Path.{_≡_, refl, _∙_}
+use mathlib.Core.Path.{_≡_, refl, sym, _∙_}
 use mathlib.Core.Bool.{Bool, true, false, not, _&&_}
 use mathlib.Core.Option.{Option, none, some}
 use mathlib.Core.List.{List}
 use native.Mathlib.Omega.{arith}
-use borrow.Author.Tests.{leb-false, le-leb, lt-leb}
+use borrow.Author.Tests.{not-true, not-false, leb-false, le-leb, lt-leb}
 use lib.Dec.{T, eqb, leb}
 use lib.ListN.{length}
 use Rattle.word.proofs.TestLaws.{both, twice, fails, is-false, equals, at-most}
@@ -35,19 +35,21 @@ module _ (session : Session) (rounds used : ℕ) where
   unfolding first
   turn-ended past = rw (le-leb rounds (session .round) past)
 
-  module _ (before : session .round < rounds) where
-    pub turn-waits : isSet (session .answer) ≡ true → Refused NotTaken ≡ roundFinding (first (turnRefusals session rounds)) used
+  module _ (before : session .round < rounds) (sent : Bool) (is : sent ≡ isSet (session .answer)) where
+    pub turn-waits : sent ≡ true → Refused NotTaken ≡ roundFinding (first (turnRefusals session rounds)) used
     unfolding first
-    turn-waits set = rw (lt-leb rounds (session .round) before, set)
+    turn-waits set = rw (lt-leb rounds (session .round) before, sym is ∙ set)
 
-    module _ (taken : isSet (session .answer) ≡ false) where
-      pub turn-empty : isSet (session .message) ≡ false → Refused NoMessage ≡ roundFinding (first (turnRefusals session rounds)) used
+    module _ (taken : sent ≡ false) (waits : Bool) (has : waits ≡ isSet (session .message)) where
+      pub turn-empty : not waits ≡ true → Refused NoMessage ≡ roundFinding (first (turnRefusals session rounds)) used
       unfolding first
-      turn-empty unset = rw (lt-leb rounds (session .round) before, taken, unset)
+      turn-empty unset = rw (lt-leb rounds (session .round) before, sym is ∙ taken, sym has ∙ not-true _ unset)
 
-      pub turn-accepted : isSet (session .message) ≡ true → Accepted used ≡ roundFinding (first (turnRefusals session rounds)) used
+      pub turn-accepted : not waits ≡ false → Accepted used ≡ roundFinding (first (turnRefusals session rounds)) used
       unfolding first
-      turn-accepted set = rw (lt-leb rounds (session .round) before, taken, set)
+      turn-accepted set = rw (lt-leb rounds (session .round) before, sym is ∙ taken, sym has ∙ not-false _ set)
+
+pub ruleset turn-ways = (turn-ended, turn-waits, turn-empty, turn-accepted)
 
 pub found-some : (o : Option Rounded) (used : ℕ) {answer : Rounded} → Refused answer ≡ roundFinding o used → o ≡ some answer
 found-some (some other) used e = cc
