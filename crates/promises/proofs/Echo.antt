@@ -30,7 +30,7 @@ use Rattle.calls.specs.Round.{received, answered, sentBy, round}
 use Rattle.promises.specs.Reading.{messageBefore}
 use Rattle.promises.specs.Rounds.{RoundAnswers}
 use Rattle.promises.specs.Halves.{setCells, RoundCode, ReadyRound, roundWords, answerAfter}
-use Rattle.promises.specs.Echo.{echo, echo-lent, nonce, Echo}
+use Rattle.promises.specs.Echo.{echo, echo-lent, echoed, Echo}
 use Rattle.promises.proofs.RoundLaws.{done-steps}
 use Rattle.promises.proofs.RoundDecisionLaws.{round-decided}
 
@@ -57,7 +57,7 @@ code = record {
   creates = record { lines = lineAt 0 (Encode (asObject 0)) ∷ []; env = between; compiles = creating; words = refl; carries = refl };
 }
 
-message-held : messageBefore (received echo-lent) ≡ some nonce
+message-held : messageBefore (received echo-lent) ≡ some echoed
 unfolding termAt held Row.rowOf Row.tagOf Row.shapeOf
 message-held = refl
 
@@ -65,7 +65,7 @@ done : RoundAnswers (round echo-lent (roundWords echo)) 0 4 0
 unfolding lowestFrom each oneOf Code.wordOf Code.instructionOf goodWord Row.rowOf Row.tagOf Row.shapeOf usedRows knownTag isPacked numberFits partsBelow keyKindFits earlierEqual badTermRow badTerm held cellOf storeOf cellsFrom agentsOnce kindsFit eachVariable valid put first stateOver leftBy linesFrom middle goodRoundWord badRoundWord answered sentBy round
 done = (refl, refl, refl)
 
-answer-held : answerAfter (round echo-lent (roundWords echo)) ≡ some nonce
+answer-held : answerAfter (round echo-lent (roundWords echo)) ≡ some echoed
 unfolding termAt lowestFrom each oneOf Code.wordOf Code.instructionOf goodWord Row.rowOf Row.tagOf Row.shapeOf usedRows knownTag isPacked numberFits partsBelow keyKindFits earlierEqual badTermRow badTerm held cellOf storeOf cellsFrom agentsOnce kindsFit eachVariable valid put first stateOver leftBy linesFrom middle goodRoundWord badRoundWord answered sentBy round
 answer-held = refl
 
@@ -93,5 +93,5 @@ worked-echo = record {
   ready = ready;
   message-held = message-held;
   done = done;
-  leads = round-decided echo-lent code ready message-held .finishes nonce _ .1 (done, answer-held, refl);
+  leads = round-decided echo-lent code ready message-held .finishes echoed _ .1 (done, answer-held, refl);
 }

@@ -30,14 +30,14 @@ echo-lent = record {
   terms = rowOf (Shape.atom 2 3) ∷ replicate 4 0;
 }
 
-abbrev pub nonce : Term
-nonce = atom 2 3
+abbrev pub echoed : Term
+echoed = atom 2 3
 
 pub record Echo : Type 0 where
   pub next : Env
   pub code : RoundCode (echo-lent .kinds) (setCells (received echo-lent)) echo next
   pub ready : ReadyRound (setCells (received echo-lent)) echo-lent (roundWords echo)
-  pub message-held : messageBefore (received echo-lent) ≡ some nonce
+  pub message-held : messageBefore (received echo-lent) ≡ some echoed
   -- done after its four words, and the figures lead from the nonce to the nonce
   pub done : RoundAnswers (round echo-lent (roundWords echo)) 0 4 0
-  pub leads : Leads echo echo-lent nonce nonce (storesAfter echo-lent (round echo-lent (roundWords echo)))
+  pub leads : Leads echo echo-lent echoed echoed (storesAfter echo-lent (round echo-lent (roundWords echo)))
