@@ -9,13 +9,13 @@ use Rattle.answers.specs.declared.Ran.{Ran}
 use Rattle.patterns.specs.Pattern.{Pattern, RawsBelow}
 use Rattle.patterns.specs.Tree.{patternOf}
 use Rattle.patterns.proofs.TreeLaws.{raws-below}
-use Rattle.theory.specs.Outcome.{Outcome, done, stuck, room}
+use Rattle.theory.specs.Outcome.{done}
 use Rattle.theory.specs.World.{World}
 use Rattle.theory.specs.RowModel.{rowWorld}
 use Rattle.theory.specs.Machine.{Line, State, exec}
 use Rattle.theory.specs.Emission.{Env, ok}
 use Rattle.theory.proofs.Compiled.{knownFrom, known, matching-sets, creating-sets}
-use Rattle.theory.proofs.Places.{movedTo, form, same-instructions}
+use Rattle.theory.proofs.Places.{movedTo, moved-done, same-instructions}
 use Rattle.theory.proofs.Room.{Free, left-free}
 use Rattle.numbers.specs.Limits.{namedCells}
 use Rattle.numbers.specs.Kinds.{kindIn}
@@ -36,12 +36,6 @@ tables-set : (create : Bool) (W : World) (kind : ℕ → ℕ) (p : Pattern) → 
 tables-set true W kind p below s t = creating-sets W kind p below s t
 tables-set false W kind p below s t = matching-sets W kind p below s t
 
--- done wherever its lines stand
-done-there : {A : Type 0} (o : Outcome A) (a : A) → movedTo 0 o ≡ done a → o ≡ done a
-done-there (done b) a e = e
-done-there (stuck place why) a e = absurd (omega (arith, ap form e))
-done-there (room place) a e = absurd (omega (arith, ap form e))
-
 module _ {x : Lent} {code : List ℕ} (p : Passed x code) (t : State rowWorld) (steps : stepsOf x code ≡ done t) (answer : Ran) where
   abbrev after : Lent
   after = lentAfter x (leftBy answer t)
@@ -50,12 +44,12 @@ module _ {x : Lent} {code : List ℕ} (p : Passed x code) (t : State rowWorld) (
   set-after : entry (after .objects) (take namedCells (after .messages)) ≡ known rowWorld (t .stores)
   set-after = lent-known after ∙ ap (λ s. known rowWorld (s .stores)) (state-back p t steps answer)
 
-  pub carried : (create : Bool) (rows : List ℕ) {lines : List Line} {e : Env} → half create rows (x .kinds) (entry (x .objects) (take namedCells (x .messages))) ≡ ok lines e
-      → codeWords lines ≡ code → entry (after .objects) (take namedCells (after .messages)) ≡ again e
+  pub carried : (create : Bool) (rows : List ℕ) {lines : List Line} {e : Env}
+      → half create rows (x .kinds) (entry (x .objects) (take namedCells (x .messages))) ≡ ok lines e → codeWords lines ≡ code → entry (after .objects) (take namedCells (after .messages)) ≡ again e
   carried create rows {lines} {e} compiles words =
       let h = half-done create rows (x .kinds) (entry (x .objects) (take namedCells (x .messages))) refl lines e compiles in
       let read = ap (λ words. map (λ l. l .instruction) (linesOf words)) (sym words) ∙ compiled-words-read (kindIn (x .kinds)) lines (h .limits .lines) in
-      let ends = done-there (exec rowWorld (kindIn (x .kinds)) lines (stateOf x)) t
+      let ends = moved-done 0 (exec rowWorld (kindIn (x .kinds)) lines (stateOf x))
       (sym (same-instructions rowWorld (kindIn (x .kinds)) (linesOf code) lines (stateOf x) read) ∙ ap (movedTo 0) steps) in
       let emits = ap (tables create (kindIn (x .kinds)) (patternOf rows)) (sym (lent-known x)) ∙ h .emits in
       set-after ∙ sym (ap again (tables-set create rowWorld (kindIn (x .kinds)) (patternOf rows) (raws-below rows) (stateOf x) t emits ends))

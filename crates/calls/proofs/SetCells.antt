@@ -1,5 +1,5 @@
 -- Compile sees only which cells are set, and of the code slice only its length.
-use mathlib.Core.Path.{_≡_, refl, _∙_, ap, fun-ext}
+use mathlib.Core.Path.{_≡_, refl, _∙_, ap}
 use mathlib.Core.Bool.{Bool, true, false, cond, not}
 use mathlib.Core.Option.{Option, none, some}
 use mathlib.Core.List.{List, [], _∷_, _++_}
@@ -44,8 +44,9 @@ lent-known x =
     entry-known rowWorld (x .objects) (take namedCells (x .messages)) (stateOf x .stores)
     (λ v. set-held (getD (x .objects) v unset)) (λ r. set-held (getD (take namedCells (x .messages)) r unset))
 
-set-function : (cells others : List ℕ) → SameSet cells others → _≡_ {A = ℕ → Bool} (λ v. isSet (getD cells v unset)) (λ v. isSet (getD others v unset))
-set-function cells others s = fun-ext (s .same-set)
+-- the same cells set, the same environment
+pub same-entry : (objects objects′ named named′ : List ℕ) → SameSet objects objects′ → SameSet named named′ → entry objects named ≡ entry objects′ named′
+same-entry objects objects′ named named′ o n = λ i. record { objects = λ v. o .same-set v i; raws = λ r. n .same-set r i; next = 0 }
 
 undeclared-same : (kinds cells others : List ℕ) → SameSet cells others → eachVariable undeclaredUnset kinds cells ≡ eachVariable undeclaredUnset kinds others
 unfolding eachVariable
@@ -91,7 +92,7 @@ module _ (create : Bool) (pattern kinds : List ℕ) where
       refusals-same = rw (o .same-length, n .same-length, declared-same kinds objects objects′ o)
 
       emitted-same : emitted create pattern kinds objects named ≡ emitted create pattern kinds objects′ named′
-      emitted-same = λ i. tables create (kindIn kinds) (patternOf pattern) (record { objects = set-function objects objects′ o i; raws = set-function named named′ n i; next = 0 })
+      emitted-same = ap (tables create (kindIn kinds) (patternOf pattern)) (same-entry objects objects′ named named′ o n)
 
       by-refusal : (r : Option Compiled) → compileBy create pattern kinds objects named r code ≡ compileBy create pattern kinds objects′ named′ r code
       by-refusal (some answer) = refl

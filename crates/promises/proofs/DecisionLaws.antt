@@ -33,6 +33,10 @@ pub enough : {x : Lent} {count : ℕ} → Room x count → Free count count (sta
 unfolding stateOver
 enough r = (r .rows, r .names)
 
+pub roomy : {x : Lent} {count : ℕ} → Free count count (stateOf x .stores .memory) → Room x count
+unfolding stateOver
+roomy f = record { rows = f .0; names = f .1 }
+
 -- figure 2 gives one end
 module _ (pattern : List ℕ) (x : Lent) (m : Term) (code : List ℕ) (right : RightKinds false (kindIn (x .kinds)) (patternOf pattern)) where
   match-once : (n n′ : TermStores) → MatchesTo pattern x m n → MatchesTo pattern x m n′ → n ≡ n′

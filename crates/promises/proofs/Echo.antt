@@ -4,8 +4,10 @@ use mathlib.Core.Option.{some}
 use mathlib.Core.List.{[], _∷_, flatMap}
 use mathlib.Core.Bool.{true, false}
 use native.Mathlib.Omega.{arith}
+use lib.ListN.{replicate}
 use Rattle.word.specs.Lowest.{lowestFrom, each, oneOf}
 use Rattle.numbers.specs.Sorts.{asObject}
+use Rattle.answers.specs.declared.Compiled.the-variants.{Done}
 use Rattle.code.specs.Instruction as Code
 use Rattle.code.specs.Words.{goodWord}
 use Rattle.code.specs.declared.Instruction.the-variants.{Decode, Encode}
@@ -23,6 +25,7 @@ use Rattle.theory.specs.Machine.{lineAt}
 use Rattle.theory.specs.Emission.{Env, ok, behind, andThen, addObject, emit}
 use Rattle.theory.specs.Meaning.{termAt}
 use Rattle.answers.specs.First.{first}
+use Rattle.calls.specs.Role.{sum, afterHalves, halfThen, halvesFrom, roundsOf, inTurn, endsFrom, role}
 use Rattle.calls.specs.Half.{undeclaredUnknown, declaredKnown, half}
 use Rattle.calls.specs.Run.{stateOver, leftBy, linesFrom}
 use Rattle.calls.specs.Frame.{middle, goodRoundWord, badRoundWord}
@@ -30,7 +33,7 @@ use Rattle.calls.specs.Round.{received, answered, sentBy, round}
 use Rattle.promises.specs.Reading.{messageBefore}
 use Rattle.promises.specs.Rounds.{RoundAnswers}
 use Rattle.promises.specs.Halves.{setCells, RoundCode, ReadyRound, roundWords, answerAfter}
-use Rattle.promises.specs.Echo.{echo, echo-lent, echoed, Echo}
+use Rattle.promises.specs.Echo.{echo, echo-lent, echo-role, echoed, Echo}
 use Rattle.promises.proofs.RoundLaws.{done-steps}
 use Rattle.promises.proofs.RoundDecisionLaws.{round-decided}
 
@@ -48,6 +51,10 @@ matching = refl
 creating : half true (echo .creating) (echo-lent .kinds) between ≡ ok (lineAt 0 (Encode (asObject 0)) ∷ []) between
 unfolding flatMap lowestFrom each oneOf kindsFit patternFields Patterns.repeats Patterns.badRow Patterns.unnamed Patterns.badPattern patternsFrom patternsOf patternOf wrongKind put behind andThen emit first undeclaredUnknown declaredKnown half
 creating = refl
+
+role-compiled : role (0 ∷ []) (replicate 4 7) echo-role ≡ record { answer = Done 4; half = 0; ends = 4 ∷ []; code = roundWords echo }
+unfolding sum halvesFrom halfThen afterHalves roundsOf inTurn endsFrom role Code.wordOf flatMap lowestFrom each oneOf kindsFit patternFields Patterns.repeats Patterns.badRow Patterns.unnamed Patterns.badPattern patternsFrom patternsOf patternOf wrongKind put behind andThen emit first undeclaredUnknown declaredKnown half
+role-compiled = refl
 
 code : RoundCode (echo-lent .kinds) before echo between
 unfolding Code.wordOf
@@ -88,6 +95,7 @@ ready =
 
 pub worked-echo : Echo
 worked-echo = record {
+  role-compiled = role-compiled;
   next = between;
   code = code;
   ready = ready;

@@ -198,7 +198,8 @@ module _ (x : Lent) {create : Bool} {rows code : List ℕ} {next : Env} (h : Hal
   abbrev slice : List ℕ
   slice = replicate mostCodeWords 0
 
-  wrote : Valid x → compile create rows (x .kinds) (x .objects) (take namedCells (x .messages)) slice ≡ leaves (Compiled.Done (length code)) (code ++ drop (length code) slice)
+  wrote : Valid x
+      → compile create rows (x .kinds) (x .objects) (take namedCells (x .messages)) slice ≡ leaves (Compiled.Done (length code)) (code ++ drop (length code) slice)
   wrote v =
       compile-half create rows (x .kinds) (x .objects) (take namedCells (x .messages)) (v .within .objects) (named-long x v) slice
       ∙ ap (λ E. finished E slice) (h .compiles) ∙ ap (λ words. written words slice) (h .words)

@@ -22,7 +22,7 @@ use Rattle.calls.proofs.CompileLaws.{NotDone}
 use Rattle.calls.proofs.HalfLaws.{half-refuses}
 use Rattle.promises.specs.Halves.{HalfCode, RoundHalves, roundWords, RoundCode, RoleCode, RoundPlays, RolePlays, ended, next, halfRows, roundPatterns, RoleRounds}
 use Rattle.promises.proofs.CompileLaws.{number-done}
-use Rattle.promises.proofs.RoundDecisionLaws.{round-few, round-decided, round-valid-again, cells-again}
+use Rattle.promises.proofs.RoundDecisionLaws.{round-few, round-decided, cells-again}
 
 halves-inj : {a b : List (List ℕ)} → compiled a ≡ compiled b → a ≡ b
 halves-inj {a} e = ap words e
@@ -117,11 +117,11 @@ module _ (kinds : List ℕ) where
       by-half later (ok lines env) h e = by-rest lines env (later env) (others (again env)) refl e
 
 -- a compiled round plays, for any stores
-round-plays : {kinds : List ℕ} {set carried : Env} {r : RoundHalves} → set .next ≡ 0 → RoundCode kinds set r carried → RoundPlays kinds set r carried
+pub round-plays : {kinds : List ℕ} {set carried : Env} {r : RoundHalves} → set .next ≡ 0 → RoundCode kinds set r carried → RoundPlays kinds set r carried
 round-plays {kinds} {set} {carried} {r} start c = record {
   few-words = round-few c start;
   decides = λ x k ready message. round-decided x (own x k) ready message;
-  leaves = λ x k cells e message fits. (round-valid-again x (roundWords r) e message fits, cells-again x (own x k) cells e);
+  leaves = λ x k cells e. cells-again x (own x k) cells e;
 }
   where
     own : (x : RoundLent) → x .kinds ≡ kinds → RoundCode (x .kinds) set r carried
@@ -167,7 +167,8 @@ module _ (x : RoleLent) (ends slice : List ℕ) where
       }
       go false e = absurd (omega (arith, e))
 
-  by-halves : (length (x .counts) % 2 ≡ 0) × (length (x .counts) / 2 ≤ mostRounds) → (H : Halves) → halvesOf ends slice x ≡ H → compiledNumber (roleBy ends slice H .answer) ≡ 0 → RoleRounds x slice (roleBy ends slice H)
+  by-halves : (length (x .counts) % 2 ≡ 0) × (length (x .counts) / 2 ≤ mostRounds) → (H : Halves) → halvesOf ends slice x ≡ H
+      → compiledNumber (roleBy ends slice H .answer) ≡ 0 → RoleRounds x slice (roleBy ends slice H)
   by-halves fit (compiled halves) q e = by-room (fit .1) halves (chain (x .kinds) 0 (x .counts) (x .rows) (entry (x .objects) (x .named)) halves (fit .0) q) e
   by-halves fit (refusedIn n answer) q e =
       absurd (halves-refuse (x .kinds) 0 false (x .counts) (x .rows) (entry (x .objects) (x .named)) refl n answer q (compiledPlace answer) (number-done answer e))

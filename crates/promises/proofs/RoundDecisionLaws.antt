@@ -17,15 +17,14 @@ use Rattle.terms.proofs.TableLaws.{used-rows}
 use Rattle.stores.specs.Cells.{unset, held}
 use Rattle.stores.specs.GoodStores.{UnsetOrUsed}
 use Rattle.patterns.specs.Tree.{patternOf}
-use Rattle.theory.specs.Outcome.{Outcome, done, stuck, room}
+use Rattle.theory.specs.Outcome.{done}
 use Rattle.theory.specs.RowModel.{rowWorld}
 use Rattle.theory.specs.Machine.{State, exec}
 use Rattle.theory.specs.Emission.{Env}
 use Rattle.theory.specs.TermModel.{Term}
 use Rattle.theory.specs.Figure2.{TermStores}
 use Rattle.theory.specs.Figure3.{Creates}
-use Rattle.theory.proofs.InTurn.{from}
-use Rattle.theory.proofs.Room.{Free}
+use Rattle.theory.proofs.InTurn.{from-done}
 use Rattle.theory.proofs.RowsKept.{exec-appends}
 use Rattle.calls.specs.Run.{Lent, RunOutcome, lentAfter, stateOver, stateOf, leftBy, linesOf, run}
 use Rattle.calls.specs.Frame.{middle}
@@ -42,7 +41,7 @@ use Rattle.promises.specs.Rounds.{GoodRoundWord, Due}
 use Rattle.promises.specs.Halves.{matched, between, created, sent, byHalves, setCells, HalfCode, RoundHalves, roundWords, RoundCode, ValidRound, ReadyRound, Leads, DecidesRound, roundAfter, putMessage}
 use Rattle.promises.proofs.RunLaws.{finished}
 use Rattle.promises.proofs.ValidLaws.{run-valid-again}
-use Rattle.promises.proofs.DecisionLaws.{enough, held-row, decided-match, decided-creation}
+use Rattle.promises.proofs.DecisionLaws.{enough, roomy, held-row, decided-match, decided-creation}
 use Rattle.promises.proofs.RoundLaws.{done-steps}
 use Rattle.promises.proofs.HalvesLaws.{middle-good, framed-length, framed-good, one-after-the-other, number-cases, half-goes, half-stops, both-done, done-both, half-few, half-good, half-prepared, half-carried}
 
@@ -50,10 +49,6 @@ use Rattle.promises.proofs.HalvesLaws.{middle-good, framed-length, fram
 zero-answers : (x : Lent) (code : List ℕ) → runNumber (run x code) ≡ 0 → RunAnswers (run x code) 0 (length code) 0
 unfolding leftBy
 zero-answers x code e = rw (finished x code e .left) (refl, refl, refl)
-
-roomy : {x : Lent} {count : ℕ} → Free count count (stateOf x .stores .memory) → Room x count
-unfolding stateOver
-roomy f = record { rows = f .0; names = f .1 }
 
 -- a set message
 waits : (terms : List ℕ) (message row : ℕ) → held message ≡ some row → message ≢ unset
@@ -93,8 +88,10 @@ module _ (x : RoundLent) {set next : Env} {r : RoundHalves} (c : RoundCode (x .k
   pub cells-again : roundedNumber (round x (roundWords r) .answer) ≡ 0 → setCells (received (roundAfter x (round x (roundWords r)))) ≡ next
   cells-again e =
       let whole = round-is (done-steps x (roundWords r) e .0) in
-      let (f, s) = done-both x (r .first) (r .second) (matched x (r .first)) (created x (r .first) (r .second)) (ap (λ (o : RoundOutcome). roundedNumber (o .answer)) (sym whole) ∙ e) in
-      ap (λ (o : RoundOutcome). setCells (received (roundAfter x o))) (whole ∙ both-done x (r .first) (r .second) (matched x (r .first)) (created x (r .first) (r .second)) f s)
+      let first = matched x (r .first) in
+      let second = created x (r .first) (r .second) in
+      let (f, s) = done-both x (r .first) (r .second) first second (ap (λ (o : RoundOutcome). roundedNumber (o .answer)) (sym whole) ∙ e) in
+      ap (λ (o : RoundOutcome). setCells (received (roundAfter x o))) (whole ∙ both-done x (r .first) (r .second) first second f s)
       ∙ half-carried (between x (r .first)) (second-code f) s
 
 module _ (x : RoundLent) {set next : Env} {r : RoundHalves} (c : RoundCode (x .kinds) set r next) (ready : ReadyRound set x (roundWords r)) where
@@ -155,7 +152,9 @@ module _ (x : RoundLent) {set next : Env} {r : RoundHalves} (c : RoundCode (x .k
 
     -- the creation that the figures lead to starts from the stores that the first half left
     from-between : {a : Term} {n : TermStores} → Leads r x m a n → Creates (kindIn (x .kinds)) (after (received x) first) (patternOf (r .creating)) a n
-    from-between {a} {n} l = subst (λ s. Creates (kindIn (x .kinds)) s (patternOf (r .creating)) a n) (sym (match .finishes (l .stores) .0 (l .matches) .1)) (l .creates)
+    from-between {a} {n} l =
+        let left = match .finishes (l .stores) .0 (l .matches) .1 in
+        subst (λ s. Creates (kindIn (x .kinds)) s (patternOf (r .creating)) a n) (sym left) (l .creates)
 
     sticks : roundedNumber (outcome .answer) ≡ 10 → ((a : Term) (n : TermStores) → Leads r x m a n → ⊥) → DecidesRound r x m
     sticks ten never = record {
@@ -174,8 +173,8 @@ module _ (x : RoundLent) {set next : Env} {r : RoundHalves} (c : RoundCode (x .k
       second-sticks : runNumber second ≢ 0 → DecidesRound r x m
       second-sticks other =
           let ten = creation e .stuck .1 (λ a n h. other (creation e .finishes a n .0 h .0 .0)) in
-          sticks
-          (ap (λ (o : RoundOutcome). roundedNumber (o .answer)) (whole ∙ half-goes x 1 (first .answer) _ e) ∙ half-stops x (1 + length (r .first)) (second .answer) _ other ∙ ten)
+          let stops = half-stops x (1 + length (r .first)) (second .answer) (sent (length (roundWords r)) x second) other in
+          sticks (ap (λ (o : RoundOutcome). roundedNumber (o .answer)) (whole ∙ half-goes x 1 (first .answer) _ e) ∙ stops ∙ ten)
           λ a n l. other (creation e .finishes a n .0 (from-between l) .0 .0)
 
       both-finish : runNumber second ≡ 0 → DecidesRound r x m
@@ -207,12 +206,6 @@ module _ (x : RoundLent) {set next : Env} {r : RoundHalves} (c : RoundCode (x .k
         go (inr other) f = first-sticks other
         go (inl e) (inr other) = second-sticks e other
         go (inl e) (inl f) = both-finish e f
-
--- an outcome counted from an earlier word is done where it was
-done-from : {A : Type 0} (place : ℕ) (o : Outcome A) (a : A) → from place o ≡ done a → o ≡ done a
-done-from place (done b) a e = e
-done-from place (stuck other why) a e = absurd (let z : _≡_ {A = ℕ} 0 1 = cc in omega arith)
-done-from place (room other) a e = absurd (let z : _≡_ {A = ℕ} 0 1 = cc in omega arith)
 
 -- valid stores with another accumulator, and the record of a done round
 module _ (x : RoundLent) (code : List ℕ) (t : State rowWorld) (v : Valid (lentAfter (received x) (leftBy (Done (length code)) t))) (message : ℕ) where
@@ -249,8 +242,9 @@ round-valid-again x code e message fits =
     let (due, (t, comes, left)) = done-steps x code e in
     let kind = kindIn (x .kinds) in
     let valid : Valid (received x) = record { within = due .checked .within .lent; table = due .checked .table; stores = due .checked .record-valid .stores } in
-    let steps = done-from 1 (exec rowWorld kind (linesOf (middle code)) (stateOf (received x))) t (sym (later-steps kind 1 (middle code) (stateOf (received x))) ∙ comes) in
+    let start = stateOf (received x) in
+    let steps = from-done 1 (exec rowWorld kind (linesOf (middle code)) start) (sym (later-steps kind 1 (middle code) start) ∙ comes) in
     let good = no-bad-word-iff kind (middle code) .1 (middle-good kind code (due .checked .within .words .0) (due .checked .words)) in
     let last = state-valid (received x) (middle code) valid good t steps in
-    let rows = exec-appends kind (linesOf (middle code)) (stateOf (received x)) t (used-rows (x .terms) .inside) steps in
+    let rows = exec-appends kind (linesOf (middle code)) start t (used-rows (x .terms) .inside) steps in
     rw left (put-valid x code t (stays-valid (received x) valid t last rows (Done (length code))) message (rw left at fits))

@@ -3,6 +3,7 @@ use mathlib.Core.Path.{_≡_}
 use mathlib.Core.Option.{some}
 use mathlib.Core.List.{[], _∷_}
 use lib.ListN.{replicate}
+use Rattle.answers.specs.declared.Compiled.the-variants.{Done}
 use Rattle.terms.specs.Shape as Shape
 use Rattle.terms.specs.Row.{rowOf}
 use Rattle.stores.specs.Cells.{unset}
@@ -10,6 +11,7 @@ use Rattle.theory.specs.TermModel.{Term, atom}
 use Rattle.theory.specs.Emission.{Env}
 use Rattle.calls.specs.Cases.{objectRow, kinds, cells, word}
 use Rattle.calls.specs.Round.{RoundLent, received, round}
+use Rattle.calls.specs.Role.{RoleLent, role}
 use Rattle.promises.specs.Reading.{messageBefore}
 use Rattle.promises.specs.Rounds.{RoundAnswers}
 use Rattle.promises.specs.Halves.{setCells, RoundHalves, roundWords, RoundCode, ReadyRound, storesAfter, Leads}
@@ -33,7 +35,12 @@ echo-lent = record {
 abbrev pub echoed : Term
 echoed = atom 2 3
 
+-- the role of that one round, and a slice of four words
+abbrev pub echo-role : RoleLent
+echo-role = record { rows = objectRow 0 ∷ objectRow 0 ∷ []; counts = 1 ∷ 1 ∷ []; kinds = kinds (2 ∷ []); objects = cells []; named = cells [] }
+
 pub record Echo : Type 0 where
+  pub role-compiled : role (0 ∷ []) (replicate 4 7) echo-role ≡ record { answer = Done 4; half = 0; ends = 4 ∷ []; code = roundWords echo }
   pub next : Env
   pub code : RoundCode (echo-lent .kinds) (setCells (received echo-lent)) echo next
   pub ready : ReadyRound (setCells (received echo-lent)) echo-lent (roundWords echo)

@@ -23,7 +23,7 @@ use Rattle.theory.specs.Machine.{Line}
 use Rattle.theory.specs.Emission.{Env, ok}
 use Rattle.theory.specs.Figure2.{TermStores, Matches}
 use Rattle.theory.specs.Figure3.{Creates}
-use Rattle.calls.specs.Compile.{codeWords, entry}
+use Rattle.calls.specs.Compile.{SameSet, codeWords, entry}
 use Rattle.calls.specs.Half.{half}
 use Rattle.calls.specs.Run.{Lent, RunOutcome, lentAfter, run}
 use Rattle.calls.specs.Frame.{framed}
@@ -95,6 +95,7 @@ pub record RoundHalves : Type 0 where
 abbrev pub roundWords : RoundHalves → List ℕ
 roundWords r = framed (r .first ++ r .second)
 
+-- the creating half is compiled for the cells that are set once the matching half is done
 pub record RoundCode (kinds : List ℕ) (set : Env) (r : RoundHalves) (next : Env) : Type 0 where
   pub carried : Env
   pub matches : HalfCode false (r .matching) kinds set (r .first) carried
@@ -135,7 +136,8 @@ pub record Leads (r : RoundHalves) (x : RoundLent) (m a : Term) (n : TermStores)
 pub record DecidesRound (r : RoundHalves) (x : RoundLent) (m : Term) : Type 0 where
   pub finishes : (a : Term) (n : TermStores)
       → Leads r x m a n
-      ↔ (RoundAnswers (round x (roundWords r)) 0 (length (roundWords r)) 0 × (answerAfter (round x (roundWords r)) ≡ some a) × (storesAfter x (round x (roundWords r)) ≡ n))
+      ↔ (RoundAnswers (round x (roundWords r)) 0 (length (roundWords r)) 0
+      × (answerAfter (round x (roundWords r)) ≡ some a) × (storesAfter x (round x (roundWords r)) ≡ n))
   pub stuck : (roundedNumber (round x (roundWords r) .answer) ≡ 10) ↔ ((a : Term) (n : TermStores) → Leads r x m a n → ⊥)
   pub room : roundedNumber (round x (roundWords r) .answer) ≢ 11
 
@@ -169,22 +171,22 @@ putMessage message x =
 -- a role's rounds in turn, each compiled for the cells that the rounds before it leave set
 pub data RoleCode (kinds : List ℕ) : Env → List RoundHalves → Type 0 where
   none : {set : Env} → RoleCode kinds set []
-  more : {set carried : Env} {r : RoundHalves} {rounds : List RoundHalves} → RoundCode kinds set r carried → RoleCode kinds carried rounds → RoleCode kinds set (r ∷ rounds)
+  more : {set carried : Env} {r : RoundHalves} {rounds : List RoundHalves}
+      → RoundCode kinds set r carried → RoleCode kinds carried rounds → RoleCode kinds set (r ∷ rounds)
 
--- A round from any valid stores with the set cells that it was compiled for: the figures decide it, and once it is done
--- what was lent is valid for any message of the table, with the set cells that the next round is compiled for.
+-- From any valid stores with the set cells that it was compiled for a round is decided by the figures, and once done it leaves
+-- the set cells that the next round is compiled for.
 pub record RoundPlays (kinds : List ℕ) (set : Env) (r : RoundHalves) (next : Env) : Type 0 where
   pub few-words : length (roundWords r) ≤ 1536
   pub decides : (x : RoundLent) {m : Term} → x .kinds ≡ kinds → ReadyRound set x (roundWords r) → messageBefore (received x) ≡ some m → DecidesRound r x m
   pub leaves : (x : RoundLent) → x .kinds ≡ kinds → setCells (received x) ≡ set → roundedNumber (round x (roundWords r) .answer) ≡ 0
-      → (message : ℕ) → UnsetOrUsed (usedRows (round x (roundWords r) .terms)) message
-      → ValidRound (putMessage message (roundAfter x (round x (roundWords r))))
-      × (setCells (received (putMessage message (roundAfter x (round x (roundWords r))))) ≡ next)
+      → setCells (received (roundAfter x (round x (roundWords r)))) ≡ next
 
 -- round after round
 pub data RolePlays (kinds : List ℕ) : Env → List RoundHalves → Type 0 where
   ended : {set : Env} → RolePlays kinds set []
-  next : {set carried : Env} {r : RoundHalves} {rounds : List RoundHalves} → RoundPlays kinds set r carried → RolePlays kinds carried rounds → RolePlays kinds set (r ∷ rounds)
+  next : {set carried : Env} {r : RoundHalves} {rounds : List RoundHalves}
+      → RoundPlays kinds set r carried → RolePlays kinds carried rounds → RolePlays kinds set (r ∷ rounds)
 
 -- the halves' rows, one count after another
 abbrev pub halfRows : List ℕ → List ℕ → List (List ℕ)
@@ -210,6 +212,8 @@ pub record HalvesInTurn : Type 0 where
   -- a round that is due is the run of one half and then of the other
   pub in-turn : (x : RoundLent) (m c : List ℕ) → Due x (framed (m ++ c)) → length m ≤ mostCodeWords → length c ≤ mostCodeWords
       → round x (framed (m ++ c)) ≡ byHalves x m c (matched x m) (created x m c)
+  -- cells of which the same are set are the same to compile
+  pub same-cells : (x : Lent) {objects named : List ℕ} → SameSet (x .objects) objects → SameSet (take namedCells (x .messages)) named → setCells x ≡ entry objects named
   -- a half is compiled as a pattern alone is, so demand 3 decides its run
   pub prepared : (x : Lent) {create : Bool} {rows code : List ℕ} {next : Env} → HalfCode create rows (x .kinds) (setCells x) code next
       → Valid x → Room x (length code) → Prepared create rows x code
@@ -220,13 +224,9 @@ pub record HalvesInTurn : Type 0 where
   pub prepared-second : (x : RoundLent) {set next : Env} {r : RoundHalves} → RoundCode (x .kinds) set r next → ReadyRound set x (roundWords r)
       → runNumber (matched x (r .first)) ≡ 0 → Prepared true (r .creating) (between x (r .first)) (r .second)
   -- and the figures decide the round
-  pub decided : (x : RoundLent) {set next : Env} {r : RoundHalves} {m : Term} → RoundCode (x .kinds) set r next → ReadyRound set x (roundWords r)
-      → messageBefore (received x) ≡ some m → DecidesRound r x m
+  pub plays : {kinds : List ℕ} {set next : Env} {r : RoundHalves} → set .next ≡ 0 → RoundCode kinds set r next → RoundPlays kinds set r next
   -- after a finished round what was lent is valid again, for any message of the table
   pub valid-again : (x : RoundLent) (code : List ℕ) → roundedNumber (round x code .answer) ≡ 0
       → (message : ℕ) → UnsetOrUsed (usedRows (round x code .terms)) message → ValidRound (putMessage message (roundAfter x (round x code)))
-  -- with the set cells that the next round is compiled for
-  pub set-again : (x : RoundLent) {set next : Env} {r : RoundHalves} → RoundCode (x .kinds) set r next → setCells (received x) ≡ set
-      → roundedNumber (round x (roundWords r) .answer) ≡ 0 → setCells (received (roundAfter x (round x (roundWords r)))) ≡ next
   -- a role's rounds are such rounds, and play in turn
   pub roles : (x : RoleLent) (ends slice : List ℕ) → compiledNumber (role ends slice x .answer) ≡ 0 → RoleRounds x slice (role ends slice x)

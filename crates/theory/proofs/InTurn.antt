@@ -2,12 +2,13 @@
 use mathlib.Core.Path.{_≡_, refl, sym, _∙_, ap, fun-ext}
 use mathlib.Core.List.{List, [], _∷_, map}
 use Prim.Native.Nat.{ℕ, _+_}
+use native.Mathlib.Omega.{arith}
 use Rattle.code.specs.declared.Instruction.{Instruction}
 use Rattle.theory.specs.Outcome.{Outcome, done, stuck, room, bind}
 use Rattle.theory.specs.World.{World}
 use Rattle.theory.specs.Machine.{Line, lineAt, State, step, exec}
 pub use Rattle.theory.proofs.Simulation.{exec-append}
-use Rattle.theory.proofs.Places.{movedTo, moved-step}
+use Rattle.theory.proofs.Places.{movedTo, form, moved-step}
 
 -- an outcome whose place is counted from an earlier word
 module _ {A : Type 0} where
@@ -15,6 +16,11 @@ module _ {A : Type 0} where
   from first (done a) = done a
   from first (stuck place why) = stuck (first + place) why
   from first (room place) = room (first + place)
+
+  pub from-done : (first : ℕ) (o : Outcome A) {a : A} → from first o ≡ done a → o ≡ done a
+  from-done first (done b) e = e
+  from-done first (stuck place why) e = absurd (omega (arith, ap form e))
+  from-done first (room place) e = absurd (omega (arith, ap form e))
 
   from-moved : (first place : ℕ) (o : Outcome A) → from first (movedTo place o) ≡ movedTo (first + place) o
   from-moved first place (done a) = refl

@@ -3,6 +3,7 @@ use mathlib.Core.Path.{_≡_, refl, sym, _∙_, ap, fun-ext}
 use mathlib.Core.Option.{Option, none, some}
 use mathlib.Core.List.{List, [], _∷_, map}
 use Prim.Native.Nat.{ℕ, zero, suc}
+use native.Mathlib.Omega.{arith}
 use Rattle.code.specs.declared.Instruction.{Instruction}
 use Rattle.code.specs.declared.Instruction.the-variants.{Load, Store, StoreConst, Decode, Encode, Create, AnalyzeTuple, CreateTuple, Opposite, KeyOf, Match, Encrypt, Decrypt, Sign, Verify, Hash}
 use Rattle.theory.specs.Outcome.{Outcome, done, stuck, room, bind, Answer, got, not, full, at, need}
@@ -21,6 +22,11 @@ module _ {A : Type 0} where
   form (done a) = 0
   form (stuck place why) = 1
   form (room place) = 2
+
+  pub moved-done : (place : ℕ) (x : Outcome A) {a : A} → movedTo place x ≡ done a → x ≡ done a
+  moved-done place (done b) e = e
+  moved-done place (stuck other why) e = absurd (omega (arith, ap form e))
+  moved-done place (room other) e = absurd (omega (arith, ap form e))
 
 module _ {A B : Type 0} (place : ℕ) where
   moved-bind : (x : Outcome A) (f : A → Outcome B) → movedTo place (bind x f) ≡ bind (movedTo place x) (λ a. movedTo place (f a))

@@ -72,4 +72,5 @@ module _ (code : List ℕ) (two : 2 ≤ length code) where
   unfolding badWord badRoundWord
   good-middle kind e = lowest-none (λ place word. not (goodWord kind word)) 0 (middle code) .1 λ i inside.
       let within : 1 + i < length code = omega (arith, middle-length code two) in
-      rw (middle-at code two i inside, good-between kind (length code) (1 + i) (getD code (1 + i) 0) (λ z. omega arith) (λ z. omega (arith, middle-length code two))) (lowest-none (bad kind (length code)) 0 code .0 e (1 + i) within)
+      rw (middle-at code two i inside, good-between kind (length code) (1 + i) (getD code (1 + i) 0) (λ z. omega arith) (λ z. omega (arith, middle-length code two)))
+      (lowest-none (bad kind (length code)) 0 code .0 e (1 + i) within)
