@@ -35,7 +35,15 @@ fn over_rows(
 ) -> RoundLeft
     requires { ⌜ (length (now terms) ≡ 8 * length (now rows)) × (length (now rows) ≤ mostTermRows) ⌝ }
     ensures { λ r. ⌜ record { answer = r .answer; session = r .session; objects = r .objects; messages = r .messages; terms = now (terms .exit) }
-        ≡ roundRowsSpelled (round (record { session = session; rounds = rounds; kinds = now (kinds .entry); objects = objects; messages = messages; certificates = now (certificates .entry); terms = elements 8 (now (terms .entry)) }) (now (words .entry))) ⌝ }
+        ≡ roundRowsSpelled (round (record {
+          session = session;
+          rounds = rounds;
+          kinds = now (kinds .entry);
+          objects = objects;
+          messages = messages;
+          certificates = now (certificates .entry);
+          terms = elements 8 (now (terms .entry));
+        }) (now (words .entry))) ⌝ }
 {
     let mut new_objects = objects;
     let mut new_messages = messages;
@@ -74,7 +82,15 @@ pub fn over_table(
 ) -> RoundLeft
     requires { ⌜ (length (now terms) ≡ 8 * (length (now terms) / 8)) × (length (now terms) / 8 ≤ mostTermRows) ⌝ }
     ensures { λ r. ⌜ record { answer = r .answer; session = r .session; objects = r .objects; messages = r .messages; terms = now (terms .exit) }
-        ≡ roundRowsSpelled (round (record { session = session; rounds = rounds; kinds = now (kinds .entry); objects = objects; messages = messages; certificates = now (certificates .entry); terms = elements 8 (now (terms .entry)) }) (now (words .entry))) ⌝ }
+        ≡ roundRowsSpelled (round (record {
+          session = session;
+          rounds = rounds;
+          kinds = now (kinds .entry);
+          objects = objects;
+          messages = messages;
+          certificates = now (certificates .entry);
+          terms = elements 8 (now (terms .entry));
+        }) (now (words .entry))) ⌝ }
 {
     let lent = terms.len() / 8;
     if lent <= FEW_ROWS {

@@ -26,7 +26,15 @@ pub extern "C" fn cram_round(
     code: &[u8],
 ) -> RoundAnswer
     ensures { λ r. ⌜ record { answer = r; session = now (session .exit); objects = now (objects .exit); messages = now (messages .exit); terms = now (terms .exit) }
-        ≡ roundEntry (record { session = now (session .entry); rounds = rounds; kinds = now (kinds .entry); objects = now (objects .entry); messages = now (messages .entry); certificates = now (certificates .entry); terms = now (terms .entry) }) (now (code .entry)) ⌝ }
+        ≡ roundEntry (record {
+          session = now (session .entry);
+          rounds = rounds;
+          kinds = now (kinds .entry);
+          objects = now (objects .entry);
+          messages = now (messages .entry);
+          certificates = now (certificates .entry);
+          terms = now (terms .entry);
+        }) (now (code .entry)) ⌝ }
 {
     let slices = runs::lengths_fit(
         objects.len(),

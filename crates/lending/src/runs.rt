@@ -21,7 +21,8 @@ pub fn lengths_fit(
     code: usize,
     most: usize,
 ) -> bool
-    ensures { λ r. ⌜ r ≡ (eqb objects (2 * variables) && eqb messages (2 * messageCells) && eqb (certificates % 8) 0 && leb certificates (8 * mostCertificates) && eqb (terms % 8) 0 && leb terms (8 * mostTermRows) && eqb (code % 4) 0 && leb (code / 4) most) ⌝ }
+    ensures { λ r. ⌜ r ≡ (eqb objects (2 * variables) && eqb messages (2 * messageCells) && eqb (certificates % 8) 0
+        && leb certificates (8 * mostCertificates) && eqb (terms % 8) 0 && leb terms (8 * mostTermRows) && eqb (code % 4) 0 && leb (code / 4) most) ⌝ }
 {
     (objects == 2 * VARIABLES)
         & (messages == 2 * MESSAGE_CELLS)

@@ -1,22 +1,19 @@
 -- The entries of a round over bytes: what they leave is what round and take leave of the elements, spelled.
 use Prim.Native.Nat.{ℕ, zero, suc, _*_, _/_, _<_}
-use mathlib.Core.Path.{_≡_, refl, sym, _∙_, ap}
+use mathlib.Core.Path.{_≡_, sym, _∙_, ap}
 use mathlib.Core.Logic.{_↔_, _≢_}
-use mathlib.Core.Bool.{Bool}
 use mathlib.Core.List.{List, [], _∷_, _++_}
 use native.Mathlib.Nat.{add-comm, mul-zero, mul-suc}
 use native.Mathlib.Omega.{arith}
-use lib.Dec.{T, eqb}
+use lib.Dec.{T}
 use lib.ListN.{length, getD, take, drop, length-drop}
 use lib.Seq.{take-at, take-all, drop-drop}
 use Rattle.word.specs.Bytes.{number, words, elements, spelled}
 use Rattle.word.proofs.TestLaws.{both, equals, stable, is-true, is-false}
 use Rattle.word.proofs.ByteLaws.{length-spelled, spelled-append}
 use Rattle.stores.specs.Cells.{unset}
-use Rattle.calls.specs.Round.{RoundOutcome, round, takenOf}
-use Rattle.lending.specs.Entries.{slicesWhole}
-use Rattle.lending.specs.RoundEntry.{recordBytes, sessionFields, sessionOf, RoundBytes, roundSpelled, roundRefused, roundWhole, roundElements, roundEntry, takenSpelled, takeRefused, takeEntry}
-use Rattle.lending.proofs.RoundLaws.{record-back}
+use Rattle.lending.specs.RoundEntry.{recordBytes, sessionFields, sessionOf, RoundBytes, roundSpelled, roundRefused, roundWhole, roundElements, roundEntry}
+use Rattle.lending.proofs.RoundLaws.{record-back, whole-parts, take-limit, take-whole}
 use Rattle.promises.specs.ForC.{Bytes}
 use Rattle.promises.specs.Rounds.{RoundAnswers}
 use Rattle.promises.specs.RoundsForC.{roundMeans, RoundWhole, RoundComes, RoundAsLent, RoundForC, TakeForC, RoundsForC}
@@ -24,19 +21,13 @@ use Rattle.promises.proofs.ForC.{by-test, below, spells}
 use Rattle.promises.proofs.RoundLaws.{round-table}
 
 module _ (x : RoundBytes) (code : List ℕ) where
-  abbrev isRecord : Bool
-  isRecord = eqb (length (x .session)) recordBytes
-
-  abbrev areWhole : Bool
-  areWhole = slicesWhole (x .objects) (x .messages) (x .certificates) (x .terms) code
-
   whole-says : T (roundWhole x code) ↔ RoundWhole x code
   whole-says = (
     λ h.
-        let t = both isRecord areWhole .0 h in
+        let t = whole-parts x code .0 h in
         let w = simp (both, equals) at (t .1) in
         record {
-          record-bytes = equals (length (x .session)) recordBytes .0 (t .0);
+          record-bytes = t .0;
           object-bytes = w .0 .0 .0 .0;
           message-bytes = w .0 .0 .0 .1;
           certificate-bytes = w .0 .0 .1;
@@ -44,8 +35,8 @@ module _ (x : RoundBytes) (code : List ℕ) where
           code-bytes = w .1;
         },
     λ w.
-        both isRecord areWhole .1
-        (equals (length (x .session)) recordBytes .1 (w .record-bytes), simp (both, equals) ((((w .object-bytes, w .message-bytes), w .certificate-bytes), w .term-bytes), w .code-bytes)),
+        whole-parts x code .1
+        (w .record-bytes, simp (both, equals) ((((w .object-bytes, w .message-bytes), w .certificate-bytes), w .term-bytes), w .code-bytes)),
   )
 
   entry-whole : T (roundWhole x code) → roundEntry x code ≡ roundSpelled (roundMeans x code)
@@ -56,7 +47,8 @@ module _ (x : RoundBytes) (code : List ℕ) where
   unfolding roundEntry
   entry-refused n = rw (is-false (roundWhole x code) n)
 
-  comes-whole : (number place reason : ℕ) → T (roundWhole x code) → RoundComes x code number place reason ↔ RoundAnswers (roundMeans x code) number place reason
+  comes-whole : (number place reason : ℕ) → T (roundWhole x code)
+      → RoundComes x code number place reason ↔ RoundAnswers (roundMeans x code) number place reason
   comes-whole number place reason t = rw (entry-whole t) (λ h. h, λ h. h)
 
   not-whole : (number : ℕ) → (T (roundWhole x code) → ⊥) → roundEntry x code .answer .number ≡ number → number ≡ 1
@@ -71,7 +63,9 @@ module _ (x : RoundBytes) (code : List ℕ) where
         let w = whole-says .0 t in
         let same = round-table (roundElements x) (elements 4 code) .left λ z. n (ap (λ o. o .answer .number) e ∙ z) in
         record {
-          session = ap (λ o. o .session) e ∙ ap (λ o. spelled 4 (sessionFields (o .session))) same ∙ record-back (x .session) (w .record-bytes) (below (x .session) session);
+          session =
+              ap (λ o. o .session) e ∙ ap (λ o. spelled 4 (sessionFields (o .session))) same
+              ∙ record-back (x .session) (w .record-bytes) (below (x .session) session);
           objects = ap (λ o. o .objects) e ∙ ap (λ o. spelled 2 (o .objects)) same ∙ spells 2 (x .objects) (w .object-bytes) objects;
           messages = ap (λ o. o .messages) e ∙ ap (λ o. spelled 2 (o .messages)) same ∙ spells 2 (x .messages) (w .message-bytes) messages;
           terms = ap (λ o. o .terms) e ∙ ap (λ o. spelled 8 (o .terms)) same ∙ spells 8 (x .terms) (w .term-bytes) terms;
@@ -105,24 +99,17 @@ module _ (x : RoundBytes) (code : List ℕ) where
         }
 
 -- a word of a slice is the number of its bytes
-word-at : (size count place : ℕ) (bytes : List ℕ) → place < count → getD (words size count bytes) place 0 ≡ number (take size (drop (size * place) bytes))
+word-at : (size count place : ℕ) (bytes : List ℕ) → place < count
+    → getD (words size count bytes) place 0 ≡ number (take size (drop (size * place) bytes))
 unfolding words
 word-at size zero place bytes less = absurd (omega arith)
 word-at size (suc count) zero bytes less = rw mul-zero
 word-at size (suc count) (suc place) bytes less = word-at size count place (drop size bytes) (omega arith) ∙ rw (drop-drop, mul-suc, add-comm size)
 
 module _ (session : List ℕ) (bytes : Bytes session) where
-  refused : length session ≢ recordBytes → takeEntry session ≡ takeRefused session
-  unfolding takeEntry
-  refused other = rw (is-false (eqb (length session) recordBytes) λ t. other (equals (length session) recordBytes .0 t))
-
   module _ (long : length session ≡ recordBytes) where
     abbrev four : List ℕ
     four = let s = sessionOf (elements 4 session) in s .used ∷ s .counter ∷ s .round ∷ s .message ∷ []
-
-    taken : takeEntry session ≡ takenSpelled (takenOf (sessionOf (elements 4 session)))
-    unfolding takeEntry
-    taken = rw (is-true (eqb (length session) recordBytes) (equals (length session) recordBytes .1 long))
 
     front : spelled 4 four ≡ take 16 session
     front =
@@ -131,16 +118,18 @@ module _ (session : List ℕ) (bytes : Bytes session) where
         ∙ ap (take 16) (sym (spelled-append 4 four last) ∙ record-back session long (below session bytes))
 
     answer : sessionOf (elements 4 session) .answer ≡ number (drop 16 session)
-    answer = word-at 4 (length session / 4) 4 session (rw long (omega arith)) ∙ ap number (take-all 4 (drop 16 session) (rw (length-drop 16 session, long) (omega arith)))
+    answer =
+        word-at 4 (length session / 4) 4 session (rw long (omega arith))
+        ∙ ap number (take-all 4 (drop 16 session) (rw (length-drop 16 session, long) (omega arith)))
 
   take-for-c : TakeForC session
   take-for-c = record {
-    taken = λ long. let e = taken long in (
+    taken = λ long. let e = sym (take-whole session long) in (
       ap (λ o. o .answer .number) e,
       ap (λ o. o .answer .answer) e ∙ answer long,
       ap (λ o. o .session) e ∙ spelled-append 4 (four long) (unset ∷ []) ∙ ap (λ bytes. bytes ++ spelled 4 (unset ∷ [])) (front long),
     );
-    refused = λ other. let e = refused other in (ap (λ o. o .answer .number) e, ap (λ o. o .answer .answer) e, ap (λ o. o .session) e);
+    refused = λ other. let e = sym (take-limit session other) in (ap (λ o. o .answer .number) e, ap (λ o. o .answer .answer) e, ap (λ o. o .session) e);
   }
 
 pub rounds-for-c : RoundsForC

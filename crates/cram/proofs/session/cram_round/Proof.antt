@@ -52,10 +52,14 @@ numbers-requires c κs = search needs
 returns : tie.Need-returns
 returns c =
     let tested = c .before .before in
-    let s = tested .before .before .before .before .before .before .before .before .before in
+    let terms = tested .before .before .before in
+    let messages = terms .before .before in
+    let objects = messages .before in
+    let session = objects .before .before in
+    let s = session .before in
     rw (c .numbers .ensures) (
-    round-limit (lent s) (s .args .code .now) (λ place. tested .before .before .before .before .before .before .before .before .slice-known .given place .fits) (λ place. tested .before .before .before .before .before .before .slice-known2 .given place .fits)
-    (λ place. tested .before .before .before .before .before .slice-known3 .given place .fits) (λ place. tested .before .before .before .slice-known4 .given place .fits)
+    round-limit (lent s) (s .args .code .now) (λ place. session .slice-known .given place .fits) (λ place. objects .slice-known2 .given place .fits)
+    (λ place. messages .slice-known3 .given place .fits) (λ place. terms .slice-known4 .given place .fits)
     (sym (all-fit tested) ∙ not-true _ (c .before .if1 .taken))
     )
 
@@ -93,16 +97,22 @@ slice-aggregate-pack-pairs : tie.Need-slice-aggregate-pack-pairs
 slice-aggregate-pack-pairs c = search needs
 
 pack-pairs-requires : tie.Need-pack-pairs-requires
-pack-pairs-requires c κs = omega (arith, slice-aggregate-pack-pairs (c .before), fits (here (c .before .before .before .before .before .before)) .slices .object-bytes)
+pack-pairs-requires c κs =
+    let left = c .before .before .before .before .before .before in
+    omega (arith, slice-aggregate-pack-pairs (c .before), fits (here left) .slices .object-bytes)
 
 slice-aggregate-pack-pairs-2 : tie.Need-slice-aggregate-pack-pairs-2
 slice-aggregate-pack-pairs-2 c = search needs
 
 pack-pairs-requires-2 : tie.Need-pack-pairs-requires-2
-pack-pairs-requires-2 c κs = omega (arith, slice-aggregate-pack-pairs-2 (c .before), fits (here (c .before .before .before .before .before .before .before .before .before .before .before)) .slices .message-bytes)
+pack-pairs-requires-2 c κs =
+    let left = c .before .before .before .before .before .before .before .before .before .before .before in
+    omega (arith, slice-aggregate-pack-pairs-2 (c .before), fits (here left) .slices .message-bytes)
 
 pack-requires : tie.Need-pack-requires
-pack-requires c κs = omega (arith, fits (here (c .before .before .before .before .before .before .before .before .before .before .before .before .before .before .before .before)) .record-bytes)
+pack-requires c κs =
+    let left = c .before .before .before .before .before .before .before .before .before .before .before .before .before .before .before .before in
+    omega (arith, fits (here left) .record-bytes)
 
 numbers-requires-2 : tie.Need-numbers-requires-2
 numbers-requires-2 c κs = search needs
@@ -121,13 +131,20 @@ same-length-4 c = search needs
 
 returns-2 : tie.Need-returns-2
 returns-2 c =
-    let left = c .before .before .before .before .before .before .before .before .before .before .before .before .before .before .before .before .before .before .before .before in
-    let objects = left .before .before .before .before .before .before .before .before in
-    let words = objects .before .before in
+    let session = c .before .before .before in
+    let messages = session .before .before .before .before .before in
+    let objects = messages .before .before .before .before .before in
+    let left = objects .before .before .before .before .before .before .before in
+    let record-read = left .before .before .before .before in
+    let messages-read = record-read .before .before in
+    let objects-read = messages-read .before .before in
+    let words = objects-read .before .before in
     let s = start (here left) in
-    round-packed (lent s) (s .args .code .now) (fits (here left))
-    (round-elements (lent s) (s .args .code .now) (left .before .before .before .before .unpack .ensures) (objects .cells .ensures) (left .before .before .before .before .before .before .message-cells .ensures) (words .before .certificates .ensures) (words .round-words .ensures))
-    (left .over-table .ensures) (c .before .before .before .before .before .before .before .before .before .before .before .before .before .pack-pairs .ensures) (c .before .before .before .before .before .before .before .before .pack-pairs2 .ensures) (c .before .before .before .pack .ensures) (c .numbers2 .ensures)
+    let code = s .args .code .now in
+    round-packed (lent s) code (fits (here left))
+    (round-elements (lent s) code (record-read .unpack .ensures) (objects-read .cells .ensures) (messages-read .message-cells .ensures)
+    (words .before .certificates .ensures) (words .round-words .ensures))
+    (left .over-table .ensures) (objects .pack-pairs .ensures) (messages .pack-pairs2 .ensures) (session .pack .ensures) (c .numbers2 .ensures)
 
 pub cram-round-spec : {M : Type 1} → statement M
 cram-round-spec =
