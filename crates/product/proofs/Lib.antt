@@ -1,4 +1,4 @@
 -- Each claim, proved.
 pub mod Functions
-pub mod RoundFunctions
+pub mod RoleFunctions
 pub mod Product

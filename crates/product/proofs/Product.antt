@@ -2,7 +2,7 @@
 use Rattle.promises.proofs.Promises.{promises}
 use Rattle.product.specs.Product.{Product}
 use Rattle.product.proofs.Functions.{functions}
-use Rattle.product.proofs.RoundFunctions.{round-functions}
+use Rattle.product.proofs.RoleFunctions.{role-functions}
 
 pub product : {M : Type 1} → Product M
-product = record { functions = functions; round-functions = round-functions; promises = promises }
+product = record { functions = functions; role-functions = role-functions; promises = promises }

@@ -1,4 +1,4 @@
 -- The product: its functions, and all that is promised of them.
 pub mod Functions
-pub mod RoundFunctions
+pub mod RoleFunctions
 pub mod Product

@@ -1,11 +1,11 @@
 -- Start here: the functions that ship, and all that is promised of what they give.
 use Rattle.promises.specs.Promises.{Promises}
 use Rattle.product.specs.Functions.{Functions}
-use Rattle.product.specs.RoundFunctions.{RoundFunctions}
+use Rattle.product.specs.RoleFunctions.{RoleFunctions}
 
 pub record Product (M : Type 1) : Type 2 where
   -- the functions meet their contracts, and what the contracts say is what the promises speak of
   pub functions : Functions M
-  pub round-functions : RoundFunctions M
+  pub role-functions : RoleFunctions M
   -- what that amounts to, in document 01's words, a page a demand
   pub promises : Promises

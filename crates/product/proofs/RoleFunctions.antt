@@ -1,31 +1,42 @@
--- The functions of a round meet their contracts, each by its own crate's proof.
+-- The functions of roles and rounds meet their contracts, each by its own crate's proof.
 use mathlib.Core.Path.{refl, sym, _∙_}
+use Rattle.roles.proofs.compile_role.Met as CompileRole
+use Rattle.roles.proofs.round_part.Met as RoundPart
 use Rattle.rounds.proofs.round_of.Met as RoundOf
 use Rattle.rounds.proofs.round.Met as Round
 use Rattle.rounds.proofs.take_of.Met as TakeOf
 use Rattle.rounds.proofs.take.Met as Take
 use Rattle.cram.proofs.session.cram_round.Met as CramRound
 use Rattle.cram.proofs.session.cram_take.Met as CramTake
-use Rattle.product.specs.RoundFunctions.{RoundSays, RoundOnce, RoundFunctions}
+use Rattle.product.specs.RoleFunctions.{RoleSays, RoleOnce, RoleFunctions}
 
-says : RoundSays
+says : RoleSays
 says = record {
+  compiles = λ κs lent compiled left learnt. learnt;
+  parts = λ κs lent part left learnt. learnt;
   plays = λ κs lent ended left learnt. learnt;
   cram-rounds = λ κs lent answer left learnt. learnt;
   hands-over = λ κs lent taken left learnt. learnt;
   cram-takes = λ κs lent answer left learnt. learnt;
 }
 
-once : RoundOnce
+once : RoleOnce
 once = record {
+  compiles = λ κs lent one other left also p q. says .compiles κs lent one left p ∙ sym (says .compiles κs lent other also q);
+  parts = λ κs lent one other left also p q.
+      let e = says .parts κs lent one left p in
+      let f = says .parts κs lent other also q in
+      (e .0 ∙ sym (f .0), e .1 ∙ sym (f .1));
   plays = λ κs lent one other left also p q. says .plays κs lent one left p ∙ sym (says .plays κs lent other also q);
   cram-rounds = λ κs lent one other left also p q. says .cram-rounds κs lent one left p ∙ sym (says .cram-rounds κs lent other also q);
   hands-over = λ κs lent one other left also p q. says .hands-over κs lent one left p ∙ sym (says .hands-over κs lent other also q);
   cram-takes = λ κs lent one other left also p q. says .cram-takes κs lent one left p ∙ sym (says .cram-takes κs lent other also q);
 }
 
-pub round-functions : {M : Type 1} → RoundFunctions M
-round-functions = record {
+pub role-functions : {M : Type 1} → RoleFunctions M
+role-functions = record {
+  compile-role = CompileRole.met;
+  round-part = RoundPart.met;
   round-of = RoundOf.met;
   round = Round.met;
   cram-round = CramRound.met;
