@@ -50,11 +50,11 @@ pub fn look(create: bool, pattern: &[u64], kinds: &[u8], objects: u64) -> Findin
     if !declares(kinds, objects) {
         return Finding::Refused(Compiled::BadStore);
     }
-    let bad = patterns::first_bad_pattern(pattern);
+    let bad = grammar::first_bad_pattern(pattern);
     if let Place::At(row) = bad {
         return Finding::Refused(Compiled::BadPattern(row));
     }
-    let wrong = patterns::first_wrong_kind(create, kinds, pattern);
+    let wrong = grammar::first_wrong_kind(create, kinds, pattern);
     match wrong {
         Place::At(row) => Finding::Refused(Compiled::WrongKind(row)),
         Place::Nowhere => Finding::Accepted,

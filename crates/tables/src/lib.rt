@@ -134,7 +134,7 @@ fn earlier_equal(rows: &[u64], row: usize, word: u64) -> bool
     }
 }
 
-pub fn row_fits(rows: &[u64], counter: u32, row: usize) -> bool
+fn row_fits(rows: &[u64], counter: u32, row: usize) -> bool
     requires { ⌜ (row < length (now rows)) × (length (now rows) ≤ mostTermRows) ⌝ }
     ensures { λ r. ⌜ r ≡ fits (now (rows .entry)) counter row (rowAt (now (rows .entry)) row) ⌝ }
 {
