@@ -234,7 +234,7 @@ static void role(void)
     uint8_t rows[32], ends[2] = {255, 255};
     set_out(&t, rows);
     given = t;
-    put_row(rows, 3, 1ull << 60 | 5ull << 28);
+    put_row(rows, 3, 1ull << 60 | 5ull << 32);
     expect(refuses(compile_role(&t, rows, 4, counts, ends, 16), CRAM_READ_UNSET, 0, 1), "r5 is never written");
     put_row(rows, 3, 0);
     expect(refuses(compile_role(&t, rows, 3, counts, ends, 16), CRAM_LIMIT, 0, 0), "a row missing");
