@@ -5,7 +5,7 @@ ghost use lib.ListN.{length};
 ghost use Rattle.numbers.specs.Kinds.{kindIn};
 ghost use Rattle.numbers.specs.Limits.{mostPatternRows};
 ghost use Rattle.word.specs.Lowest.{placeOf};
-ghost use Rattle.patterns.specs.Row.{fieldsOf};
+ghost use Rattle.patterns.specs.Row.{patternFields};
 ghost use Rattle.patterns.specs.Tree.{keyBy};
 ghost use Rattle.patterns.specs.Kinds.{privateSide, publicSide, encryptionKey, wrongKind};
 ghost use Rattle.patterns.specs.RowKinds.{rowKinds};

@@ -6,7 +6,7 @@ ghost use lib.ListN.{length, getD, take, drop};
 ghost use lib.Dec.{eqb, ltb};
 ghost use Rattle.numbers.specs.Limits.{mostPatternRows};
 ghost use Rattle.word.specs.Lowest.{lowest, each, placeOf};
-ghost use Rattle.patterns.specs.Row.{fieldsOf, childrenOf};
+ghost use Rattle.patterns.specs.Row.{patternFields, childrenOf};
 ghost use Rattle.patterns.specs.Rules.{form, formFits, rowFits, badPattern};
 ghost use Rattle.patterns.specs.Marks.{taking, takeAll};
 use numbers::limits::MOST_PARTS;
@@ -54,7 +54,7 @@ fn form_fits(place: usize, word: u64, uses: [bool; 5], least: u8, most: u8) -> b
 
 // A row is good in itself, by the table of the forms: which of V, F, X, Y and R are used, and the number of children.
 fn row_fits(place: usize, word: u64) -> bool
-    ensures { λ r. ⌜ r ≡ rowFits place (fieldsOf word) ⌝ }
+    ensures { λ r. ⌜ r ≡ rowFits place (patternFields word) ⌝ }
 {
     // In a key Y is used where F is 1 or 2.
     let uses_y = forms::OPPOSITE_KEY <= row::key_form(word);

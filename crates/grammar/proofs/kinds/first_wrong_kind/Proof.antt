@@ -7,7 +7,7 @@ use lib.ListN.{length, getD}
 use borrow.Author.Needs.{needs, scaled-fits}
 use Rattle.word.specs.Lowest.{placeOf}
 use Rattle.word.proofs.ScanLaws.{Left, scan-hit, scan-miss, scan-end}
-use Rattle.patterns.specs.Row.{fieldsOf}
+use Rattle.patterns.specs.Row.{patternFields}
 use Rattle.patterns.specs.RowKinds.{rowKinds}
 use Rattle.patterns.proofs.KindLaws.{wrong-rows}
 use Rattle.grammar.proofs.kinds.first_wrong_kind.Statement.{statement}

@@ -1,5 +1,5 @@
 use mathlib.Core.Path.{_∙_}
-use Rattle.patterns.specs.Row.{fieldsOf}
+use Rattle.patterns.specs.Row.{patternFields}
 use Rattle.word.proofs.OneOfLaws.{one-of-pair}
 use Rattle.patterns.proofs.KindLaws.{plain-else}
 use borrow.Author.Needs.{needs}

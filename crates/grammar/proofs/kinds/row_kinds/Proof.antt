@@ -1,5 +1,5 @@
 use native.Mathlib.Omega.{arith}
-use Rattle.patterns.specs.Row.{fieldsOf}
+use Rattle.patterns.specs.Row.{patternFields}
 use Rattle.patterns.specs.RowKinds.{kindsBy}
 use Rattle.word.proofs.ArmLaws.{past}
 use Rattle.patterns.proofs.KindLaws.{other-way, kinds-past}
