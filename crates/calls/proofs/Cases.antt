@@ -26,7 +26,11 @@ use Rattle.calls.specs.Cases.{Cases}
 use Rattle.calls.specs.Orders.{Orders, Corners}
 
 pub worked : Cases × Orders × Corners
-unfolding flatMap lowestFrom each oneOf Code.wordOf Code.instructionOf goodWord badWord Row.rowOf Row.tagOf Row.shapeOf usedRows knownTag isPacked numberFits partsBelow keyKindFits earlierEqual badTermRow badTerm equalRow locate held cellOf storeOf cellsFrom agentOf keyOf spareOf certified pairFits agentsOnce kindsFit eachVariable declared valid count patternFields Patterns.repeats Patterns.badRow Patterns.unnamed Patterns.badPattern patternsFrom patternsOf patternOf wrongKind put puts creatable message setMessage setMessages messages behind andThen readable occupied addRaw emit first usedPart compile stateOver leftBy linesFrom run
+unfolding flatMap lowestFrom each oneOf Code.wordOf Code.instructionOf goodWord badWord Row.rowOf Row.tagOf Row.shapeOf usedRows knownTag isPacked
+    numberFits partsBelow keyKindFits earlierEqual badTermRow badTerm equalRow locate held cellOf storeOf cellsFrom agentOf keyOf spareOf certified
+    pairFits agentsOnce kindsFit eachVariable declared valid count patternFields Patterns.repeats Patterns.badRow Patterns.unnamed Patterns.badPattern
+    patternsFrom patternsOf patternOf wrongKind put puts creatable message setMessage setMessages messages behind andThen readable occupied addRaw
+    emit first usedPart compile stateOver leftBy linesFrom run
 worked = (
   record {
     P1 = refl;

@@ -8,7 +8,24 @@ ghost use mathlib.Core.List.{[], _∷_};
 ghost use Prim.Native.Nat.{_<_};
 ghost use Rattle.word.specs.Fields.{join};
 ghost use Rattle.code.specs.Instruction.{wordWidths, fieldsOf};
-ghost use Rattle.code.specs.declared.Instruction.the-variants.{Load, Store, StoreConst, Decode, Encode, Create, AnalyzeTuple, CreateTuple, Opposite, KeyOf, Match, Encrypt, Decrypt, Sign, Verify, Hash};
+ghost use Rattle.code.specs.declared.Instruction.the-variants.{
+  Load,
+  Store,
+  StoreConst,
+  Decode,
+  Encode,
+  Create,
+  AnalyzeTuple,
+  CreateTuple,
+  Opposite,
+  KeyOf,
+  Match,
+  Encrypt,
+  Decrypt,
+  Sign,
+  Verify,
+  Hash,
+};
 
 // Operation, A, B and n in their fields; the sum fits even where n is too wide for its own.
 fn packed(operation: u32, a: u8, b: u8, n: u8) -> u32

@@ -70,7 +70,15 @@ pub extern "C" fn cram_run(
     code: &[u8],
 ) -> RunAnswer
     ensures { λ r. ⌜ record { answer = r; objects = now (objects .exit); messages = now (messages .exit); terms = now (terms .exit) }
-        ≡ runEntry (record { kinds = now (kinds .entry); objects = now (objects .entry); messages = now (messages .entry); certificates = now (certificates .entry); accumulator = accumulator; terms = now (terms .entry); counter = counter }) (now (code .entry)) ⌝ }
+        ≡ runEntry (record {
+          kinds = now (kinds .entry);
+          objects = now (objects .entry);
+          messages = now (messages .entry);
+          certificates = now (certificates .entry);
+          accumulator = accumulator;
+          terms = now (terms .entry);
+          counter = counter;
+        }) (now (code .entry)) ⌝ }
 {
     if !runs::lengths_fit(
         objects.len(),

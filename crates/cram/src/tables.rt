@@ -26,7 +26,15 @@ fn over_rows(
     words: &[u32],
 ) -> Outcome
     requires { ⌜ (length (now terms) ≡ 8 * length (now rows)) × (length (now rows) ≤ mostTermRows) ⌝ }
-    ensures { λ r. ⌜ (let o = run (record { kinds = now (kinds .entry); objects = objects; messages = messages; certificates = now (certificates .entry); accumulator = accumulator; terms = elements 8 (now (terms .entry)); counter = counter }) (now (words .entry)) in
+    ensures { λ r. ⌜ (let o = run (record {
+      kinds = now (kinds .entry);
+      objects = objects;
+      messages = messages;
+      certificates = now (certificates .entry);
+      accumulator = accumulator;
+      terms = elements 8 (now (terms .entry));
+      counter = counter;
+    }) (now (words .entry)) in
         (record { answer = r .answer; objects = r .objects; messages = r .messages; accumulator = r .accumulator; terms = now (terms .exit); counter = r .counter } ≡ rowsSpelled o)
         × (r .used ≡ usedWith (o .answer) (o .terms))) ⌝ }
 {
@@ -57,7 +65,15 @@ pub fn over_table(
     words: &[u32],
 ) -> Outcome
     requires { ⌜ (length (now terms) ≡ 8 * (length (now terms) / 8)) × (length (now terms) / 8 ≤ mostTermRows) ⌝ }
-    ensures { λ r. ⌜ (let o = run (record { kinds = now (kinds .entry); objects = objects; messages = messages; certificates = now (certificates .entry); accumulator = accumulator; terms = elements 8 (now (terms .entry)); counter = counter }) (now (words .entry)) in
+    ensures { λ r. ⌜ (let o = run (record {
+      kinds = now (kinds .entry);
+      objects = objects;
+      messages = messages;
+      certificates = now (certificates .entry);
+      accumulator = accumulator;
+      terms = elements 8 (now (terms .entry));
+      counter = counter;
+    }) (now (words .entry)) in
         (record { answer = r .answer; objects = r .objects; messages = r .messages; accumulator = r .accumulator; terms = now (terms .exit); counter = r .counter } ≡ rowsSpelled o)
         × (r .used ≡ usedWith (o .answer) (o .terms))) ⌝ }
 {

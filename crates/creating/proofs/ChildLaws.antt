@@ -60,7 +60,8 @@ module _ (rows : List ℕ) (row word : ℕ) {e : List ℕ} (asked : RowAt rows r
       let-store = room-then (omega arith) (omega arith) (let-room asked child first other second nine) made
 
       pub let-second : {g : Env → Emitted} {e₂ code₂ : List ℕ} → Does g 1 0 e₁ code₁ e₂ code₂ → Row rows other e₂
-      let-second stored = row-below rows row other (asked .whole) (let-children asked child first other second nine .1) (room-then (omega arith) (omega arith) (let-room asked child first other second nine) (does-seq made stored))
+      let-second stored = row-below rows row other (asked .whole) (let-children asked child first other second nine .1)
+          (room-then (omega arith) (omega arith) (let-room asked child first other second nine) (does-seq made stored))
 
     pub let-done : (kinds : List ℕ) (r : ℕ) → r ≡ patternFields word .r → {code e₁ code₁ e₂ code₂ e₃ code₃ : List ℕ} → Creates rows kinds child e code e₁ code₁
         → Does (emit row (Store (named r))) 1 0 e₁ code₁ e₂ code₂ → Creates rows kinds other e₂ code₂ e₃ code₃ → Creates rows kinds row e code e₃ code₃

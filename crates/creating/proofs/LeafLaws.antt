@@ -72,7 +72,8 @@ module _ (rows : List ℕ) (row word : ℕ) {e : List ℕ} (asked : RowAt rows r
       pub decode-room : {h : Env → Emitted} {e₃ code₃ : List ℕ} → Does h 1 0 e₂ code₂ e₃ code₃ → RoomFor 1 0 e₃
       decode-room signed = room-then (lit≤ tt) (lit≤ tt) left (does-seq loaded signed)
 
-  pub signed : (kinds : List ℕ) → patternFields word .tag ≡ 6 → (v x r : ℕ) → v ≡ patternFields word .v → x ≡ patternFields word .x → r ≡ patternFields word .r → {code e₁ code₁ e₂ code₂ e₃ code₃ e₄ code₄ : List ℕ}
+  pub signed : (kinds : List ℕ) → patternFields word .tag ≡ 6 → (v x r : ℕ) → v ≡ patternFields word .v → x ≡ patternFields word .x → r ≡
+      patternFields word .r → {code e₁ code₁ e₂ code₂ e₃ code₃ e₄ code₄ : List ℕ}
       → Does (keyCode kinds row (keyBy (patternFields word))) 3 0 e code e₁ code₁ → Does (emit row (Load (named r))) 1 0 e₁ code₁ e₂ code₂
       → Does (emit row (Sign (asObject x))) 1 0 e₂ code₂ e₃ code₃ → Does (emit row (Decode (asObject v))) 1 0 e₃ code₃ e₄ code₄ → Creates rows kinds row e code e₄ code₄
   unfolding keyCode patternCode

@@ -57,7 +57,8 @@ module _ (rows kinds : List ℕ) (row : ℕ) (parts : List Part) (n : ℕ) {e₀
 
 -- t : [p1 .. pn]
 module _ (rows : List ℕ) (row word : ℕ) {e : List ℕ} (asked : RowAt rows row word e) (eight : patternFields word .tag ≡ 8) (n : ℕ) (counted : n ≡ patternFields word .n)
-    (slots : List ℕ) (got : slots ≡ patternFields word .slots) (first : ℕ) (parts : List Part) (laid : parts ≡ partsFrom slots first) {e₀ : List ℕ} (next : first ≡ nextIn e) (taken : Quiet (raise n) n e e₀) where
+    (slots : List ℕ) (got : slots ≡ patternFields word .slots) (first : ℕ) (parts : List Part) (laid : parts ≡ partsFrom slots first) {e₀ : List ℕ}
+    (next : first ≡ nextIn e) (taken : Quiet (raise n) n e e₀) where
   abbrev all : Parts
   all = partsIn rows parts n 0
 
@@ -85,7 +86,8 @@ module _ (rows : List ℕ) (row word : ℕ) {e : List ℕ} (asked : RowAt rows r
     pub tuple-encode : {g : Env → Emitted} {e₂ code₂ : List ℕ} → Does g 1 0 e₁ code₁ e₂ code₂ → RoomFor 1 0 e₂
     tuple-encode created = room-then (lit≤ tt) (lit≤ tt) after-parts created
 
-  pub tuple-done : (kinds : List ℕ) (v : ℕ) (s : Raw) → v ≡ patternFields word .v → s ≡ scratch first → {code e₁ code₁ e₂ code₂ e₃ code₃ : List ℕ} → CreatesParts rows kinds row parts n e₀ code e₁ code₁
+  pub tuple-done : (kinds : List ℕ) (v : ℕ) (s : Raw) → v ≡ patternFields word .v → s ≡ scratch first → {code e₁ code₁ e₂ code₂ e₃ code₃ : List ℕ} →
+      CreatesParts rows kinds row parts n e₀ code e₁ code₁
       → Does (emit row (CreateTuple (asObject v) s n)) 1 0 e₁ code₁ e₂ code₂ → Does (emit row (Encode (asObject v))) 1 0 e₂ code₂ e₃ code₃ → Creates rows kinds row e code e₃ code₃
   unfolding patternCode partsCode size
   tuple-done kinds v s variable cell {code} {e₁} {code₁} {e₂} {code₂} {e₃} {code₃} walked created encoded =

@@ -42,7 +42,8 @@ leaf-room rows row word e m =
     record { long = room .long; place = omega (arith, room .place, size-positive p); free = omega (arith, room .free, size-positive p) }
 
 -- a child of a row
-pub row-below : (rows : List ℕ) (row child : ℕ) {e e′ : List ℕ} → Row rows row e → child < row → RoomFor (mostWords (patternIn rows child)) (mostScratches (patternIn rows child)) e′ → Row rows child e′
+pub row-below : (rows : List ℕ) (row child : ℕ) {e e′ : List ℕ} → Row rows row e → child < row → RoomFor (mostWords (patternIn rows child))
+    (mostScratches (patternIn rows child)) e′ → Row rows child e′
 row-below rows row child asked below room =
     record { good = λ place h. asked .good place (omega arith); inside = omega (arith, asked .inside); most = omega (arith, asked .most); room = room }
 

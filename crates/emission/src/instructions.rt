@@ -15,7 +15,24 @@ ghost use Prim.Native.Nat.{_<_};
 ghost use Rattle.numbers.specs.Limits.{variables};
 ghost use Rattle.word.specs.Fields.{join};
 ghost use Rattle.code.specs.Instruction.{wordWidths, fieldsOf};
-ghost use Rattle.code.specs.declared.Instruction.the-variants.{Load, Store, StoreConst, Decode, Encode, Create, AnalyzeTuple, CreateTuple, Opposite, KeyOf, Match, Encrypt, Decrypt, Sign, Verify, Hash};
+ghost use Rattle.code.specs.declared.Instruction.the-variants.{
+  Load,
+  Store,
+  StoreConst,
+  Decode,
+  Encode,
+  Create,
+  AnalyzeTuple,
+  CreateTuple,
+  Opposite,
+  KeyOf,
+  Match,
+  Encrypt,
+  Decrypt,
+  Sign,
+  Verify,
+  Hash,
+};
 ghost use Rattle.theory.specs.Emission.{emit};
 ghost use Rattle.knowing.specs.Steps.{readObject, writeObject, readRaw, looks};
 ghost use Rattle.knowing.specs.Meets.{Does, RoomFor};

@@ -92,7 +92,8 @@ pub fn steps(
     code: &[u32],
 ) -> Stepped
     requires { ⌜ Ready (lentFrom start (now kinds) (now objects) (now messages) (now certificates) (now rows)) (start .used) (now code) ⌝ }
-    ensures { λ r. ⌜ (leftWith (r .answer) (r .registers) (cellsAfter (r .answer) (now (objects .entry)) (now (objects .exit))) (cellsAfter (r .answer) (now (messages .entry)) (now (messages .exit))) (now (rows .exit))
+    ensures { λ r. ⌜ (leftWith (r .answer) (r .registers) (cellsAfter (r .answer) (now (objects .entry)) (now (objects .exit)))
+        (cellsAfter (r .answer) (now (messages .entry)) (now (messages .exit))) (now (rows .exit))
         ≡ runBy (lentFrom start (now (kinds .entry)) (now (objects .entry)) (now (messages .entry)) (now (certificates .entry)) (now (rows .entry))) (now (code .entry)) none)
         × (r .registers .used ≡ usedRows (now (rows .exit))) ⌝ }
 {

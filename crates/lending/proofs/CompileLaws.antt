@@ -38,7 +38,8 @@ module _ (words code : List ℕ) (exact : length code % 4 ≡ 0) (below : Below 
 
   rest : length words ≤ length code / 4 → spelled 4 (drop (length words) all) ≡ drop (4 * length words) code
   rest most =
-      sym (drop-at (spelled 4 (take (length words) all)) (spelled 4 (drop (length words) all)) (4 * length words) (length-spelled 4 _ ∙ ap (λ (n : ℕ). 4 * n) (length-take-le (length words) all (rw count most))))
+      sym (drop-at (spelled 4 (take (length words) all)) (spelled 4 (drop (length words) all)) (4 * length words)
+      (length-spelled 4 _ ∙ ap (λ (n : ℕ). 4 * n) (length-take-le (length words) all (rw count most))))
       ∙ ap (drop (4 * length words)) (sym (spelled-append 4 (take (length words) all) (drop (length words) all)) ∙ ap (spelled 4) (take-append-drop (length words) all) ∙ same)
 
   pub bytes-fit : {after : List ℕ} → length words ≤ length code / 4 → after ≡ spelled 4 words ++ drop (4 * length words) code

@@ -32,7 +32,8 @@ fn lengths_fit(
     counter: u32,
     code: usize,
 ) -> bool
-    ensures { λ r. ⌜ r ≡ (eqb kinds variables && eqb objects variables && eqb messages messageCells && leb certificates mostCertificates && leb terms mostTermRows && leb counter mostNames && leb code mostCodeWords) ⌝ }
+    ensures { λ r. ⌜ r ≡ (eqb kinds variables && eqb objects variables && eqb messages messageCells && leb certificates mostCertificates && leb terms
+        mostTermRows && leb counter mostNames && leb code mostCodeWords) ⌝ }
 {
     (kinds == VARIABLES)
         & (objects == VARIABLES)
@@ -53,7 +54,16 @@ pub fn look(
     counter: u32,
     words: &[u32],
 ) -> Finding
-    ensures { λ r. ⌜ r ≡ foundBy (first (refusals (record { kinds = now (kinds .entry); objects = now (objects .entry); messages = now (messages .entry); certificates = now (certificates .entry); accumulator = accumulator; terms = now (rows .entry); counter = counter }) (now (words .entry)))) (now (rows .entry)) ⌝ }
+    ensures { λ r. ⌜ r ≡ foundBy (first (refusals (record {
+      kinds = now (kinds .entry);
+      objects = now (objects .entry);
+      messages = now (messages .entry);
+      certificates = now (certificates .entry);
+      accumulator = accumulator;
+      terms = now (rows .entry);
+      counter = counter;
+    })
+        (now (words .entry)))) (now (rows .entry)) ⌝ }
 {
     if !lengths_fit(
         kinds.len(),

@@ -46,8 +46,11 @@ module _ (rows : List ℕ) (row word : ℕ) {e : List ℕ} (asked : RowAt rows r
       where
         by : (f : ℕ) → patternFields word .f ≡ f → Matches rows row e code e′ code
         by zero h = absurd (other (read ∙ h))
-        by (suc zero) h = as-row compile↓ rows row (encryption row (patternFields word .v) (opKey (patternFields word .x) (patternFields word .y)) (patternIn rows child)) (encryption-row asked child first five ∙ rw h) (does-le (omega arith) (omega arith) (k .does code))
-        by (suc (suc zero)) h = as-row compile↓ rows row (encryption row (patternFields word .v) (certifiedKey (patternFields word .x) (patternFields word .y)) (patternIn rows child)) (encryption-row asked child first five ∙ rw h) (does-le (omega arith) (omega arith) (k .does code))
+        by (suc zero) h = as-row compile↓ rows row (encryption row (patternFields word .v) (opKey (patternFields word .x) (patternFields word .y))
+            (patternIn rows child)) (encryption-row asked child first five ∙ rw h) (does-le (omega arith) (omega arith) (k .does code))
+        by (suc (suc zero)) h = as-row compile↓ rows row (encryption row (patternFields word .v)
+            (certifiedKey (patternFields word .x) (patternFields word .y)) (patternIn rows child)) (encryption-row asked child first five ∙ rw h)
+            (does-le (omega arith) (omega arith) (k .does code))
         by (suc (suc (suc f))) h = absurd (omega (arith, encryption-key asked five))
 
 -- let r = p1 in p2
@@ -122,7 +125,8 @@ module _ (rows : List ℕ) (row word : ℕ) {e : List ℕ} (asked : RowAt rows r
         free = omega (arith, room .free, decoded .free, taken .free);
       }
 
-  pub tuple-done : (slots : List ℕ) (got : slots ≡ patternFields word .slots) (first : ℕ) (parts : List Part) (made : parts ≡ partsFrom slots first) (t : ℕ) (s : Raw) → t ≡ patternFields word .v → s ≡ scratch first
+  pub tuple-done : (slots : List ℕ) (got : slots ≡ patternFields word .slots) (first : ℕ) (parts : List Part) (made : parts ≡ partsFrom slots first)
+      (t : ℕ) (s : Raw) → t ≡ patternFields word .v → s ≡ scratch first
       → {e₁ e₂ e₃ code code₁ code₃ e′ code′ : List ℕ} → Does (emit row (Decode (asObject t))) 1 0 e code e₁ code₁ → first ≡ nextIn e₁ → Quiet (raise n) n e₁ e₂
       → Does (emit row (AnalyzeTuple (asObject t) s n)) 1 0 e₂ code₁ e₃ code₃ → MatchesParts rows row parts n e₃ code₃ e′ code′ → Matches rows row e code e′ code′
   unfolding size
@@ -135,6 +139,7 @@ module _ (rows : List ℕ) (row word : ℕ) {e : List ℕ} (asked : RowAt rows r
       let l : Does (emit row (ANALYZE-TUPLE t (scratch (nextIn e₁)) n)) 1 0 e₂ code₁ e₃ code₃ = rw here at analyzed in
       let k : Does (compile↓parts ps row (nextIn e₁)) (wordsOf ps) (scratchesOf ps) e₃ code₃ e′ code′ = rw start at m in
       as-row compile↓ rows row (tuple row t ps) (tuple-is rows row word asked eight n counted slots got first parts made ∙ rw variable)
-      (subst (λ (x : ℕ). Does (emit row (DECODE t) then take x (λ rˢ. emit row (ANALYZE-TUPLE t (scratch rˢ) x) then compile↓parts ps row rˢ)) (mostWords (tuple row t ps)) (mostScratches (tuple row t ps)) e code e′ code′) (sym d)
+      (subst (λ (x : ℕ). Does (emit row (DECODE t) then take x (λ rˢ. emit row (ANALYZE-TUPLE t (scratch rˢ) x) then compile↓parts ps row rˢ))
+      (mostWords (tuple row t ps)) (mostScratches (tuple row t ps)) e code e′ code′) (sym d)
       (does-le (omega arith) (omega arith)
       (does-seq decoded (does-take (λ rˢ. emit row (ANALYZE-TUPLE t (scratch rˢ) n) then compile↓parts ps row rˢ) taken (does-seq l k)))))

@@ -103,7 +103,14 @@ module _ (b : Bundle) {room code : List ℕ} {answer : Compiled} {number place :
       sym (take-append-drop place code) ∙ ap (λ rest. take place code ++ rest) (rw (← place-is) at (left .past)) in
       let words : place ≡ length (take place code) = sym (length-take-le place code fits) in
       let all : _≡_ {A = Held} (record { gave = Gave.Ran place ended; code = code; objects = after-objects; messages = after-messages; rows = after-rows })
-      (record { gave = Gave.Ran (length (take place code)) (endedBy o); code = take place code ++ drop (length (take place code)) room; objects = o .objects; messages = o .messages; rows = o .terms }) =
+      (record {
+        gave = Gave.Ran (length (take place code)) (endedBy o);
+        code = take place code ++ drop (length (take place code)) room;
+        objects =
+            o .objects;
+        messages = o .messages;
+        rows = o .terms;
+      }) =
       λ i. record {
         gave = Gave.Ran (words i) (ended-is ends counted i);
         code = (whole ∙ ap (λ n. take place code ++ drop n room) words) i;

@@ -51,7 +51,8 @@ fn ran(
     messages: &mut [u16],
     rows: &mut [u64],
 ) -> Ended
-    requires { ⌜ (opened (now bytes) ≡ Opened.Is header) × (length (now code) ≤ mostCodeWords) × (length (now objects) ≡ variables) × (length (now messages) ≡ messageCells) × (length (now rows) ≡ mostTermRows) ⌝ }
+    requires { ⌜ (opened (now bytes) ≡ Opened.Is header) × (length (now code) ≤ mostCodeWords) × (length (now objects) ≡ variables) ×
+        (length (now messages) ≡ messageCells) × (length (now rows) ≡ mostTermRows) ⌝ }
     ensures { λ r. ⌜ (record { answer = r .answer; objects = now (objects .exit); messages = now (messages .exit); accumulator = r .accumulator; terms = now (rows .exit); counter = r .counter }
         ≡ run (lentTo (bundleIn (now (bytes .entry)))) (now (code .entry)))
         × (r .used ≡ usedRows (now (rows .exit))) ⌝ }
@@ -83,7 +84,8 @@ fn given_by_bundle(
     messages: &mut [u16],
     rows: &mut [u64],
 ) -> Gave
-    requires { ⌜ (opened (now bytes) ≡ Opened.Is header) × (now code ≡ replicate mostCodeWords 0) × (length (now objects) ≡ variables) × (length (now messages) ≡ messageCells) × (length (now rows) ≡ mostTermRows) ⌝ }
+    requires { ⌜ (opened (now bytes) ≡ Opened.Is header) × (now code ≡ replicate mostCodeWords 0) × (length (now objects) ≡ variables) ×
+        (length (now messages) ≡ messageCells) × (length (now rows) ≡ mostTermRows) ⌝ }
     ensures { λ r. ⌜ record { gave = r; code = now (code .exit); objects = now (objects .exit); messages = now (messages .exit); rows = now (rows .exit) }
         ≡ heldBy (givenRead (some (bundleIn (now (bytes .entry))))) (now (code .entry)) (now (objects .entry)) (now (messages .entry)) (now (rows .entry)) ⌝ }
 {

@@ -62,7 +62,8 @@ module _ (rows : List ℕ) (marks : List Bool) (place : ℕ) (good : Good rows m
         rw (getD-take (length rows - 1) marks row false (omega arith), all-marked .each row (omega arith)))
 
   -- the row at a place, whether it is good in itself, the marks after it, and whether a child was taken again
-  module _ (word : ℕ) (fits : Bool) (next : List Bool) (again : Bool) (inside : place < length rows) (here : getD rows place 0 ≡ word) (own : fits ≡ rowFits place (patternFields word)) (takes : taking next again ≡ takeAll (taking marks false) (childrenOf word)) where
+  module _ (word : ℕ) (fits : Bool) (next : List Bool) (again : Bool) (inside : place < length rows) (here : getD rows place 0 ≡ word)
+      (own : fits ≡ rowFits place (patternFields word)) (takes : taking next again ≡ takeAll (taking marks false) (childrenOf word)) where
     bad-here : badRow rows place word ≡ (not fits || again)
     unfolding badRow
     bad-here = rw (own, ap (λ (t : Taken). t .again) takes, again-all (taking marks false) (childrenNamed (take place rows)) (childrenOf word) (good .marked) (children-below word))
@@ -74,6 +75,7 @@ module _ (rows : List ℕ) (marks : List Bool) (place : ℕ) (good : Good rows m
     pub good-next : (not fits || again) ≡ false → Good rows next (place + 1)
     good-next fine =
         record {
-          marked = rw (add-one, named-more rows place inside, here, ap (λ (t : Taken). t .marks) takes) (marked-all (taking marks false) (childrenNamed (take place rows)) (childrenOf word) (good .marked) (children-below word));
+          marked = rw (add-one, named-more rows place inside, here, ap (λ (t : Taken). t .marks) takes)
+              (marked-all (taking marks false) (childrenNamed (take place rows)) (childrenOf word) (good .marked) (children-below word));
           left = scan-miss (badRow rows) rows 0 place (good .left) inside (rw here (bad-here ∙ fine));
         }

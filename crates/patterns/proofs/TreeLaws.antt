@@ -168,8 +168,10 @@ module _ (rows : List ℕ) (passed : badPattern rows ≡ none) where
   pattern-size some =
       let last : suc (length rows - 1) ≡ length rows = omega arith in
       let all : sumBelow sizeAt (length rows) ≡ length rows + sumOver sizeAt (childrenNamed rows) = rw (take-length rows) at (sizes-sum (length rows) (le-refl _)) in
-      let others : sumOver sizeAt (childrenNamed rows) ≡ sumBelow sizeAt (length rows - 1) = sum-once sizeAt (childrenNamed rows) (length rows - 1) (rw (take-length rows) at (named-below (length rows) (le-refl _))) named-once in
-      let split : sumBelow sizeAt (length rows) ≡ sumBelow sizeAt (length rows - 1) + sizeAt (length rows - 1) = subst (λ (n : ℕ). sumBelow sizeAt n ≡ sumBelow sizeAt (length rows - 1) + sizeAt (length rows - 1)) last refl in
+      let others : sumOver sizeAt (childrenNamed rows) ≡ sumBelow sizeAt (length rows - 1) = sum-once sizeAt (childrenNamed rows) (length rows - 1)
+      (rw (take-length rows) at (named-below (length rows) (le-refl _))) named-once in
+      let split : sumBelow sizeAt (length rows) ≡ sumBelow sizeAt (length rows - 1) + sizeAt (length rows - 1) = subst
+      (λ (n : ℕ). sumBelow sizeAt n ≡ sumBelow sizeAt (length rows - 1) + sizeAt (length rows - 1)) last refl in
       omega arith
 
   -- no form of a pattern without a wrong kind has one

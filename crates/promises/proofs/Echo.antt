@@ -45,15 +45,19 @@ abbrev between : Env
 between = addObject before 0
 
 matching : half false (echo .matching) (echo-lent .kinds) before ≡ ok (lineAt 0 (Decode (asObject 0)) ∷ []) between
-unfolding flatMap lowestFrom each oneOf kindsFit patternFields Patterns.repeats Patterns.badRow Patterns.unnamed Patterns.badPattern patternsFrom patternsOf patternOf wrongKind put behind andThen emit first undeclaredUnknown declaredKnown half
+unfolding flatMap lowestFrom each oneOf kindsFit patternFields Patterns.repeats Patterns.badRow Patterns.unnamed Patterns.badPattern patternsFrom
+    patternsOf patternOf wrongKind put behind andThen emit first undeclaredUnknown declaredKnown half
 matching = refl
 
 creating : half true (echo .creating) (echo-lent .kinds) between ≡ ok (lineAt 0 (Encode (asObject 0)) ∷ []) between
-unfolding flatMap lowestFrom each oneOf kindsFit patternFields Patterns.repeats Patterns.badRow Patterns.unnamed Patterns.badPattern patternsFrom patternsOf patternOf wrongKind put behind andThen emit first undeclaredUnknown declaredKnown half
+unfolding flatMap lowestFrom each oneOf kindsFit patternFields Patterns.repeats Patterns.badRow Patterns.unnamed Patterns.badPattern patternsFrom
+    patternsOf patternOf wrongKind put behind andThen emit first undeclaredUnknown declaredKnown half
 creating = refl
 
 role-compiled : role (0 ∷ []) (replicate 4 7) echo-role ≡ record { answer = Done 4; half = 0; ends = 4 ∷ []; code = roundWords echo }
-unfolding sum halvesFrom halfThen afterHalves roundsOf inTurn endsFrom role Code.wordOf flatMap lowestFrom each oneOf kindsFit patternFields Patterns.repeats Patterns.badRow Patterns.unnamed Patterns.badPattern patternsFrom patternsOf patternOf wrongKind put behind andThen emit first undeclaredUnknown declaredKnown half
+unfolding sum halvesFrom halfThen afterHalves roundsOf inTurn endsFrom role Code.wordOf flatMap lowestFrom each oneOf kindsFit patternFields
+    Patterns.repeats Patterns.badRow Patterns.unnamed Patterns.badPattern patternsFrom patternsOf patternOf wrongKind put behind andThen emit first
+    undeclaredUnknown declaredKnown half
 role-compiled = refl
 
 code : RoundCode (echo-lent .kinds) before echo between
@@ -69,11 +73,15 @@ unfolding termAt held Row.rowOf Row.tagOf Row.shapeOf
 message-held = refl
 
 done : RoundAnswers (round echo-lent (roundWords echo)) 0 4 0
-unfolding lowestFrom each oneOf Code.wordOf Code.instructionOf goodWord Row.rowOf Row.tagOf Row.shapeOf usedRows knownTag isPacked numberFits partsBelow keyKindFits earlierEqual badTermRow badTerm held cellOf storeOf cellsFrom agentsOnce kindsFit eachVariable valid put first stateOver leftBy linesFrom middle goodRoundWord badRoundWord answered sentBy round
+unfolding lowestFrom each oneOf Code.wordOf Code.instructionOf goodWord Row.rowOf Row.tagOf Row.shapeOf usedRows knownTag isPacked numberFits
+    partsBelow keyKindFits earlierEqual badTermRow badTerm held cellOf storeOf cellsFrom agentsOnce kindsFit eachVariable valid put first stateOver
+    leftBy linesFrom middle goodRoundWord badRoundWord answered sentBy round
 done = (refl, refl, refl)
 
 answer-held : answerAfter (round echo-lent (roundWords echo)) ≡ some echoed
-unfolding termAt lowestFrom each oneOf Code.wordOf Code.instructionOf goodWord Row.rowOf Row.tagOf Row.shapeOf usedRows knownTag isPacked numberFits partsBelow keyKindFits earlierEqual badTermRow badTerm held cellOf storeOf cellsFrom agentsOnce kindsFit eachVariable valid put first stateOver leftBy linesFrom middle goodRoundWord badRoundWord answered sentBy round
+unfolding termAt lowestFrom each oneOf Code.wordOf Code.instructionOf goodWord Row.rowOf Row.tagOf Row.shapeOf usedRows knownTag isPacked numberFits
+    partsBelow keyKindFits earlierEqual badTermRow badTerm held cellOf storeOf cellsFrom agentsOnce kindsFit eachVariable valid put first stateOver
+    leftBy linesFrom middle goodRoundWord badRoundWord answered sentBy round
 answer-held = refl
 
 ready : ReadyRound before echo-lent (roundWords echo)

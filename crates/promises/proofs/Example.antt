@@ -33,11 +33,15 @@ use Rattle.promises.proofs.NumberLaws.{run-table}
 use Rattle.promises.proofs.DecisionLaws.{decided-match, decided-creation}
 
 P1-run : RunAnswers (run P1-lent P1-code) 0 6 0
-unfolding lowestFrom each oneOf Code.wordOf Code.instructionOf goodWord badWord Row.rowOf Row.tagOf Row.shapeOf usedRows knownTag isPacked numberFits partsBelow keyKindFits earlierEqual badTermRow badTerm equalRow locate held cellOf storeOf cellsFrom agentOf keyOf spareOf certified pairFits agentsOnce kindsFit eachVariable valid put message setMessage setMessages messages first stateOver leftBy linesFrom run
+unfolding lowestFrom each oneOf Code.wordOf Code.instructionOf goodWord badWord Row.rowOf Row.tagOf Row.shapeOf usedRows knownTag isPacked numberFits
+    partsBelow keyKindFits earlierEqual badTermRow badTerm equalRow locate held cellOf storeOf cellsFrom agentOf keyOf spareOf certified pairFits
+    agentsOnce kindsFit eachVariable valid put message setMessage setMessages messages first stateOver leftBy linesFrom run
 P1-run = (refl, refl, refl)
 
 P9-run : RunAnswers (run P9-lent P9-code) 10 1 4
-unfolding lowestFrom each oneOf Code.wordOf Code.instructionOf goodWord badWord Row.rowOf Row.tagOf Row.shapeOf usedRows knownTag isPacked numberFits partsBelow keyKindFits earlierEqual badTermRow badTerm equalRow locate held cellOf storeOf cellsFrom agentOf keyOf spareOf certified pairFits agentsOnce kindsFit eachVariable valid put message setMessage setMessages messages first stateOver leftBy linesFrom run
+unfolding lowestFrom each oneOf Code.wordOf Code.instructionOf goodWord badWord Row.rowOf Row.tagOf Row.shapeOf usedRows knownTag isPacked numberFits
+    partsBelow keyKindFits earlierEqual badTermRow badTerm equalRow locate held cellOf storeOf cellsFrom agentOf keyOf spareOf certified pairFits
+    agentsOnce kindsFit eachVariable valid put message setMessage setMessages messages first stateOver leftBy linesFrom run
 P9-run = (refl, refl, refl)
 
 P2-run : RunAnswers (run P2-lent P2-code) 0 6 0

@@ -199,7 +199,8 @@ module _ (kind : ℕ → ℕ) where
   unfolding emit
   store-named row r below = record {
     at = λ e p.
-        let h : emit row (STORE (named r)) e ≡ cond (e .raws r) (refuse (WrittenWhileSet row)) (ok (lineAt row (STORE (named r)) ∷ []) (Cells.withRaw e r)) = rw (occupied-named e r below, addRaw-named e r below) in
+        let h : emit row (STORE (named r)) e ≡ cond (e .raws r) (refuse (WrittenWhileSet row))
+        (ok (lineAt row (STORE (named r)) ∷ []) (Cells.withRaw e r)) = rw (occupied-named e r below, addRaw-named e r below) in
         ap verdictOf h ∙ raw-case row r e (lineAt row (STORE (named r)) ∷ []) (e .raws r) ∙ sym (judged-one (writes-raw row r) (knownIn e));
   }
 
@@ -231,13 +232,16 @@ module _ (kind : ℕ → ℕ) where
   keep-choice v false x y f g = g
 
   one-keeps : (a : Look) (v : ℕ) (k : Known) → k .objects v ≡ true → (k′ : Known) → looked kind a k ≡ passed k′ → k′ .objects v ≡ true
-  one-keeps (writes row w) v k h = keep-cond v (k .objects w) (stopped (WrittenWhileSet row)) (passed (withObject k w)) (λ k′ q. absurd (clash q)) (keep-passed v (withObject k w) (put-kept (k .objects) w v h))
+  one-keeps (writes row w) v k h = keep-cond v (k .objects w) (stopped (WrittenWhileSet row)) (passed (withObject k w)) (λ k′ q. absurd (clash q))
+      (keep-passed v (withObject k w) (put-kept (k .objects) w v h))
   one-keeps (writes-raw row r) v k h = keep-cond v (k .raws r) (stopped (WrittenWhileSet row)) (passed (withRaw k r)) (λ k′ q. absurd (clash q)) (keep-passed v (withRaw k r) h)
   one-keeps (unset-on-entry row r) v k h = keep-cond v (k .raws r) (stopped (WrittenWhileSet row)) (passed k) (λ k′ q. absurd (clash q)) (keep-passed v k h)
   one-keeps (reads row w) v k h = keep-cond v (k .objects w) (passed k) (stopped (ReadWhileUnset row)) (keep-passed v k h) (λ k′ q. absurd (clash q))
   one-keeps (reads-raw row r) v k h = keep-cond v (k .raws r) (passed k) (stopped (ReadWhileUnset row)) (keep-passed v k h) (λ k′ q. absurd (clash q))
   one-keeps (reads-or-creates row w) v k h =
-      keep-cond v (k .objects w) (passed k) (cond (creatable (kind w)) (passed (withObject k w)) (stopped (ReadWhileUnset row))) (keep-passed v k h) (keep-cond v (creatable (kind w)) (passed (withObject k w)) (stopped (ReadWhileUnset row)) (keep-passed v (withObject k w) (put-kept (k .objects) w v h)) (λ k′ q. absurd (clash q)))
+      keep-cond v (k .objects w) (passed k) (cond (creatable (kind w)) (passed (withObject k w)) (stopped (ReadWhileUnset row))) (keep-passed v k h)
+      (keep-cond v (creatable (kind w)) (passed (withObject k w)) (stopped (ReadWhileUnset row))
+      (keep-passed v (withObject k w) (put-kept (k .objects) w v h)) (λ k′ q. absurd (clash q)))
   one-keeps (sets w) v k h = keep-passed v (cond (k .objects w) k (withObject k w)) (keep-choice v (k .objects w) k (withObject k w) h (put-kept (k .objects) w v h))
   one-keeps (sets-raw r) v k h = keep-passed v (cond (k .raws r) k (withRaw k r)) (keep-choice v (k .raws r) k (withRaw k r) h h)
   one-keeps (wrong-kind row) v k h = λ k′ q. absurd (clash q)
@@ -285,7 +289,8 @@ module _ (kind : ℕ → ℕ) where
   opposite-set : (row K k : ℕ) → Looked (Has K) (emit row (OPPOSITE K k)) (writes row k ∷ [])
   unfolding emit
   opposite-set row K k = record {
-    at = λ e p. opposite-case row e (lineAt row (OPPOSITE K k) ∷ []) k (e .objects K) ∙ ap (λ (b : Bool). onward (cond b (passed (knownIn e)) (stopped (ReadWhileUnset row))) (judged kind (writes row k ∷ []))) p;
+    at = λ e p. opposite-case row e (lineAt row (OPPOSITE K k) ∷ []) k (e .objects K) ∙ ap
+        (λ (b : Bool). onward (cond b (passed (knownIn e)) (stopped (ReadWhileUnset row))) (judged kind (writes row k ∷ []))) p;
   }
 
   verify-case : (row r : ℕ) (e : Env) (c : List Line) (b : Bool) → r < namedCells
@@ -302,7 +307,8 @@ module _ (kind : ℕ → ℕ) where
   verify-set : (row v r : ℕ) → r < namedCells → Looked (Has v) (emit row (VERIFY v (named r))) (reads-raw row r ∷ [])
   unfolding emit
   verify-set row v r below = record {
-    at = λ e p. verify-case row r e (lineAt row (VERIFY v (named r)) ∷ []) (e .objects v) below ∙ ap (λ (b : Bool). onward (cond b (passed (knownIn e)) (stopped (ReadWhileUnset row))) (judged kind (reads-raw row r ∷ []))) p;
+    at = λ e p. verify-case row r e (lineAt row (VERIFY v (named r)) ∷ []) (e .objects v) below ∙ ap
+        (λ (b : Bool). onward (cond b (passed (knownIn e)) (stopped (ReadWhileUnset row))) (judged kind (reads-raw row r ∷ []))) p;
   }
 
   -- a variable that is set is compared, one that is not is set

@@ -30,5 +30,10 @@ use Rattle.printing.specs.Listing.{codeLines, cellLines, listing}
 use Rattle.promises.specs.Listing.{Printed}
 
 pub printed : Printed
-unfolding flatMap number bytesOf words spelled lowestFrom each oneOf digits decimal spaced line wordLine Code.wordOf Code.instructionOf goodWord badWord Row.rowOf Row.tagOf Row.shapeOf usedRows knownTag isPacked numberFits partsBelow keyKindFits earlierEqual badTermRow badTerm equalRow locate held cellOf storeOf cellsFrom agentOf keyOf spareOf certified pairFits agentsOnce kindsFit eachVariable declared valid count patternFields Patterns.repeats Patterns.badRow Patterns.unnamed Patterns.badPattern patternsFrom patternsOf patternOf wrongKind put puts creatable message setMessage setMessages messages behind andThen readable occupied addRaw emit first usedPart compile stateOver leftBy linesFrom run headerOf bundleOf readBundle givenBy codeLines cellLines listing
+unfolding flatMap number bytesOf words spelled lowestFrom each oneOf digits decimal spaced line wordLine Code.wordOf Code.instructionOf goodWord
+    badWord Row.rowOf Row.tagOf Row.shapeOf usedRows knownTag isPacked numberFits partsBelow keyKindFits earlierEqual badTermRow badTerm equalRow
+    locate held cellOf storeOf cellsFrom agentOf keyOf spareOf certified pairFits agentsOnce kindsFit eachVariable declared valid count patternFields
+    Patterns.repeats Patterns.badRow Patterns.unnamed Patterns.badPattern patternsFrom patternsOf patternOf wrongKind put puts creatable message
+    setMessage setMessages messages behind andThen readable occupied addRaw emit first usedPart compile stateOver leftBy linesFrom run headerOf
+    bundleOf readBundle givenBy codeLines cellLines listing
 printed = record { example = refl }

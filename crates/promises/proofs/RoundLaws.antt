@@ -171,7 +171,12 @@ module _ (x : RoundLent) (code : List ℕ) where
   unfolding round first
   turn-steps turn =
       ap (roundBy x code) (sym (passed-steps (turn .passed)))
-      ∙ rw (is-false overdue (fails overdue .0 (turn .goes-on)), is-false (isSet (x .session .answer)) (fails (isSet (x .session .answer)) .0 (turn .taken)), is-true (isSet (x .session .message)) (turn .waiting))
+      ∙ rw (
+        is-false overdue (fails overdue .0 (turn .goes-on)),
+        is-false (isSet (x .session .answer))
+            (fails (isSet (x .session .answer)) .0 (turn .taken)),
+        is-true (isSet (x .session .message)) (turn .waiting),
+      )
 
   gives-answer : (answer : Rounded) → RoundGives answer → round x code .answer ≡ answer
   unfolding round first sentBy
@@ -186,7 +191,12 @@ module _ (x : RoundLent) (code : List ℕ) where
       ap (λ r. roundBy x code r .answer) (sym (passed-steps p)) ∙ rw (is-false overdue (fails overdue .0 o), is-true (isSet (x .session .answer)) a)
   gives-answer NoMessage (p, o, a, m) =
       ap (λ r. roundBy x code r .answer) (sym (passed-steps p))
-      ∙ rw (is-false overdue (fails overdue .0 o), is-false (isSet (x .session .answer)) (fails (isSet (x .session .answer)) .0 a), is-false (isSet (x .session .message)) (fails (isSet (x .session .message)) .0 m))
+      ∙ rw (
+        is-false overdue (fails overdue .0 o),
+        is-false (isSet (x .session .answer)) (fails (isSet (x .session .answer)) .0 a),
+        is-false
+            (isSet (x .session .message)) (fails (isSet (x .session .message)) .0 m),
+      )
   gives-answer (Ran (Ran.Stuck word reason)) (turn, e) = ap (λ o. o .answer) (turn-steps turn) ∙ rw e (ap (λ why. Ran (Ran.Stuck word why)) (reason-known reason))
   gives-answer (Ran (Ran.NoRoom word)) (turn, e) = ap (λ o. o .answer) (turn-steps turn) ∙ rw e
   gives-answer (Ran (Ran.Done words)) (turn, n, (t, e)) = ap (λ o. o .answer) (turn-steps turn) ∙ rw (e, n)

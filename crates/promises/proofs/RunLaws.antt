@@ -38,7 +38,8 @@ RunGives x code (Done words) = Passed x code × (words ≡ length code) × ((t :
 
 -- and what it leaves
 abbrev pub RunLeaves : Lent → List ℕ → RunOutcome → Type 0
-RunLeaves x code o = RunGives x code (o .answer) × ((runNumber o ≢ 0 → o ≡ unchanged (o .answer) x) × ((t : State rowWorld) → stepsOf x code ≡ done t → runNumber o ≡ 0 → o ≡ leftBy (Done (length code)) t))
+RunLeaves x code o = RunGives x code (o .answer) × ((runNumber o ≢ 0 → o ≡ unchanged (o .answer) x) ×
+    ((t : State rowWorld) → stepsOf x code ≡ done t → runNumber o ≡ 0 → o ≡ leftBy (Done (length code)) t))
 
 module _ (x : Lent) (code : List ℕ) where
   refused : (answer : Ran) → ranNumber answer ≢ 0 → RunGives x code answer → RunLeaves x code (unchanged answer x)

@@ -69,7 +69,8 @@ same-code create pattern kinds {objects} {objects′} {named} {named′} slice s
     answers : compile create pattern kinds objects′ named′ slice .answer ≡ compile create pattern kinds objects′ named′ slice′ .answer
     answers = same-answer (same-slices create pattern kinds objects′ named′ slice slice′ l)
 
-    codes : compileNumber (compile create pattern kinds objects′ named′ slice) ≡ 0 → compiledCode (compile create pattern kinds objects′ named′ slice) ≡ compiledCode (compile create pattern kinds objects′ named′ slice′)
+    codes : compileNumber (compile create pattern kinds objects′ named′ slice) ≡ 0 → compiledCode (compile create pattern kinds objects′ named′ slice)
+        ≡ compiledCode (compile create pattern kinds objects′ named′ slice′)
     codes e =
         let w = table-written create pattern kinds objects′ named′ slice e in
         let w′ = table-written create pattern kinds objects′ named′ slice′ (ap compiledNumber (sym answers) ∙ e) in

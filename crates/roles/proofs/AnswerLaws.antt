@@ -112,7 +112,13 @@ module _ (ends code : List ℕ) (x : RoleLent) where
           role-done most same words =
               let rounds : roundsIn all ≡ roundsOf (counts .halves) = ap roundsIn (counts .compiles) in
               let place : compiledPlace answer ≡ length (inTurn (roundsOf (counts .halves))) = ap compiledPlace (counts .says) in
-              (λ i. record { answer = counts .says i; half = counts .first i; ends = (same ∙ ap (endsFrom 0) rounds) i; code = (words ∙ ap (λ (r : List (List ℕ)). inTurn r ++ drop (length (inTurn r)) code) rounds) i })
+              (λ i. record {
+                answer = counts .says i;
+                half = counts .first i;
+                ends = (same ∙ ap (endsFrom 0) rounds) i;
+                code =
+                    (words ∙ ap (λ (r : List (List ℕ)). inTurn r ++ drop (length (inTurn r)) code) rounds) i;
+              })
               ∙ sym (answered ∙ ap (roleBy ends code) (counts .compiles) ∙ rw (le-leb (length (inTurn (roundsOf (counts .halves)))) (length code) (rw place at most)))
 
 -- where a round starts

@@ -159,7 +159,11 @@ module _ (kinds counts rows : List ℕ) (start : Env) where
       stepped = r .halves ∙ rw (drop-cons counts n 0 inside, halves-cons n create kinds (getD counts n 0) (drop (suc n) counts) (drop row rows) e)
 
       pub reached-refused : (answer : Compiled) → half create pattern kinds e ≡ refuse answer → whole ≡ refusedIn n answer
-      reached-refused answer q = stepped ∙ rw (q, then-refuse n answer (λ e′. halvesFrom (suc n) (not create) kinds (drop (suc n) counts) (drop (getD counts n 0) (drop row rows)) e′)) (after-refused done n answer)
+      reached-refused answer q = stepped ∙ rw (
+        q,
+        then-refuse n answer (λ e′. halvesFrom (suc n) (not create) kinds (drop (suc n) counts)
+            (drop (getD counts n 0) (drop row rows)) e′),
+      ) (after-refused done n answer)
 
       pub reached-more : (lines : List Line) (e′ : Env) → half create pattern kinds e ≡ ok lines e′
           → Reached (done ++ codeWords lines ∷ []) (suc n) (row + getD counts n 0) (not create) (again e′)

@@ -81,7 +81,15 @@ module _ (kinds counts rows : List ℕ) (start : Env) {halves : List (List ℕ)}
             let s = reached-more kinds counts rows start (reached-more kinds counts rows start r (omega arith) m e₁ p) (rw add-one at inside) c e₂ (rw add-one at q) in
             let f = fit m c s in
             let two : 2 * (round + 1) ≡ suc (suc (2 * round)) = omega arith in
-            record { lines = m ++ c; env = e₂; emits = round-ok kinds matching creating e p q; after = (done ++ codeWords m ∷ []) ++ codeWords c ∷ []; next = rw (two, add-one (2 * round)) s; rounds = f .0; fits = f .1 }
+            record {
+              lines = m ++ c;
+              env = e₂;
+              emits = round-ok kinds matching creating e p q;
+              after = (done ++ codeWords m ∷ []) ++ codeWords c ∷ [];
+              next = rw (two, add-one (2 * round)) s;
+              rounds = f .0;
+              fits = f .1;
+            }
 
         by-match : (E : Emitted) → half false matching kinds e ≡ E → RoundAhead
         by-match (refuse answer) p = absurd (refused-compiled (reached-refused kinds counts rows start r (omega arith) answer p) all)

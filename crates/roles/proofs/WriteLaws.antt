@@ -56,7 +56,13 @@ front-more front words before fits e =
     let long : length (front ++ drop (length front) before) ≡ length before = rw (length-append front (drop (length front) before)) (omega (arith, length-drop (length front) before)) in
     rw e
     (sets-eq words (front ++ drop (length front) before) (length front) (rw long fits)
-    ∙ rw (take-append-seam front (drop (length front) before), drop-append-add front (drop (length front) before) (length words), drop-drop (length words) (length front) before, length-append front words))
+    ∙ rw (
+      take-append-seam front (drop (length front) before),
+      drop-append-add front (drop (length front) before) (length words),
+      drop-drop
+          (length words) (length front) before,
+      length-append front words,
+    ))
 
 -- a half's words come from its buffer
 pub record HalfPut (place : ℕ) (code : List ℕ) (answer : Compiled) (buffer : List ℕ) (o n : ℕ → Bool) (E : Emitted) : Type 0 where
@@ -111,7 +117,17 @@ module _ (kinds matching creating : List ℕ) (e : Env) where
       by-create : (m : List Line) (e₁ : Env) → half false matching kinds e ≡ ok m e₁ → (E : Emitted) → half true creating kinds (again e₁) ≡ E → CodeFits framed place room (behind m E)
           → BothHalves place room
       by-create m e₁ p (refuse answer) q fits = absurd fits
-      by-create m e₁ p (ok c e₂) q fits = record { first = m; between = e₁; second = c; env = e₂; matches = p; creates = q; fits = fits; least = omega (arith, fits, length-append (codeWords (m ++ c)) (outputWord ∷ [])) }
+      by-create m e₁ p (ok c e₂) q fits = record {
+        first = m;
+        between = e₁;
+        second = c;
+        env = e₂;
+        matches = p;
+        creates = q;
+        fits = fits;
+        least = omega
+            (arith, fits, length-append (codeWords (m ++ c)) (outputWord ∷ []));
+      }
 
       by-match : (E : Emitted) → half false matching kinds e ≡ E → CodeFits framed place room (andThen E (λ e′. half true creating kinds (again e′))) → BothHalves place room
       by-match (refuse answer) p fits = absurd fits
@@ -168,7 +184,8 @@ module _ (kinds matching creating : List ℕ) (e : Env) where
         written =
             rw (words-append (b .first) (b .second), created .slice, created .ends, matched .slice, matched .ends, add-one place)
             (sym (sets-append (set code place inputWord) (suc place) (m ++ c) (outputWord ∷ [])
-            ∙ rw (sets-append (set code place inputWord) (suc place) m c, length-append m c) (ap (λ (n : ℕ). set (sets (sets (set code place inputWord) (suc place) m) (suc place + length m) c) n outputWord) (omega arith))))
+            ∙ rw (sets-append (set code place inputWord) (suc place) m c, length-append m c)
+            (ap (λ (n : ℕ). set (sets (sets (set code place inputWord) (suc place) m) (suc place + length m) c) n outputWord) (omega arith))))
 
         pub round-left : record { end = end′ + 1; objects = o′; named = n′; code = set after′ end′ outputWord } ≡ codeLeft framed place code (roundEmitted kinds matching creating e)
         round-left =
@@ -228,12 +245,14 @@ module _ (kinds counts rows : List ℕ) (start : Env) (ends₀ code₀ : List �
       pub ahead : RoundAhead kinds counts rows start all round (w .reached) second-inside
       ahead = round-ahead kinds counts rows start all round (w .reached) second-inside
 
-      pub round-fits : CodeFits framed words (length code) (roundEmitted kinds (take (getD counts (2 * round) 0) (drop row rows)) (take (getD counts (2 * round + 1) 0) (drop (row + getD counts (2 * round) 0) rows)) e)
+      pub round-fits : CodeFits framed words (length code) (roundEmitted kinds (take (getD counts (2 * round) 0) (drop row rows))
+          (take (getD counts (2 * round + 1) 0) (drop (row + getD counts (2 * round) 0) rows)) e)
       round-fits = rw (ahead .emits) (omega (arith, w .place, w .code-long, ahead .fits, room))
 
       module _ {end : ℕ} {o n : ℕ → Bool} {after : List ℕ}
           (h : record { end = end; objects = o; named = n; code = after }
-          ≡ codeLeft framed words code (roundEmitted kinds (take (getD counts (2 * round) 0) (drop row rows)) (take (getD counts (2 * round + 1) 0) (drop (row + getD counts (2 * round) 0) rows)) e)) where
+          ≡ codeLeft framed words code (roundEmitted kinds (take (getD counts (2 * round) 0) (drop row rows))
+          (take (getD counts (2 * round + 1) 0) (drop (row + getD counts (2 * round) 0) rows)) e)) where
         abbrev frame : List ℕ
         frame = framed (codeWords (ahead .lines))
 
@@ -255,7 +274,8 @@ module _ (kinds counts rows : List ℕ) (start : Env) (ends₀ code₀ : List �
         pub writing-more : Writing kinds counts rows start ends₀ code₀ (round + 1) (row + getD counts (2 * round) 0 + getD counts (2 * round + 1) 0) (fromKnown o n) end (set ends round end) after
         writing-more = record {
           done = ahead .after;
-          reached = subst (λ (x : Env). Reached kinds counts rows start (ahead .after) (2 * (round + 1)) (row + getD counts (2 * round) 0 + getD counts (2 * round + 1) 0) false x) (sym (wrote .env)) (ahead .next);
+          reached = subst (λ (x : Env). Reached kinds counts rows start (ahead .after) (2 * (round + 1))
+              (row + getD counts (2 * round) 0 + getD counts (2 * round + 1) 0) false x) (sym (wrote .env)) (ahead .next);
           place = ends-here;
           coded =
               wrote .slice

@@ -42,7 +42,8 @@ pub fn role_fits(
     named: usize,
     ends: usize,
 ) -> bool
-    ensures { λ r. ⌜ r ≡ (eqb (length (now (counts .entry)) % 2) 0 && leb 1 (length (now (counts .entry)) / 2) && leb (length (now (counts .entry)) / 2) mostRounds && eqb kinds variables && eqb objects variables && eqb named variables && eqb ends (length (now (counts .entry)) / 2) && eqb (sum (now (counts .entry))) rows) ⌝ }
+    ensures { λ r. ⌜ r ≡ (eqb (length (now (counts .entry)) % 2) 0 && leb 1 (length (now (counts .entry)) / 2) && leb (length (now (counts .entry)) / 2) mostRounds
+        && eqb kinds variables && eqb objects variables && eqb named variables && eqb ends (length (now (counts .entry)) / 2) && eqb (sum (now (counts .entry))) rows) ⌝ }
 {
     if !lengths_fit(counts.len(), kinds, objects, named, ends) {
         return false;

@@ -29,7 +29,13 @@ pub fn compile_role(
     code: &mut [u32],
 ) -> RoleCompiled
     ensures { λ r. ⌜ record { answer = r .answer; half = r .half; ends = now (ends .exit); code = now (code .exit) }
-        ≡ role (now (ends .entry)) (now (code .entry)) (record { rows = now (rows .entry); counts = now (counts .entry); kinds = now (kinds .entry); objects = now (objects .entry); named = now (named .entry) }) ⌝ }
+        ≡ role (now (ends .entry)) (now (code .entry)) (record {
+          rows = now (rows .entry);
+          counts = now (counts .entry);
+          kinds = now (kinds .entry);
+          objects = now (objects .entry);
+          named = now (named .entry);
+        }) ⌝ }
 {
     if !role_fits(
         rows.len(),

@@ -91,7 +91,8 @@ module _ (x : RoundLent) (code : List ℕ) where
   place-ends (stuck place why) stops = omega arith
   place-ends (room place) stops = omega arith
 
-  module _ {ran : Ran} (objects′ messages′ : List ℕ) {objects messages terms : List ℕ} {accumulator counter : ℕ} (o : objects ≡ x .objects) (m : messages ≡ x .messages) {part : List ℕ} (w : part ≡ middle code)
+  module _ {ran : Ran} (objects′ messages′ : List ℕ) {objects messages terms : List ℕ} {accumulator counter : ℕ} (o : objects ≡ x .objects)
+      (m : messages ≡ x .messages) {part : List ℕ} (w : part ≡ middle code)
       (e : record { answer = ran; objects = cellsAfter ran objects objects′; messages = cellsAfter ran messages messages′; accumulator = accumulator; terms = terms; counter = counter }
       ≡ runBy (withCells (received x) objects messages) part none) where
     lent : record { answer = ran; objects = cellsAfter ran objects objects′; messages = cellsAfter ran messages messages′; accumulator = accumulator; terms = terms; counter = counter }

@@ -48,7 +48,15 @@ pub fn round_of(
     code: &[u32],
 ) -> RoundEnded
     ensures { λ r. ⌜ record { answer = r .answer; session = r .session; objects = now (objects .exit); messages = now (messages .exit); terms = now (terms .exit) }
-        ≡ round (record { session = session; rounds = rounds; kinds = now (kinds .entry); objects = now (objects .entry); messages = now (messages .entry); certificates = now (certificates .entry); terms = now (terms .entry) }) (now (code .entry)) ⌝ }
+        ≡ round (record {
+          session = session;
+          rounds = rounds;
+          kinds = now (kinds .entry);
+          objects = now (objects .entry);
+          messages = now (messages .entry);
+          certificates = now (certificates .entry);
+          terms = now (terms .entry);
+        }) (now (code .entry)) ⌝ }
 {
     let found = turns::look(
         session,
@@ -99,7 +107,15 @@ pub fn round(
     code: &[u32],
 ) -> Rounded
     ensures { λ r. ⌜ record { answer = r; session = now (session .exit); objects = now (objects .exit); messages = now (messages .exit); terms = now (terms .exit) }
-        ≡ round (record { session = now (session .entry); rounds = rounds; kinds = now (kinds .entry); objects = now (objects .entry); messages = now (messages .entry); certificates = now (certificates .entry); terms = now (terms .entry) }) (now (code .entry)) ⌝ }
+        ≡ round (record {
+          session = now (session .entry);
+          rounds = rounds;
+          kinds = now (kinds .entry);
+          objects = now (objects .entry);
+          messages = now (messages .entry);
+          certificates = now (certificates .entry);
+          terms = now (terms .entry);
+        }) (now (code .entry)) ⌝ }
 {
     let ended = round_of(
         *session,

@@ -27,10 +27,26 @@ pub fn play(
     terms: &mut [u64],
     code: &[u32],
 ) -> RoundEnded
-    requires { ⌜ first (roundRefusals (record { session = session; rounds = rounds; kinds = now kinds; objects = now objects; messages = now messages; certificates = now certificates; terms = now terms }) (now code)) ≡ none ⌝ }
+    requires { ⌜ first (roundRefusals (record {
+      session = session;
+      rounds = rounds;
+      kinds = now kinds;
+      objects = now objects;
+      messages = now messages;
+      certificates = now certificates;
+      terms = now terms;
+    }) (now code)) ≡ none ⌝ }
     requires { ⌜ used ≡ usedRows (now terms) ⌝ }
     ensures { λ r. ⌜ record { answer = r .answer; session = r .session; objects = now (objects .exit); messages = now (messages .exit); terms = now (terms .exit) }
-        ≡ round (record { session = session; rounds = rounds; kinds = now (kinds .entry); objects = now (objects .entry); messages = now (messages .entry); certificates = now (certificates .entry); terms = now (terms .entry) }) (now (code .entry)) ⌝ }
+        ≡ round (record {
+          session = session;
+          rounds = rounds;
+          kinds = now (kinds .entry);
+          objects = now (objects .entry);
+          messages = now (messages .entry);
+          certificates = now (certificates .entry);
+          terms = now (terms .entry);
+        }) (now (code .entry)) ⌝ }
 {
     let start = Registers {
         place: 0,

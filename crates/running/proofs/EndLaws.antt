@@ -40,7 +40,14 @@ module _ (x : Lent) (code : List ℕ) where
 
   -- cells that the steps left, by the answer
   module _ {answer : Ran} (objects messages : List ℕ) {terms : List ℕ} {accumulator counter : ℕ} (passes : first (refusals x code) ≡ none)
-      (e : record { answer = answer; objects = cellsAfter answer (x .objects) objects; messages = cellsAfter answer (x .messages) messages; accumulator = accumulator; terms = terms; counter = counter } ≡ runBy x code none) where
+      (e : record {
+        answer = answer;
+        objects = cellsAfter answer (x .objects) objects;
+        messages = cellsAfter answer (x .messages) messages;
+        accumulator = accumulator;
+        terms = terms;
+        counter = counter;
+      } ≡ runBy x code none) where
     pub steps-done : ranNumber answer ≡ 0
         → record { answer = answer; objects = objects; messages = messages; accumulator = accumulator; terms = terms; counter = counter } ≡ run x code
     steps-done ends = rw (eq-eqb (ranNumber answer) 0 ends) at e ∙ run-stepped x code passes

@@ -44,7 +44,16 @@ pub fn run_cells(
     code: &[u32],
 ) -> Outcome
     ensures { λ r. ⌜ (record { answer = r .answer; objects = r .objects; messages = r .messages; accumulator = r .accumulator; terms = now (terms .exit); counter = r .counter }
-        ≡ run (record { kinds = now (kinds .entry); objects = objects; messages = messages; certificates = now (certificates .entry); accumulator = accumulator; terms = now (terms .entry); counter = counter }) (now (code .entry)))
+        ≡ run (record {
+          kinds = now (kinds .entry);
+          objects = objects;
+          messages = messages;
+          certificates = now (certificates .entry);
+          accumulator =
+              accumulator;
+          terms = now (terms .entry);
+          counter = counter;
+        }) (now (code .entry)))
         × (r .used ≡ usedWith (r .answer) (now (terms .exit))) ⌝ }
 {
     let found = looking::look(
@@ -120,7 +129,15 @@ pub fn run(
     code: &[u32],
 ) -> Ended
     ensures { λ r. ⌜ (record { answer = r .answer; objects = now (objects .exit); messages = now (messages .exit); accumulator = r .accumulator; terms = now (terms .exit); counter = r .counter }
-        ≡ run (record { kinds = now (kinds .entry); objects = now (objects .entry); messages = now (messages .entry); certificates = now (certificates .entry); accumulator = accumulator; terms = now (terms .entry); counter = counter }) (now (code .entry)))
+        ≡ run (record {
+          kinds = now (kinds .entry);
+          objects = now (objects .entry);
+          messages = now (messages .entry);
+          certificates = now (certificates .entry);
+          accumulator = accumulator;
+          terms = now (terms .entry);
+          counter = counter;
+        }) (now (code .entry)))
         × (r .used ≡ usedWith (r .answer) (now (terms .exit))) ⌝ }
 {
     let whole = (objects.len() == VARIABLES) & (messages.len() == MESSAGE_CELLS);

@@ -107,7 +107,14 @@ module _ (x : RoundLent) (code : List ℕ) where
   round-within t =
       let h = simp (both, equals, at-most) at t in
       record {
-        lent = record { kinds = h .0 .0 .0 .0 .0 .0 .0 .0 .0 .0; objects = h .0 .0 .0 .0 .0 .0 .0 .0 .0 .1; messages = h .0 .0 .0 .0 .0 .0 .0 .0 .1; certificates = h .0 .0 .0 .0 .0 .0 .0 .1; terms = h .0 .0 .0 .0 .0 .0 .1; counter = h .0 .0 .0 .0 .0 .1 };
+        lent = record {
+          kinds = h .0 .0 .0 .0 .0 .0 .0 .0 .0 .0;
+          objects = h .0 .0 .0 .0 .0 .0 .0 .0 .0 .1;
+          messages = h .0 .0 .0 .0 .0 .0 .0 .0 .1;
+          certificates = h .0 .0 .0 .0 .0 .0 .0 .1;
+          terms = h .0 .0 .0 .0 .0 .0 .1;
+          counter = h .0 .0 .0 .0 .0 .1;
+        };
         words = (h .0 .0 .0 .0 .1, h .0 .0 .0 .1);
         rounds = (h .0 .0 .1, h .0 .1);
         used = h .1;

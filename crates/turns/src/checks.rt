@@ -69,7 +69,8 @@ fn record_fits(
     certificates: &[u64],
     terms: &[u64],
 ) -> bool
-    ensures { λ r. ⌜ r ≡ (valid (now (terms .entry)) used (now (kinds .entry)) (now (objects .entry)) (now (messages .entry)) (now (certificates .entry)) (session .message) && cellFits used (session .answer)) ⌝ }
+    ensures { λ r. ⌜ r ≡ (valid (now (terms .entry)) used (now (kinds .entry)) (now (objects .entry)) (now (messages .entry))
+        (now (certificates .entry)) (session .message) && cellFits used (session .answer)) ⌝ }
 {
     validity::valid(
         terms,
@@ -109,7 +110,16 @@ pub fn look(
     terms: &[u64],
     code: &[u32],
 ) -> Finding
-    ensures { λ r. ⌜ r ≡ roundFinding (first (roundRefusals (record { session = session; rounds = rounds; kinds = now (kinds .entry); objects = now (objects .entry); messages = now (messages .entry); certificates = now (certificates .entry); terms = now (terms .entry) }) (now (code .entry)))) (usedRows (now (terms .entry))) ⌝ }
+    ensures { λ r. ⌜ r ≡ roundFinding (first (roundRefusals (record {
+      session = session;
+      rounds = rounds;
+      kinds = now (kinds .entry);
+      objects = now (objects .entry);
+      messages = now (messages .entry);
+      certificates = now (certificates .entry);
+      terms = now (terms .entry);
+    })
+        (now (code .entry)))) (usedRows (now (terms .entry))) ⌝ }
 {
     let counter = session.counter;
     let counted = tables::used_rows(terms);

@@ -25,7 +25,8 @@ module _ (c : tie.After-compile-known) where
   compiles : Compiles (start whole .args .create) (start whole .args .pattern .now) (start whole .args .kinds .now) (start whole .args .objects .now) (start whole .args .named .now)
       (c .compile-known .result .answer) (c .compile-known .last .1 .1 .1 .1 .1 .0)
   compiles =
-      known-compiles _ _ _ _ _ _ _ (lengths whole .0) (lengths whole .1) (c .before .before .before .set-cells .ensures) (c .before .before .set-cells2 .ensures) _ (c .before .before .before .before .no-words .ensures)
+      known-compiles _ _ _ _ _ _ _ (lengths whole .0) (lengths whole .1) (c .before .before .before .set-cells .ensures)
+      (c .before .before .set-cells2 .ensures) _ (c .before .before .before .before .no-words .ensures)
       (c .compile-known .ensures)
 
 -- the answer is 0: the buffer has so many words

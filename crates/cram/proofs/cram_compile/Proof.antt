@@ -30,8 +30,13 @@ module _ (c : tie.After-compile-known) where
   compiles : Compiles (eqb (start here .args .create) 1) (elements 8 (start here .args .pattern .now)) (start here .args .kinds .now)
       (elements 2 (start here .args .objects .now)) (elements 2 (start here .args .named .now)) (c .compile-known .result .answer) (c .compile-known .last .1 .1 .1 .1 .1 .0)
   compiles =
-      known-compiles _ _ _ _ _ _ _ (object-count _ _ _ _ _ _ (fits here)) (named-count _ _ _ _ _ _ (fits here)) (rw (c .before .before .before .before .before .before .before .before .before .cells .ensures) at (c .before .before .before .before .set-cells .ensures))
-      (rw (c .before .before .before .before .before .before .before .before .cells2 .ensures) at (c .before .before .set-cells2 .ensures)) _ (sym (c .before .before .before .before .before .before .before .no-words .ensures)) (rw (c .before .before .before .before .before .before .before .before .before .before .pattern-rows .ensures) at (c .compile-known .ensures))
+      known-compiles _ _ _ _ _ _ _ (object-count _ _ _ _ _ _ (fits here)) (named-count _ _ _ _ _ _ (fits here))
+      (rw (c .before .before .before .before .before .before .before .before .before .cells .ensures) at
+      (c .before .before .before .before .set-cells .ensures))
+      (rw (c .before .before .before .before .before .before .before .before .cells2 .ensures) at (c .before .before .set-cells2 .ensures)) _
+      (sym (c .before .before .before .before .before .before .before .no-words .ensures))
+      (rw (c .before .before .before .before .before .before .before .before .before .before .pattern-rows .ensures) at
+      (c .compile-known .ensures))
 
 -- its answer is 0: the buffer has so many words
 module _ (c : tie.After-place) where
@@ -121,7 +126,11 @@ slice-aggregate-deliver : tie.Need-slice-aggregate-deliver
 slice-aggregate-deliver c = sym (length-take-le _ _ (inside (c .before)))
 
 deliver-requires : tie.Need-deliver-requires
-deliver-requires c κs = (rw (length-take-le (c .before .before .place .result) _ (inside (c .before .before))) (omega (arith, few (c .before .before))), fits (here (answered (c .before .before))) .code-bytes)
+deliver-requires c κs = (
+  rw (length-take-le (c .before .before .place .result) _ (inside (c .before .before)))
+      (omega (arith, few (c .before .before))),
+  fits (here (answered (c .before .before))) .code-bytes,
+)
 
 same-length : tie.Need-same-length
 same-length c = search needs

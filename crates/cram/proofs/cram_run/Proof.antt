@@ -74,13 +74,23 @@ slice-aggregate-pack-pairs : tie.Need-slice-aggregate-pack-pairs
 slice-aggregate-pack-pairs c = search needs
 
 pack-pairs-requires : tie.Need-pack-pairs-requires
-pack-pairs-requires c κs = omega (arith, slice-aggregate-pack-pairs (c .before), fits (c .before .before .before .before .before .before .before .before .before .before .before .before .before .before .before .before) .object-bytes)
+pack-pairs-requires c κs = omega (
+  arith,
+  slice-aggregate-pack-pairs (c .before),
+  fits
+      (c .before .before .before .before .before .before .before .before .before .before .before .before .before .before .before .before) .object-bytes,
+)
 
 slice-aggregate-pack-pairs-2 : tie.Need-slice-aggregate-pack-pairs-2
 slice-aggregate-pack-pairs-2 c = search needs
 
 pack-pairs-requires-2 : tie.Need-pack-pairs-requires-2
-pack-pairs-requires-2 c κs = omega (arith, slice-aggregate-pack-pairs-2 (c .before), fits (c .before .before .before .before .before .before .before .before .before .before .before .before .before .before .before .before .before .before .before .before .before) .message-bytes)
+pack-pairs-requires-2 c κs = omega (
+  arith,
+  slice-aggregate-pack-pairs-2 (c .before),
+  fits
+      (c .before .before .before .before .before .before .before .before .before .before .before .before .before .before .before .before .before .before .before .before .before) .message-bytes,
+)
 
 cast-numbers : tie.Need-cast-numbers
 cast-numbers c = search needs

@@ -129,8 +129,22 @@ create-parts-μ-loop rows kinds code₀ emission₀ row n parts k₀ code emissi
 
 module _ (t : ℕ) where
   abbrev create-encryption-callees : create-encryption-lts.Claims
-  create-encryption-callees =
-      (variable-reads.Asked, variable-reads.Learnt, key-reads.Asked, key-reads.Learnt, slots-reads.Asked, slots-reads.Learnt, create-key-reads.Asked, create-key-reads.Learnt, create-row-below t, create-row.Post, encrypt-reads.Asked, encrypt-reads.Learnt, decode-reads.Asked, decode-reads.Learnt)
+  create-encryption-callees = (
+    variable-reads.Asked,
+    variable-reads.Learnt,
+    key-reads.Asked,
+    key-reads.Learnt,
+    slots-reads.Asked,
+    slots-reads.Learnt,
+    create-key-reads.Asked,
+    create-key-reads.Learnt,
+    create-row-below t,
+    create-row.Post,
+    encrypt-reads.Asked,
+    encrypt-reads.Learnt,
+    decode-reads.Asked,
+    decode-reads.Learnt,
+  )
 
   create-encryption-variable-requires : create-encryption-lts.Need-variable-requires create-encryption-callees (create-encryption-at t) create-encryption.Post
   create-encryption-variable-requires c κs = search needs
@@ -152,8 +166,10 @@ module _ (t : ℕ) where
   create-encryption-create-row-requires : create-encryption-lts.Need-create-row-requires create-encryption-callees (create-encryption-at t) create-encryption.Post
   create-encryption-create-row-requires c κs =
       let asked = c .before .before .before .before .before .before .before .before .pre .1 in
-      let first = slot _ _ 0 (c .before .before .before .before .before .slots .ensures) in
-      (omega (arith, c .before .before .before .before .before .before .before .before .pre .0, encryption-child (asked .0) _ first (asked .1)), encryption-inside _ _ _ (asked .0) (asked .1) _ first (c .before .before .create-key .ensures))
+      let first = slot _ _ 0 (c .before .before .before .before .before .slots .ensures) in (
+        omega (arith, c .before .before .before .before .before .before .before .before .pre .0, encryption-child (asked .0) _ first (asked .1)),
+        encryption-inside _ _ _ (asked .0) (asked .1) _ first (c .before .before .create-key .ensures),
+      )
 
   create-encryption-encrypt-requires : create-encryption-lts.Need-encrypt-requires create-encryption-callees (create-encryption-at t) create-encryption.Post
   create-encryption-encrypt-requires c κs =
@@ -164,14 +180,22 @@ module _ (t : ℕ) where
   create-encryption-decode-requires : create-encryption-lts.Need-decode-requires create-encryption-callees (create-encryption-at t) create-encryption.Post
   create-encryption-decode-requires c κs =
       let asked = c .before .before .before .before .before .before .before .before .before .before .before .before .before .before .pre .1 in
-      let first = slot _ _ 0 (c .before .before .before .before .before .before .before .before .before .before .before .slots .ensures) in
-      (seal-room _ _ _ (asked .0) (asked .1) _ first (c .before .before .before .before .before .before .before .before .create-key .ensures) (c .before .before .before .before .before .create-row .ensures) (c .before .before .encrypt .ensures), variable-low _ _ (c .before .before .before .before .before .before .before .before .before .before .before .before .before .variable .ensures))
+      let first = slot _ _ 0 (c .before .before .before .before .before .before .before .before .before .before .before .slots .ensures) in (
+        seal-room _ _ _ (asked .0) (asked .1) _ first (c .before .before .before .before .before .before .before .before .create-key .ensures)
+            (c .before .before .before .before .before .create-row .ensures) (c .before .before .encrypt .ensures),
+        variable-low _ _
+            (c .before .before .before .before .before .before .before .before .before .before .before .before .before .variable .ensures),
+      )
 
   create-encryption-returns : create-encryption-lts.Need-returns create-encryption-callees (create-encryption-at t) create-encryption.Post
   create-encryption-returns c =
       let asked = c .before .before .before .before .before .before .before .before .before .before .before .before .before .before .before .pre .1 in
       let first = slot _ _ 0 (c .before .before .before .before .before .before .before .before .before .before .before .before .slots .ensures) in
-      encryption-done _ _ _ (asked .0) (asked .1) _ first _ _ _ (c .before .before .before .before .before .before .before .before .before .before .before .before .before .before .variable .ensures) (c .before .before .before .before .before .before .before .before .before .before .before .before .before .key .ensures) (c .before .before .before .before .before .before .before .before .before .create-key .ensures) (c .before .before .before .before .before .before .create-row .ensures)
+      encryption-done _ _ _ (asked .0) (asked .1) _ first _ _ _
+      (c .before .before .before .before .before .before .before .before .before .before .before .before .before .before .variable .ensures)
+      (c .before .before .before .before .before .before .before .before .before .before .before .before .before .key .ensures)
+      (c .before .before .before .before .before .before .before .before .before .create-key .ensures)
+      (c .before .before .before .before .before .before .create-row .ensures)
       (c .before .before .before .encrypt .ensures) (c .decode .ensures)
 
   abbrev create-let-callees : create-let-lts.Claims
@@ -208,15 +232,26 @@ module _ (t : ℕ) where
   create-let-create-row-requires-2 c κs =
       let asked = c .before .before .before .before .before .before .before .before .before .before .pre .1 in
       let first = slot _ _ 0 (c .before .before .before .before .before .before .before .before .slots .ensures) in
-      let second = slot _ _ 1 (c .before .before .before .before .before .before .before .before .slots .ensures) in
-      (omega (arith, c .before .before .before .before .before .before .before .before .before .before .pre .0, let-children (asked .0) _ first _ second (asked .1) .1), let-second _ _ _ (asked .0) (asked .1) _ first _ second (c .before .before .before .before .before .create-row .ensures) (c .before .before .store .ensures))
+      let second = slot _ _ 1 (c .before .before .before .before .before .before .before .before .slots .ensures) in (
+        omega (
+          arith,
+          c .before .before .before .before .before .before .before .before .before .before .pre .0,
+          let-children (asked .0) _ first _
+              second (asked .1) .1,
+        ),
+        let-second _ _ _ (asked .0) (asked .1) _ first _ second
+            (c .before .before .before .before .before .create-row .ensures) (c .before .before .store .ensures),
+      )
 
   create-let-returns : create-let-lts.Need-returns create-let-callees (create-let-at t) create-let.Post
   create-let-returns c =
       let asked = c .before .before .before .before .before .before .before .before .before .before .before .pre .1 in
       let first = slot _ _ 0 (c .before .before .before .before .before .before .before .before .before .slots .ensures) in
       let second = slot _ _ 1 (c .before .before .before .before .before .before .before .before .before .slots .ensures) in
-      let-done _ _ _ (asked .0) (asked .1) _ first _ second _ _ (c .before .before .before .before .before .before .before .before .before .before .raw .ensures) (c .before .before .before .before .before .before .create-row .ensures) (c .before .before .before .store .ensures) (c .create-row2 .ensures)
+      let-done _ _ _ (asked .0) (asked .1) _ first _ second _ _
+      (c .before .before .before .before .before .before .before .before .before .before .raw .ensures)
+      (c .before .before .before .before .before .before .create-row .ensures) (c .before .before .before .store .ensures)
+      (c .create-row2 .ensures)
 
   abbrev create-parts-callees : create-parts-lts.Claims
   create-parts-callees =
@@ -253,7 +288,8 @@ module _ (t : ℕ) where
   create-parts-store-requires : create-parts-lts.Need-store-requires create-parts-callees (create-parts-at t) create-parts.Post create-parts-Inv-loop create-parts-μ-loop
   create-parts-store-requires c κs =
       let s = c .before .before .before .before .before .before .before .before .before in
-      part-stores _ _ _ _ _ (parts-four s) (s .pre .1) _ (c .before .before .before .before .before .before .before .before .loop .inv) (c .before .before .before .before .before .before .before .loop-test .taken) (c .before .before .before .create-row .ensures)
+      part-stores _ _ _ _ _ (parts-four s) (s .pre .1) _ (c .before .before .before .before .before .before .before .before .loop .inv)
+      (c .before .before .before .before .before .before .before .loop-test .taken) (c .before .before .before .create-row .ensures)
 
   create-parts-add-k : create-parts-lts.Need-add-k create-parts-callees (create-parts-at t) create-parts.Post create-parts-Inv-loop create-parts-μ-loop
   create-parts-add-k c = search needs
@@ -264,7 +300,9 @@ module _ (t : ℕ) where
   create-parts-loop-again : create-parts-lts.Need-loop-again create-parts-callees (create-parts-at t) create-parts.Post create-parts-Inv-loop create-parts-μ-loop
   create-parts-loop-again c =
       let s = c .before .before .before .before .before .before .before .before .before .before in
-      part-done _ _ _ _ _ (parts-four s) (s .pre .1) _ (c .before .before .before .before .before .before .before .before .before .loop .inv) (c .before .before .before .before .before .before .before .before .loop-test .taken) (c .before .before .before .before .create-row .ensures) (c .before .scratch .ensures) (c .store .ensures)
+      part-done _ _ _ _ _ (parts-four s) (s .pre .1) _ (c .before .before .before .before .before .before .before .before .before .loop .inv)
+      (c .before .before .before .before .before .before .before .before .loop-test .taken)
+      (c .before .before .before .before .create-row .ensures) (c .before .scratch .ensures) (c .store .ensures)
 
   create-parts-returns : create-parts-lts.Need-returns create-parts-callees (create-parts-at t) create-parts.Post create-parts-Inv-loop create-parts-μ-loop
   create-parts-returns c =
@@ -272,8 +310,19 @@ module _ (t : ℕ) where
       parts-end (in-turn _) _ _ _ _ (parts-four s) (s .pre .1) _ (c .before .loop .inv) (c .loop-test .left)
 
   abbrev create-row-callees : create-row-lts.Claims
-  create-row-callees =
-      (tag-reads.Asked, tag-reads.Learnt, create-encryption-below t, create-encryption.Post, create-tuple-below t, create-tuple.Post, create-let-below t, create-let.Post, create-leaf-reads.Asked, create-leaf-reads.Learnt)
+  create-row-callees = (
+    tag-reads.Asked,
+    tag-reads.Learnt,
+    create-encryption-below t,
+    create-encryption.Post,
+    create-tuple-below t,
+    create-tuple.Post,
+    create-let-below
+        t,
+    create-let.Post,
+    create-leaf-reads.Asked,
+    create-leaf-reads.Learnt,
+  )
 
   create-row-mul-word : create-row-lts.Need-mul-word create-row-callees (create-row-at t) create-row.Post
   create-row-mul-word c = search needs
@@ -302,8 +351,11 @@ module _ (t : ℕ) where
   create-row-create-leaf-requires : create-row-lts.Need-create-leaf-requires create-row-callees (create-row-at t) create-row.Post
   create-row-create-leaf-requires c κs =
       let tag = c .before .before .before .tag .ensures in
-      let other = c .before .before .match .rest in
-      (record { here = refl; whole = c .before .before .before .before .before .pre .1 }, record { encryption = λ h. other .0 .0 .1 (tag ∙ h); tuple = λ h. other .0 .1 (tag ∙ h); letIn = λ h. other .1 (tag ∙ h) })
+      let other = c .before .before .match .rest in (
+        record { here = refl; whole = c .before .before .before .before .before .pre .1 },
+        record
+            { encryption = λ h. other .0 .0 .1 (tag ∙ h); tuple = λ h. other .0 .1 (tag ∙ h); letIn = λ h. other .1 (tag ∙ h) },
+      )
 
   create-row-returns : create-row-lts.Need-returns create-row-callees (create-row-at t) create-row.Post
   create-row-returns c = search needs
@@ -318,8 +370,26 @@ module _ (t : ℕ) where
   create-row-returns-4 c = search needs
 
   abbrev create-tuple-callees : create-tuple-lts.Claims
-  create-tuple-callees =
-      (variable-reads.Asked, variable-reads.Learnt, count-reads.Asked, count-reads.Learnt, take-reads.Asked, take-reads.Learnt, slots-reads.Asked, slots-reads.Learnt, parts-of-reads.Asked, parts-of-reads.Learnt, create-parts-below t, create-parts.Post, scratch-reads.Asked, scratch-reads.Learnt, create-tuple-reads.Asked, create-tuple-reads.Learnt, encode-reads.Asked, encode-reads.Learnt)
+  create-tuple-callees = (
+    variable-reads.Asked,
+    variable-reads.Learnt,
+    count-reads.Asked,
+    count-reads.Learnt,
+    take-reads.Asked,
+    take-reads.Learnt,
+    slots-reads.Asked,
+    slots-reads.Learnt,
+    parts-of-reads.Asked,
+    parts-of-reads.Learnt,
+    create-parts-below t,
+    create-parts.Post,
+    scratch-reads.Asked,
+    scratch-reads.Learnt,
+    create-tuple-reads.Asked,
+    create-tuple-reads.Learnt,
+    encode-reads.Asked,
+    encode-reads.Learnt,
+  )
 
   create-tuple-variable-requires : create-tuple-lts.Need-variable-requires create-tuple-callees (create-tuple-at t) create-tuple.Post
   create-tuple-variable-requires c κs = search needs
@@ -341,29 +411,54 @@ module _ (t : ℕ) where
   create-tuple-create-parts-requires : create-tuple-lts.Need-create-parts-requires create-tuple-callees (create-tuple-at t) create-tuple.Post
   create-tuple-create-parts-requires c κs =
       let asked = c .before .before .before .before .before .before .before .before .pre .1 in
-      let taken = c .before .before .before .before .take .ensures in
-      (omega (arith, c .before .before .before .before .before .before .before .before .pre .0), tuple-asks _ _ _ (asked .0) (asked .1) _ (c .before .before .before .before .before .before .count .ensures) _ (c .before .slots .ensures) _ _ (c .parts-of .ensures) (taken .0) (taken .1))
+      let taken = c .before .before .before .before .take .ensures in (
+        omega (arith, c .before .before .before .before .before .before .before .before .pre .0),
+        tuple-asks _ _ _ (asked .0) (asked .1) _
+            (c .before .before .before .before .before .before .count .ensures) _ (c .before .slots .ensures) _ _ (c .parts-of .ensures) (taken .0)
+            (taken .1),
+      )
 
   create-tuple-scratch-requires : create-tuple-lts.Need-scratch-requires create-tuple-callees (create-tuple-at t) create-tuple.Post
-  create-tuple-scratch-requires c κs = omega (arith, c .before .before .before .before .before .take .ensures .0, leaf-room _ _ _ _ (c .before .before .before .before .before .before .before .before .before .pre .1 .0) .free)
+  create-tuple-scratch-requires c κs = omega (
+    arith,
+    c .before .before .before .before .before .take .ensures .0,
+    leaf-room _ _ _ _
+        (c .before .before .before .before .before .before .before .before .before .pre .1 .0) .free,
+  )
 
   create-tuple-create-tuple-requires : create-tuple-lts.Need-create-tuple-requires create-tuple-callees (create-tuple-at t) create-tuple.Post
   create-tuple-create-tuple-requires c κs =
       let asked = c .before .before .before .before .before .before .before .before .before .before .before .before .pre .1 in
-      let taken = c .before .before .before .before .before .before .before .before .take .ensures in
-      (tuple-create _ _ _ (asked .0) (asked .1) _ (c .before .before .before .before .before .before .before .before .before .before .count .ensures) _ (c .before .before .before .before .before .slots .ensures) _ _ (c .before .before .before .before .parts-of .ensures) (taken .0) (taken .1) _ (c .before .before .before .create-parts .ensures), variable-low _ _ (c .before .before .before .before .before .before .before .before .before .before .before .variable .ensures))
+      let taken = c .before .before .before .before .before .before .before .before .take .ensures in (
+        tuple-create _ _ _ (asked .0) (asked .1) _ (c .before .before .before .before .before .before .before .before .before .before .count .ensures)
+            _ (c .before .before .before .before .before .slots .ensures) _ _ (c .before .before .before .before .parts-of .ensures) (taken .0)
+            (taken .1) _ (c .before .before .before .create-parts .ensures),
+        variable-low _ _
+            (c .before .before .before .before .before .before .before .before .before .before .before .variable .ensures),
+      )
 
   create-tuple-encode-requires : create-tuple-lts.Need-encode-requires create-tuple-callees (create-tuple-at t) create-tuple.Post
   create-tuple-encode-requires c κs =
       let asked = c .before .before .before .before .before .before .before .before .before .before .before .before .before .before .before .pre .1 in
       let taken = c .before .before .before .before .before .before .before .before .before .before .before .take .ensures in
-      tuple-encode _ _ _ (asked .0) (asked .1) _ (c .before .before .before .before .before .before .before .before .before .before .before .before .before .count .ensures) _ (c .before .before .before .before .before .before .before .before .slots .ensures) _ _ (c .before .before .before .before .before .before .before .parts-of .ensures) (taken .0) (taken .1) _ (c .before .before .before .before .before .before .create-parts .ensures) (c .before .before .create-tuple .ensures)
+      tuple-encode _ _ _ (asked .0) (asked .1) _
+      (c .before .before .before .before .before .before .before .before .before .before .before .before .before .count .ensures) _
+      (c .before .before .before .before .before .before .before .before .slots .ensures) _ _
+      (c .before .before .before .before .before .before .before .parts-of .ensures) (taken .0) (taken .1) _
+      (c .before .before .before .before .before .before .create-parts .ensures) (c .before .before .create-tuple .ensures)
 
   create-tuple-returns : create-tuple-lts.Need-returns create-tuple-callees (create-tuple-at t) create-tuple.Post
   create-tuple-returns c =
       let asked = c .before .before .before .before .before .before .before .before .before .before .before .before .before .before .before .before .pre .1 in
       let taken = c .before .before .before .before .before .before .before .before .before .before .before .before .take .ensures in
-      tuple-done _ _ _ (asked .0) (asked .1) _ (c .before .before .before .before .before .before .before .before .before .before .before .before .before .before .count .ensures) _ (c .before .before .before .before .before .before .before .before .before .slots .ensures) _ _ (c .before .before .before .before .before .before .before .before .parts-of .ensures) (taken .0) (taken .1) _ _ _ (c .before .before .before .before .before .before .before .before .before .before .before .before .before .before .before .variable .ensures) (c .before .before .before .before .before .before .scratch .ensures) (c .before .before .before .before .before .before .before .create-parts .ensures) (c .before .before .before .create-tuple .ensures) (c .encode .ensures)
+      tuple-done _ _ _ (asked .0) (asked .1) _
+      (c .before .before .before .before .before .before .before .before .before .before .before .before .before .before .count .ensures) _
+      (c .before .before .before .before .before .before .before .before .before .slots .ensures) _ _
+      (c .before .before .before .before .before .before .before .before .parts-of .ensures) (taken .0) (taken .1) _ _ _
+      (c .before .before .before .before .before .before .before .before .before .before .before .before .before .before .before .variable .ensures)
+      (c .before .before .before .before .before .before .scratch .ensures)
+      (c .before .before .before .before .before .before .before .create-parts .ensures) (c .before .before .before .create-tuple .ensures)
+      (c .encode .ensures)
 
 pub +create-encryption+create-let+create-parts+create-row+create-tuple-spec :
     {M : Type 1} → statement M

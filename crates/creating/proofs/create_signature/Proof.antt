@@ -21,10 +21,17 @@ load-requires : tie.Need-load-requires
 load-requires c κs = body-room _ _ _ (c .before .before .before .before .before .before .before .before .pre .0) (c .before .before .create-key .ensures)
 
 sign-requires : tie.Need-sign-requires
-sign-requires c κs = sign-room _ _ _ (c .before .before .before .before .before .before .before .before .before .before .before .pre .0) (c .before .before .before .before .before .create-key .ensures) (c .before .before .load .ensures)
+sign-requires c κs = sign-room _ _ _ (c .before .before .before .before .before .before .before .before .before .before .before .pre .0)
+    (c .before .before .before .before .before .create-key .ensures) (c .before .before .load .ensures)
 
 decode-requires : tie.Need-decode-requires
-decode-requires c κs = (decode-room _ _ _ (c .before .before .before .before .before .before .before .before .before .before .before .before .before .before .pre .0) (c .before .before .before .before .before .before .before .before .create-key .ensures) (c .before .before .before .before .before .load .ensures) (c .before .before .sign .ensures), variable-low _ _ (c .before .before .before .before .before .before .before .before .before .before .before .before .before .variable .ensures))
+decode-requires c κs = (
+  decode-room _ _ _ (c .before .before .before .before .before .before .before .before .before .before .before .before .before .before .pre .0)
+      (c .before .before .before .before .before .before .before .before .create-key .ensures)
+      (c .before .before .before .before .before .load .ensures) (c .before .before .sign .ensures),
+  variable-low _ _
+      (c .before .before .before .before .before .before .before .before .before .before .before .before .before .variable .ensures),
+)
 
 returns : tie.Need-returns
 returns c = search (signed)

@@ -16,7 +16,8 @@ same-length : tie.Need-same-length
 same-length c = search needs
 
 returns-2 : tie.Need-returns-2
-returns-2 c = let s = c .before .before .before .before .before .before .before in all-fit (s .args .words .now) (s .args .code .now) (c .before .before .before .before .if1 .left) (c .before .before .copy .ensures)
+returns-2 c = let s = c .before .before .before .before .before .before .before in all-fit (s .args .words .now) (s .args .code .now)
+    (c .before .before .before .before .if1 .left) (c .before .before .copy .ensures)
 
 pub deliver-spec : {M : Type 1} → statement M
 deliver-spec = tie.close (tie.spec cast-count returns copy-requires same-length returns-2)

@@ -22,8 +22,17 @@ at-word-requires c κs = search needs
 step-requires : tie.Need-step-requires
 step-requires c κs =
     let r = c .before .before .before .before .before .before .before in
-    let start = r .before .before .before .before .before .before in
-    (operands _ _ (start .pre .0) (r .instruction-of .ensures) (c .before .before .before .before .before .read .given .1), (start .pre .1 .0 .0, (start .pre .1 .0 .1, still-within _ (start .args .g) _ (c .before .before .before .at-word .ensures) (start .pre .1 .1))))
+    let start = r .before .before .before .before .before .before in (
+      operands _ _ (start .pre .0) (r .instruction-of .ensures) (c .before .before .before .before .before .read .given .1),
+      (
+        start .pre .1 .0 .0,
+        (
+          start .pre .1 .0 .1,
+          still-within _ (start .args .g) _ (c .before .before .before .at-word .ensures)
+              (start .pre .1 .1),
+        ),
+      ),
+    )
 
 same-length : tie.Need-same-length
 same-length c = search needs
@@ -38,7 +47,10 @@ returns-2 : tie.Need-returns-2
 returns-2 c =
     let r = c .before .before .before .before .before .before .before .before .before .before .before .before .before .before in
     let start = r .before .before .before .before .before .before in
-    does-word _ _ (start .pre .0) (r .instruction-of .ensures) (c .before .before .before .before .before .before .before .before .before .before .before .before .read .given .1) (start .args .g) _ _ _ _ (c .before .before .before .before .before .before .before .before .before .before .at-word .ensures) (c .before .before .before .before .before .before .step .ensures)
+    does-word _ _ (start .pre .0) (r .instruction-of .ensures)
+    (c .before .before .before .before .before .before .before .before .before .before .before .before .read .given .1) (start .args .g) _ _ _ _
+    (c .before .before .before .before .before .before .before .before .before .before .at-word .ensures)
+    (c .before .before .before .before .before .before .step .ensures)
 
 pub one-spec : {M : Type 1} → statement M
 one-spec =

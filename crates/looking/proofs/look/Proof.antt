@@ -59,7 +59,8 @@ lengths-fit-requires : tie.Need-lengths-fit-requires
 lengths-fit-requires c κs = search needs
 
 returns : tie.Need-returns
-returns c = found-limit (x (c .before .before .before .before .before .before .before .before)) (words (c .before .before .before .before .before .before .before .before)) (sym (c .before .lengths-fit .ensures) ∙ not-true _ (c .if1 .taken))
+returns c = found-limit (x (c .before .before .before .before .before .before .before .before))
+    (words (c .before .before .before .before .before .before .before .before)) (sym (c .before .lengths-fit .ensures) ∙ not-true _ (c .if1 .taken))
 
 first-bad-row-requires : tie.Need-first-bad-row-requires
 first-bad-row-requires c κs = long c .0 .terms
@@ -85,7 +86,9 @@ valid-requires : tie.Need-valid-requires
 valid-requires c κs = search needs
 
 returns-2 : tie.Need-returns-2
-returns-2 c = let s = start (c .before .before .before .before .before .before) in let p = counted (c .before .before) in found-store (x s) (words s) (fits (c .before .before .before .before .before .before)) (p .0) (p .1) (rw (← p .1) (sym (c .before .valid .ensures) ∙ not-true _ (c .if2 .taken)))
+returns-2 c = let s = start (c .before .before .before .before .before .before) in let p = counted (c .before .before) in found-store (x s) (words s)
+    (fits (c .before .before .before .before .before .before)) (p .0) (p .1)
+    (rw (← p .1) (sym (c .before .valid .ensures) ∙ not-true _ (c .if2 .taken)))
 
 first-bad-word-requires : tie.Need-first-bad-word-requires
 first-bad-word-requires c κs = omega (arith, long (c .before .before .before .before .before .before) .1)
@@ -104,10 +107,17 @@ returns-3 c =
     (checked-bad (x s .terms) _ (c .before .before .before .before .first-bad-row .ensures) (c .before .before .checked .given .1))
 
 returns-4 : tie.Need-returns-4
-returns-4 c = let s = start (c .before .before .before .before .before .before .before .before .before .before) in found-word (x s) (words s) (fits (c .before .before .before .before .before .before .before .before .before .before)) (counted (c .before .before .before .before .before .before) .0) (stores (c .before .before .before .before)) (counted (c .before .before .before .before .before .before) .1) (placed-at _ (c .before .before .before .first-bad-word .ensures) (c .before .place .given .1))
+returns-4 c = let s = start (c .before .before .before .before .before .before .before .before .before .before) in found-word (x s) (words s)
+    (fits (c .before .before .before .before .before .before .before .before .before .before))
+    (counted (c .before .before .before .before .before .before) .0) (stores (c .before .before .before .before))
+    (counted (c .before .before .before .before .before .before) .1) (placed-at _ (c .before .before .before .first-bad-word .ensures)
+    (c .before .place .given .1))
 
 returns-5 : tie.Need-returns-5
-returns-5 c = let s = start (c .before .before .before .before .before .before .before .before .before) in found-accepted (x s) (words s) (fits (c .before .before .before .before .before .before .before .before .before)) (counted (c .before .before .before .before .before) .0) (stores (c .before .before .before)) (counted (c .before .before .before .before .before) .1) (placed-nowhere _ (c .before .before .first-bad-word .ensures) (c .enum-told .given .1))
+returns-5 c = let s = start (c .before .before .before .before .before .before .before .before .before) in found-accepted (x s) (words s)
+    (fits (c .before .before .before .before .before .before .before .before .before)) (counted (c .before .before .before .before .before) .0)
+    (stores (c .before .before .before)) (counted (c .before .before .before .before .before) .1)
+    (placed-nowhere _ (c .before .before .first-bad-word .ensures) (c .enum-told .given .1))
 
 pub look-spec : {M : Type 1} → statement M
 look-spec =

@@ -119,8 +119,24 @@ match-parts-μ-loop rows code₀ emission₀ row n parts k₀ code emission k = 
 
 module _ (t : ℕ) where
   abbrev match-encryption-callees : match-encryption-lts.Claims
-  match-encryption-callees =
-      (key-form-reads.Asked, key-form-reads.Learnt, variable-reads.Asked, variable-reads.Learnt, decode-reads.Asked, decode-reads.Learnt, key-reads.Asked, key-reads.Learnt, decrypt-reads.Asked, decrypt-reads.Learnt, slots-reads.Asked, slots-reads.Learnt, match-row-below t, match-row.Post, wrong-kind-reads.Asked, wrong-kind-reads.Learnt)
+  match-encryption-callees = (
+    key-form-reads.Asked,
+    key-form-reads.Learnt,
+    variable-reads.Asked,
+    variable-reads.Learnt,
+    decode-reads.Asked,
+    decode-reads.Learnt,
+    key-reads.Asked,
+    key-reads.Learnt,
+    decrypt-reads.Asked,
+    decrypt-reads.Learnt,
+    slots-reads.Asked,
+    slots-reads.Learnt,
+    match-row-below t,
+    match-row.Post,
+    wrong-kind-reads.Asked,
+    wrong-kind-reads.Learnt,
+  )
 
   match-encryption-key-form-requires : match-encryption-lts.Need-key-form-requires match-encryption-callees (match-encryption-at t) match-encryption.Post
   match-encryption-key-form-requires c κs = search needs
@@ -135,7 +151,8 @@ module _ (t : ℕ) where
   match-encryption-key-requires c κs = search needs
 
   match-encryption-decrypt-requires : match-encryption-lts.Need-decrypt-requires match-encryption-callees (match-encryption-at t) match-encryption.Post
-  match-encryption-decrypt-requires c κs = room-then (lit≤ tt) (lit≤ tt) (leaf-room _ _ _ _ (c .before .before .before .before .before .before .before .before .before .pre .1 .0)) (c .before .before .before .decode .ensures)
+  match-encryption-decrypt-requires c κs = room-then (lit≤ tt) (lit≤ tt) (leaf-room _ _ _ _
+      (c .before .before .before .before .before .before .before .before .before .pre .1 .0)) (c .before .before .before .decode .ensures)
 
   match-encryption-slots-requires : match-encryption-lts.Need-slots-requires match-encryption-callees (match-encryption-at t) match-encryption.Post
   match-encryption-slots-requires c κs = search needs
@@ -146,8 +163,11 @@ module _ (t : ℕ) where
   match-encryption-match-row-requires : match-encryption-lts.Need-match-row-requires match-encryption-callees (match-encryption-at t) match-encryption.Post
   match-encryption-match-row-requires c κs =
       let s = c .before .before .before .before .before .before .before .before .before .before .before .before .before in
-      let child = slot _ _ 0 (c .before .before .slots .ensures) in
-      (omega (arith, s .pre .0, encryption-child (s .pre .1 .0) _ child (s .pre .1 .1)), encryption-asks _ _ _ (s .pre .1 .0) (s .pre .1 .1) _ child (c .before .before .before .before .before .before .before .decode .ensures) (c .before .before .before .decrypt .ensures))
+      let child = slot _ _ 0 (c .before .before .slots .ensures) in (
+        omega (arith, s .pre .0, encryption-child (s .pre .1 .0) _ child (s .pre .1 .1)),
+        encryption-asks _ _ _ (s .pre .1 .0) (s .pre .1 .1) _ child
+            (c .before .before .before .before .before .before .before .decode .ensures) (c .before .before .before .decrypt .ensures),
+      )
 
   match-encryption-wrong-kind-requires : match-encryption-lts.Need-wrong-kind-requires match-encryption-callees (match-encryption-at t) match-encryption.Post
   match-encryption-wrong-kind-requires c κs = c .before .before .before .pre .1 .0 .whole .room .long
@@ -156,7 +176,11 @@ module _ (t : ℕ) where
   match-encryption-returns c =
       let s = c .before .before .before .before .before .before .before .before .before .before .before .before .before .before in
       let child = slot _ _ 0 (c .before .before .before .slots .ensures) in
-      encryption-done _ _ _ (s .pre .1 .0) (s .pre .1 .1) _ child _ (c .before .before .before .before .before .before .before .before .before .before .before .before .before .key-form .ensures) _ _ (c .before .before .before .before .before .before .before .before .before .variable .ensures) (c .before .before .before .before .before .key .ensures) (c .before .before .before .before .before .before .before .before .before .before .before .before .if1 .taken)
+      encryption-done _ _ _ (s .pre .1 .0) (s .pre .1 .1) _ child _
+      (c .before .before .before .before .before .before .before .before .before .before .before .before .before .key-form .ensures) _ _
+      (c .before .before .before .before .before .before .before .before .before .variable .ensures)
+      (c .before .before .before .before .before .key .ensures)
+      (c .before .before .before .before .before .before .before .before .before .before .before .before .if1 .taken)
       (c .before .before .before .before .before .before .before .before .decode .ensures) (c .before .before .before .before .decrypt .ensures) (c .match-row .ensures)
 
   match-encryption-returns-2 : match-encryption-lts.Need-returns-2 match-encryption-callees (match-encryption-at t) match-encryption.Post
@@ -201,15 +225,22 @@ module _ (t : ℕ) where
   match-let-match-row-requires-2 c κs =
       let s = c .before .before .before .before .before .before .before .before .before .before .before .before in
       let first = slot _ _ 0 (c .before .before .before .before .before .before .before .before .before .before .slots .ensures) in
-      let second = slot _ _ 1 (c .before .before .before .before .before .before .before .before .before .before .slots .ensures) in
-      (omega (arith, s .pre .0, let-children (s .pre .1 .0) _ first _ second (s .pre .1 .1) .0), let-first _ _ _ (s .pre .1 .0) (s .pre .1 .1) _ first _ second (c .before .before .before .before .before .before .before .before .free-raw .ensures) (c .before .before .before .before .before .match-row .ensures) (c .before .before .load .ensures))
+      let second = slot _ _ 1 (c .before .before .before .before .before .before .before .before .before .before .slots .ensures) in (
+        omega (arith, s .pre .0, let-children (s .pre .1 .0) _ first _ second (s .pre .1 .1) .0),
+        let-first _ _ _ (s .pre .1 .0) (s .pre .1 .1) _ first
+            _ second (c .before .before .before .before .before .before .before .before .free-raw .ensures)
+            (c .before .before .before .before .before .match-row .ensures) (c .before .before .load .ensures),
+      )
 
   match-let-returns : match-let-lts.Need-returns match-let-callees (match-let-at t) match-let.Post
   match-let-returns c =
       let s = c .before .before .before .before .before .before .before .before .before .before .before .before .before in
       let first = slot _ _ 0 (c .before .before .before .before .before .before .before .before .before .before .before .slots .ensures) in
       let second = slot _ _ 1 (c .before .before .before .before .before .before .before .before .before .before .before .slots .ensures) in
-      let-done _ _ _ (s .pre .1 .0) (s .pre .1 .1) _ first _ second (c .before .before .before .before .before .before .before .before .before .free-raw .ensures) (c .before .before .before .before .before .before .match-row .ensures) (c .before .before .before .load .ensures) (c .before .before .before .before .before .before .before .before .before .before .before .before .raw .ensures) (c .match-row2 .ensures)
+      let-done _ _ _ (s .pre .1 .0) (s .pre .1 .1) _ first _ second
+      (c .before .before .before .before .before .before .before .before .before .free-raw .ensures)
+      (c .before .before .before .before .before .before .match-row .ensures) (c .before .before .before .load .ensures)
+      (c .before .before .before .before .before .before .before .before .before .before .before .before .raw .ensures) (c .match-row2 .ensures)
 
   abbrev match-parts-callees : match-parts-lts.Claims
   match-parts-callees =
@@ -243,8 +274,12 @@ module _ (t : ℕ) where
   match-parts-match-row-requires : match-parts-lts.Need-match-row-requires match-parts-callees (match-parts-at t) match-parts.Post match-parts-Inv-loop match-parts-μ-loop
   match-parts-match-row-requires c κs =
       let s = c .before .before .before .before .before .before .before .before .before in
-      let less = c .before .before .before .before .before .before .before .loop-test .taken in
-      (omega (arith, s .pre .0, s .pre .1 .below _ less), part-asks _ _ _ _ (parts-four s) (s .pre .1) _ (c .before .before .before .before .before .before .before .before .loop .inv) less (c .before .before .before .scratch .ensures) (c .before .before .load .ensures))
+      let less = c .before .before .before .before .before .before .before .loop-test .taken in (
+        omega (arith, s .pre .0, s .pre .1 .below _ less),
+        part-asks _ _ _ _ (parts-four s) (s .pre .1) _
+            (c .before .before .before .before .before .before .before .before .loop .inv) less (c .before .before .before .scratch .ensures)
+            (c .before .before .load .ensures),
+      )
 
   match-parts-add-k : match-parts-lts.Need-add-k match-parts-callees (match-parts-at t) match-parts.Post match-parts-Inv-loop match-parts-μ-loop
   match-parts-add-k c = search needs
@@ -255,7 +290,9 @@ module _ (t : ℕ) where
   match-parts-loop-again : match-parts-lts.Need-loop-again match-parts-callees (match-parts-at t) match-parts.Post match-parts-Inv-loop match-parts-μ-loop
   match-parts-loop-again c =
       let s = c .before .before .before .before .before .before .before .before .before .before in
-      part-done _ _ _ _ (parts-four s) (s .pre .1) _ (c .before .before .before .before .before .before .before .before .before .loop .inv) (c .before .before .before .before .before .before .before .before .loop-test .taken) (c .before .before .before .before .scratch .ensures) (c .before .before .before .load .ensures) (c .match-row .ensures)
+      part-done _ _ _ _ (parts-four s) (s .pre .1) _ (c .before .before .before .before .before .before .before .before .before .loop .inv)
+      (c .before .before .before .before .before .before .before .before .loop-test .taken) (c .before .before .before .before .scratch .ensures)
+      (c .before .before .before .load .ensures) (c .match-row .ensures)
 
   match-parts-returns : match-parts-lts.Need-returns match-parts-callees (match-parts-at t) match-parts.Post match-parts-Inv-loop match-parts-μ-loop
   match-parts-returns c =
@@ -263,8 +300,18 @@ module _ (t : ℕ) where
       parts-end in-turn _ _ _ _ (parts-four s) (s .pre .1) _ (c .before .loop .inv) (c .loop-test .left)
 
   abbrev match-row-callees : match-row-lts.Claims
-  match-row-callees =
-      (tag-reads.Asked, tag-reads.Learnt, match-encryption-below t, match-encryption.Post, match-tuple-below t, match-tuple.Post, match-let-below t, match-let.Post, match-leaf-reads.Asked, match-leaf-reads.Learnt)
+  match-row-callees = (
+    tag-reads.Asked,
+    tag-reads.Learnt,
+    match-encryption-below t,
+    match-encryption.Post,
+    match-tuple-below t,
+    match-tuple.Post,
+    match-let-below t,
+    match-let.Post,
+    match-leaf-reads.Asked,
+    match-leaf-reads.Learnt,
+  )
 
   match-row-mul-word : match-row-lts.Need-mul-word match-row-callees (match-row-at t) match-row.Post
   match-row-mul-word c = search needs
@@ -310,8 +357,26 @@ module _ (t : ℕ) where
   match-row-returns-4 c = c .match-leaf .ensures
 
   abbrev match-tuple-callees : match-tuple-lts.Claims
-  match-tuple-callees =
-      (variable-reads.Asked, variable-reads.Learnt, count-reads.Asked, count-reads.Learnt, decode-reads.Asked, decode-reads.Learnt, take-reads.Asked, take-reads.Learnt, scratch-reads.Asked, scratch-reads.Learnt, analyze-tuple-reads.Asked, analyze-tuple-reads.Learnt, slots-reads.Asked, slots-reads.Learnt, parts-of-reads.Asked, parts-of-reads.Learnt, match-parts-below t, match-parts.Post)
+  match-tuple-callees = (
+    variable-reads.Asked,
+    variable-reads.Learnt,
+    count-reads.Asked,
+    count-reads.Learnt,
+    decode-reads.Asked,
+    decode-reads.Learnt,
+    take-reads.Asked,
+    take-reads.Learnt,
+    scratch-reads.Asked,
+    scratch-reads.Learnt,
+    analyze-tuple-reads.Asked,
+    analyze-tuple-reads.Learnt,
+    slots-reads.Asked,
+    slots-reads.Learnt,
+    parts-of-reads.Asked,
+    parts-of-reads.Learnt,
+    match-parts-below t,
+    match-parts.Post,
+  )
 
   match-tuple-variable-requires : match-tuple-lts.Need-variable-requires match-tuple-callees (match-tuple-at t) match-tuple.Post
   match-tuple-variable-requires c κs = search needs
@@ -336,7 +401,8 @@ module _ (t : ℕ) where
   match-tuple-analyze-tuple-requires : match-tuple-lts.Need-analyze-tuple-requires match-tuple-callees (match-tuple-at t) match-tuple.Post
   match-tuple-analyze-tuple-requires c κs =
       let s = c .before .before .before .before .before .before .before .before .before .before in
-      tuple-analyzes _ _ _ (s .pre .1 .0) (s .pre .1 .1) _ (c .before .before .before .before .before .before .before .before .count .ensures) (c .before .before .before .before .before .decode .ensures) (c .before .before .before .take .ensures .1)
+      tuple-analyzes _ _ _ (s .pre .1 .0) (s .pre .1 .1) _ (c .before .before .before .before .before .before .before .before .count .ensures)
+      (c .before .before .before .before .before .decode .ensures) (c .before .before .before .take .ensures .1)
 
   match-tuple-slots-requires : match-tuple-lts.Need-slots-requires match-tuple-callees (match-tuple-at t) match-tuple.Post
   match-tuple-slots-requires c κs = search needs
@@ -344,21 +410,38 @@ module _ (t : ℕ) where
   match-tuple-parts-of-requires : match-tuple-lts.Need-parts-of-requires match-tuple-callees (match-tuple-at t) match-tuple.Post
   match-tuple-parts-of-requires c κs =
       let room = leaf-room _ _ _ _ (c .before .before .before .before .before .before .before .before .before .before .before .before .before .before .pre .1 .0) in
-      omega (arith, room .free, c .before .before .before .before .before .before .before .before .before .decode .ensures .free, c .before .before .before .before .before .before .before .take .ensures .0)
+      omega (
+        arith,
+        room .free,
+        c .before .before .before .before .before .before .before .before .before .decode .ensures .free,
+        c .before .before .before .before .before .before .before .take .ensures .0,
+      )
 
   match-tuple-match-parts-requires : match-tuple-lts.Need-match-parts-requires match-tuple-callees (match-tuple-at t) match-tuple.Post
   match-tuple-match-parts-requires c κs =
       let s = c .before .before .before .before .before .before .before .before .before .before .before .before .before .before .before in (
         omega (arith, s .pre .0),
-        tuple-parts _ _ _ (s .pre .1 .0) (s .pre .1 .1) _ (c .before .before .before .before .before .before .before .before .before .before .before .before .before .count .ensures) _ (c .before .slots .ensures) _ _ (c .parts-of .ensures) (c .before .before .before .before .before .before .before .before .before .before .decode .ensures)
-            (c .before .before .before .before .before .before .before .before .take .ensures .0) (c .before .before .before .before .before .before .before .before .take .ensures .1) (c .before .before .before .before .analyze-tuple .ensures),
+        tuple-parts _ _ _ (s .pre .1 .0) (s .pre .1 .1) _
+            (c .before .before .before .before .before .before .before .before .before .before .before .before .before .count .ensures) _
+            (c .before .slots .ensures) _ _ (c .parts-of .ensures)
+            (c .before .before .before .before .before .before .before .before .before .before .decode .ensures)
+            (c .before .before .before .before .before .before .before .before .take .ensures .0)
+            (c .before .before .before .before .before .before .before .before .take .ensures .1)
+            (c .before .before .before .before .analyze-tuple .ensures),
       )
 
   match-tuple-returns : match-tuple-lts.Need-returns match-tuple-callees (match-tuple-at t) match-tuple.Post
   match-tuple-returns c =
       let s = c .before .before .before .before .before .before .before .before .before .before .before .before .before .before .before .before in
-      tuple-done _ _ _ (s .pre .1 .0) (s .pre .1 .1) _ (c .before .before .before .before .before .before .before .before .before .before .before .before .before .before .count .ensures) _ (c .before .before .slots .ensures) _ _ (c .before .parts-of .ensures) _ _ (c .before .before .before .before .before .before .before .before .before .before .before .before .before .before .before .variable .ensures) (c .before .before .before .before .before .before .scratch .ensures)
-      (c .before .before .before .before .before .before .before .before .before .before .before .decode .ensures) (c .before .before .before .before .before .before .before .before .before .take .ensures .0) (c .before .before .before .before .before .before .before .before .before .take .ensures .1) (c .before .before .before .before .before .analyze-tuple .ensures) (c .match-parts .ensures)
+      tuple-done _ _ _ (s .pre .1 .0) (s .pre .1 .1) _
+      (c .before .before .before .before .before .before .before .before .before .before .before .before .before .before .count .ensures) _
+      (c .before .before .slots .ensures) _ _ (c .before .parts-of .ensures) _ _
+      (c .before .before .before .before .before .before .before .before .before .before .before .before .before .before .before .variable .ensures)
+      (c .before .before .before .before .before .before .scratch .ensures)
+      (c .before .before .before .before .before .before .before .before .before .before .before .decode .ensures)
+      (c .before .before .before .before .before .before .before .before .before .take .ensures .0)
+      (c .before .before .before .before .before .before .before .before .before .take .ensures .1)
+      (c .before .before .before .before .before .analyze-tuple .ensures) (c .match-parts .ensures)
 
 pub +match-encryption+match-let+match-parts+match-row+match-tuple-spec : {M : Type 1} → statement M
 +match-encryption+match-let+match-parts+match-row+match-tuple-spec =

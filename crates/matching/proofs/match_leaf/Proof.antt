@@ -67,7 +67,8 @@ returns-7 : tie.Need-returns-7
 returns-7 c =
     let s = c .before .before .before .before .before .before .before in
     let n = c .before .before .before .before .match .rest in
-    leaf-hash _ _ _ (s .pre .0) _ (c .before .before .before .before .before .before .tag .ensures) _ (c .before .before .before .before .before .variable .ensures) _ (c .before .raw2 .ensures) (s .pre .1) (n .0 .0 .0 .0 .0 .1)
+    leaf-hash _ _ _ (s .pre .0) _ (c .before .before .before .before .before .before .tag .ensures) _
+    (c .before .before .before .before .before .variable .ensures) _ (c .before .raw2 .ensures) (s .pre .1) (n .0 .0 .0 .0 .0 .1)
     (n .0 .0 .0 .0 .1) (n .0 .0 .0 .1) (n .0 .0 .1) (n .0 .1) (n .1) (c .match-hash .ensures)
 
 pub match-leaf-spec : {M : Type 1} → statement M

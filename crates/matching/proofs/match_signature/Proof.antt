@@ -22,23 +22,31 @@ key-form-requires : tie.Need-key-form-requires
 key-form-requires c κs = search needs
 
 verify-requires : tie.Need-verify-requires
-verify-requires c κs = room-then (lit≤ tt) (lit≤ tt) (leaf-room _ _ _ _ (c .before .before .before .before .before .before .before .before .before .before .pre .0)) (c .before .before .before .before .before .before .decode .ensures)
+verify-requires c κs = room-then (lit≤ tt) (lit≤ tt)
+    (leaf-room _ _ _ _ (c .before .before .before .before .before .before .before .before .before .before .pre .0))
+    (c .before .before .before .before .before .before .decode .ensures)
 
 y-requires : tie.Need-y-requires
 y-requires c κs = search needs
 
 verify-opposite-requires : tie.Need-verify-opposite-requires
 verify-opposite-requires c κs =
-    let s = c .before .before .before .before .before .before .before .before .before .before .before in
-    (key-low _ (signature-key (s .pre .0) (s .pre .1)) _ (c .before .before .before .before .before .before .key .ensures), room-then (lit≤ tt) (lit≤ tt) (leaf-room _ _ _ _ (s .pre .0)) (c .before .before .before .before .before .before .before .decode .ensures))
+    let s = c .before .before .before .before .before .before .before .before .before .before .before in (
+      key-low _ (signature-key (s .pre .0) (s .pre .1)) _ (c .before .before .before .before .before .before .key .ensures),
+      room-then (lit≤ tt)
+          (lit≤ tt) (leaf-room _ _ _ _ (s .pre .0)) (c .before .before .before .before .before .before .before .decode .ensures),
+    )
 
 y-requires-2 : tie.Need-y-requires-2
 y-requires-2 c κs = search needs
 
 verify-certified-requires : tie.Need-verify-certified-requires
 verify-certified-requires c κs =
-    let s = c .before .before .before .before .before .before .before .before .before .before .before in
-    (key-low _ (signature-key (s .pre .0) (s .pre .1)) _ (c .before .before .before .before .before .before .key .ensures), room-then (lit≤ tt) (lit≤ tt) (leaf-room _ _ _ _ (s .pre .0)) (c .before .before .before .before .before .before .before .decode .ensures))
+    let s = c .before .before .before .before .before .before .before .before .before .before .before in (
+      key-low _ (signature-key (s .pre .0) (s .pre .1)) _ (c .before .before .before .before .before .before .key .ensures),
+      room-then (lit≤ tt)
+          (lit≤ tt) (leaf-room _ _ _ _ (s .pre .0)) (c .before .before .before .before .before .before .before .decode .ensures),
+    )
 
 returns : tie.Need-returns
 returns c = search (signed-plain)
@@ -50,7 +58,10 @@ returns-3 : tie.Need-returns-3
 returns-3 c =
     let s = c .before .before .before .before .before .before .before .before .before .before .before .before in
     let n = c .before .before .before .before .match .rest in
-    signed-certified _ _ _ (s .pre .0) (s .pre .1) _ _ _ _ (c .before .before .before .before .before .before .before .before .before .variable .ensures) (c .before .before .before .before .before .before .before .key .ensures) (c .before .before .before .before .before .before .raw .ensures) (c .before .before .before .before .before .key-form .ensures)
+    signed-certified _ _ _ (s .pre .0) (s .pre .1) _ _ _ _
+    (c .before .before .before .before .before .before .before .before .before .variable .ensures)
+    (c .before .before .before .before .before .before .before .key .ensures) (c .before .before .before .before .before .before .raw .ensures)
+    (c .before .before .before .before .before .key-form .ensures)
     (c .before .before .before .before .before .before .before .before .decode .ensures) _ (c .before .y2 .ensures) (n .0 .1) (n .1) (c .verify-certified .ensures)
 
 pub match-signature-spec : {M : Type 1} → statement M

@@ -26,7 +26,8 @@ array-share-prefix-pattern : tie.Need-array-share-prefix-pattern
 array-share-prefix-pattern c = front-inside _ _ (c .before .before .before .before .pattern .ensures) (lengths _ _ (c .before .before .before .before .before .before .before .pre) .pattern)
 
 slice-aggregate-compile : tie.Need-slice-aggregate-compile
-slice-aggregate-compile c = front-length _ _ (c .before .before .before .before .before .pattern .ensures) (lengths _ _ (c .before .before .before .before .before .before .before .before .pre) .pattern)
+slice-aggregate-compile c = front-length _ _ (c .before .before .before .before .before .pattern .ensures)
+    (lengths _ _ (c .before .before .before .before .before .before .before .before .pre) .pattern)
 
 slice-aggregate-compile-2 : tie.Need-slice-aggregate-compile-2
 slice-aggregate-compile-2 c = search needs

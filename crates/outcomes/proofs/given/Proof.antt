@@ -14,7 +14,14 @@ enum-known-opened : tie.Need-enum-known-opened
 enum-known-opened c = search needs
 
 given-by-bundle-requires : tie.Need-given-by-bundle-requires
-given-by-bundle-requires c κs = (sym (c .before .before .before .before .before .before .before .«open» .ensures) ∙ c .before .before .before .before .before .opened .given .1, c .before .before .before .before .before .before .before .before .before .before .before .before .before .pre .0, c .before .before .before .before .before .before .before .before .before .before .before .before .before .pre .1, c .before .before .before .before .before .before .before .before .before .before .before .before .before .pre .2, c .before .before .before .before .before .before .before .before .before .before .before .before .before .pre .3)
+given-by-bundle-requires c κs = (
+  sym (c .before .before .before .before .before .before .before .«open» .ensures) ∙
+      c .before .before .before .before .before .opened .given .1,
+  c .before .before .before .before .before .before .before .before .before .before .before .before .before .pre .0,
+  c .before .before .before .before .before .before .before .before .before .before .before .before .before .pre .1,
+  c .before .before .before .before .before .before .before .before .before .before .before .before .before .pre .2,
+  c .before .before .before .before .before .before .before .before .before .before .before .before .before .pre .3,
+)
 
 returns : tie.Need-returns
 returns c =
@@ -35,8 +42,12 @@ same-length-4 c = search needs
 
 returns-2 : tie.Need-returns-2
 returns-2 c =
-    let args = c .before .before .before .before .before .before .before .before .before .before .before .before .before .before .before .before .before .before .before .before .before .before .args in
-    is-opened _ _ (args .code .now) (args .objects .now) (args .messages .now) (args .rows .now) (sym (c .before .before .before .before .before .before .before .before .before .before .before .before .before .before .before .before .«open» .ensures) ∙ c .before .before .before .before .before .before .before .before .before .before .before .before .before .before .opened .given .1) (c .before .before .before .before .before .before .before .before .given-by-bundle .ensures)
+    let args = c .before .before .before .before .before .before .before .before .before .before .before .before .before .before .before .before
+    .before .before .before .before .before .before .args in
+    is-opened _ _ (args .code .now) (args .objects .now) (args .messages .now) (args .rows .now)
+    (sym (c .before .before .before .before .before .before .before .before .before .before .before .before .before .before .before .before .«open» .ensures)
+    ∙ c .before .before .before .before .before .before .before .before .before .before .before .before .before .before .opened .given .1)
+    (c .before .before .before .before .before .before .before .before .given-by-bundle .ensures)
 
 pub given-spec : {M : Type 1} → statement M
 given-spec =

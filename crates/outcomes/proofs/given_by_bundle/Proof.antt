@@ -12,10 +12,19 @@ use Rattle.outcomes.proofs.given_by_bundle.Statement.{statement}
 use Rattle.outcomes.proofs.given_by_bundle.Tie as tie
 
 few : (c : tie.Else2) → c .before .place .result ≤ 767
-few c = few-words _ _ (c .before .before .before .before .before .before .before .before .before .before .before .before .before .before .before .before .before .pre .0) _ (c .before .before .before .before .before .compiled .ensures) (c .before .before .number .ensures .0) (c .before .place .ensures) (c .if2 .left)
+few c = few-words _ _
+    (c .before .before .before .before .before .before .before .before .before .before .before .before .before .before .before .before .before .pre .0)
+    _ (c .before .before .before .before .before .compiled .ensures) (c .before .before .number .ensures .0) (c .before .place .ensures)
+    (c .if2 .left)
 
 inside : tie.Need-slice-reshare-prefix-ran
-inside c = omega (arith, few c, c .before .before .before .before .before .compiled .kept, long-room (c .before .before .before .before .before .before .before .before .before .before .before .before .before .before .before .before .before .pre .1))
+inside c = omega (
+  arith,
+  few c,
+  c .before .before .before .before .before .compiled .kept,
+  long-room
+      (c .before .before .before .before .before .before .before .before .before .before .before .before .before .before .before .before .before .pre .1),
+)
 
 certificates-requires : tie.Need-certificates-requires
 certificates-requires c κs = search needs
@@ -27,7 +36,8 @@ array-share-prefix-pairs : tie.Need-array-share-prefix-pairs
 array-share-prefix-pairs c = front-inside _ _ (c .before .certificates .ensures) (lengths _ _ (c .before .before .before .before .before .before .before .pre .0) .certificates)
 
 slice-aggregate-certificates-clear : tie.Need-slice-aggregate-certificates-clear
-slice-aggregate-certificates-clear c = front-length _ _ (c .before .before .certificates .ensures) (lengths _ _ (c .before .before .before .before .before .before .before .before .pre .0) .certificates)
+slice-aggregate-certificates-clear c = front-length _ _ (c .before .before .certificates .ensures)
+    (lengths _ _ (c .before .before .before .before .before .before .before .before .pre .0) .certificates)
 
 certificates-clear-requires : tie.Need-certificates-clear-requires
 certificates-clear-requires c κs = search needs
@@ -35,7 +45,8 @@ certificates-clear-requires c κs = search needs
 returns : tie.Need-returns
 returns c =
     let args = c .before .before .before .before .before .before .before .before .before .before .args in
-    spare-set (args .bytes .now) (c .before .before .before .before .certificates .ensures) (c .before .certificates-clear .ensures) (args .code .now) (args .objects .now) (args .messages .now) (args .rows .now) (c .if1 .taken)
+    spare-set (args .bytes .now) (c .before .before .before .before .certificates .ensures) (c .before .certificates-clear .ensures) (args .code .now)
+    (args .objects .now) (args .messages .now) (args .rows .now) (c .if1 .taken)
 
 compiled-requires : tie.Need-compiled-requires
 compiled-requires c κs = search needs
@@ -52,8 +63,13 @@ same-length c = search needs
 returns-2 : tie.Need-returns-2
 returns-2 c =
     let args = c .before .before .before .before .before .before .before .before .before .before .before .before .before .before .before .before .before .args in
-    spare-clear (args .bytes .now) (c .before .before .before .before .before .before .before .before .before .before .before .certificates .ensures) (c .before .before .before .before .before .before .before .before .certificates-clear .ensures) (args .code .now) (args .objects .now) (args .messages .now) (args .rows .now) (c .before .before .before .before .before .before .before .if1 .left)
-    (compile-refuses (bundleIn (args .bytes .now)) (c .before .before .before .before .before .before .before .before .before .before .before .before .before .before .before .before .before .pre .1) (c .before .before .before .before .before .compiled .ensures) (c .before .before .number .ensures .0) (c .before .place .ensures) (args .objects .now) (args .messages .now) (args .rows .now) (c .if2 .taken))
+    spare-clear (args .bytes .now) (c .before .before .before .before .before .before .before .before .before .before .before .certificates .ensures)
+    (c .before .before .before .before .before .before .before .before .certificates-clear .ensures) (args .code .now) (args .objects .now)
+    (args .messages .now) (args .rows .now) (c .before .before .before .before .before .before .before .if1 .left)
+    (compile-refuses (bundleIn (args .bytes .now))
+    (c .before .before .before .before .before .before .before .before .before .before .before .before .before .before .before .before .before .pre .1)
+    (c .before .before .before .before .before .compiled .ensures) (c .before .before .number .ensures .0) (c .before .place .ensures)
+    (args .objects .now) (args .messages .now) (args .rows .now) (c .if2 .taken))
 
 cast-words : tie.Need-cast-words
 cast-words c = search needs
@@ -65,7 +81,20 @@ slice-aggregate-ran : tie.Need-slice-aggregate-ran
 slice-aggregate-ran c = sym (length-take-le (c .before .before .place .result) _ (inside (c .before)))
 
 ran-requires : tie.Need-ran-requires
-ran-requires c κs = (c .before .before .before .before .before .before .before .before .before .before .before .before .before .before .before .before .before .before .before .before .before .pre .0, omega (arith, few (c .before .before .before .before), length-take (c .before .before .before .before .before .place .result) (c .before .before .before .before .before .before .before .before .before .compiled .last .1 .1 .0)), c .before .before .before .before .before .before .before .before .before .before .before .before .before .before .before .before .before .before .before .before .before .pre .2, c .before .before .before .before .before .before .before .before .before .before .before .before .before .before .before .before .before .before .before .before .before .pre .3, c .before .before .before .before .before .before .before .before .before .before .before .before .before .before .before .before .before .before .before .before .before .pre .4)
+ran-requires c κs = (
+  c .before .before .before .before .before .before .before .before .before .before .before .before .before .before .before .before
+      .before .before .before .before .before .pre .0,
+  omega (
+    arith,
+    few (c .before .before .before .before),
+    length-take
+        (c .before .before .before .before .before .place .result)
+        (c .before .before .before .before .before .before .before .before .before .compiled .last .1 .1 .0),
+  ),
+  c .before .before .before .before .before .before .before .before .before .before .before .before .before .before .before .before .before .before .before .before .before .pre .2,
+  c .before .before .before .before .before .before .before .before .before .before .before .before .before .before .before .before .before .before .before .before .before .pre .3,
+  c .before .before .before .before .before .before .before .before .before .before .before .before .before .before .before .before .before .before .before .before .before .pre .4,
+)
 
 same-length-2 : tie.Need-same-length-2
 same-length-2 c = search needs
@@ -81,10 +110,23 @@ same-length-5 c = search needs
 
 returns-3 : tie.Need-returns-3
 returns-3 c =
-    let args = c .before .before .before .before .before .before .before .before .before .before .before .before .before .before .before .before .before .before .before .before .before .before .before .before .before .before .before .before .args in
-    spare-clear (args .bytes .now) (c .before .before .before .before .before .before .before .before .before .before .before .before .before .before .before .before .before .before .before .before .before .before .certificates .ensures) (c .before .before .before .before .before .before .before .before .before .before .before .before .before .before .before .before .before .before .before .certificates-clear .ensures) (args .code .now) (args .objects .now) (args .messages .now) (args .rows .now) (c .before .before .before .before .before .before .before .before .before .before .before .before .before .before .before .before .before .before .if1 .left)
-    (compile-runs (bundleIn (args .bytes .now)) (c .before .before .before .before .before .before .before .before .before .before .before .before .before .before .before .before .before .before .before .before .before .before .before .before .before .before .before .before .pre .1) (c .before .before .before .before .before .before .before .before .before .before .before .before .before .before .before .before .compiled .ensures) (c .before .before .before .before .before .before .before .before .before .before .before .before .before .number .ensures .0) (c .before .before .before .before .before .before .before .before .before .before .before .before .place .ensures) (args .objects .now) (args .messages .now) (args .rows .now) (c .before .before .before .before .before .before .before .before .before .before .before .if2 .left)
-    (inside (c .before .before .before .before .before .before .before .before .before .before .before)) (c .before .before .before .before .before .before .ran .ensures .0) (c .before .before .before .before .before .before .ran .ensures .1))
+    let args = c .before .before .before .before .before .before .before .before .before .before .before .before .before .before .before .before
+    .before .before .before .before .before .before .before .before .before .before .before .before .args in
+    spare-clear (args .bytes .now)
+    (c .before .before .before .before .before .before .before .before .before .before .before .before .before .before .before .before .before
+    .before .before .before .before .before .certificates .ensures)
+    (c .before .before .before .before .before .before .before .before .before .before .before .before .before .before .before .before .before .before .before .certificates-clear .ensures)
+    (args .code .now) (args .objects .now) (args .messages .now) (args .rows .now)
+    (c .before .before .before .before .before .before .before .before .before .before .before .before .before .before .before .before .before .before .if1 .left)
+    (compile-runs (bundleIn (args .bytes .now))
+    (c .before .before .before .before .before .before .before .before .before .before .before .before .before .before .before .before .before
+    .before .before .before .before .before .before .before .before .before .before .before .pre .1)
+    (c .before .before .before .before .before .before .before .before .before .before .before .before .before .before .before .before .compiled .ensures)
+    (c .before .before .before .before .before .before .before .before .before .before .before .before .before .number .ensures .0)
+    (c .before .before .before .before .before .before .before .before .before .before .before .before .place .ensures) (args .objects .now)
+    (args .messages .now) (args .rows .now) (c .before .before .before .before .before .before .before .before .before .before .before .if2 .left)
+    (inside (c .before .before .before .before .before .before .before .before .before .before .before))
+    (c .before .before .before .before .before .before .ran .ensures .0) (c .before .before .before .before .before .before .ran .ensures .1))
 
 pub given-by-bundle-spec : {M : Type 1} → statement M
 given-by-bundle-spec =

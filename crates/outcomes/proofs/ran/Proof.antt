@@ -21,16 +21,30 @@ message-cells-requires : tie.Need-message-cells-requires
 message-cells-requires c κs = search needs
 
 term-rows-requires : tie.Need-term-rows-requires
-term-rows-requires c κs = (c .before .before .before .before .before .before .before .before .before .before .before .before .before .before .before .before .before .pre .0, omega (arith, fields _ _ (c .before .before .before .before .before .before .before .before .before .before .before .before .before .before .before .before .before .pre .0) .limits .1, c .before .before .before .before .before .before .before .before .before .before .before .before .before .before .before .before .before .pre .4))
+term-rows-requires c κs = (
+  c .before .before .before .before .before .before .before .before .before .before .before .before .before .before .before .before .before .pre .0,
+  omega (
+    arith,
+    fields _ _
+        (c .before .before .before .before .before .before .before .before .before .before .before .before .before .before .before .before .before .pre .0) .limits .1,
+    c .before .before .before .before .before .before .before .before .before .before .before .before .before .before .before .before .before .pre .4,
+  ),
+)
 
 slice-aggregate-run : tie.Need-slice-aggregate-run
 slice-aggregate-run c = search needs
 
 array-share-prefix-pairs : tie.Need-array-share-prefix-pairs
-array-share-prefix-pairs c = front-inside _ _ (c .before .before .before .before .before .before .before .before .before .before .before .before .before .before .before .before .certificates .ensures) (lengths _ _ (c .before .before .before .before .before .before .before .before .before .before .before .before .before .before .before .before .before .before .before .before .before .before .before .pre .0) .certificates)
+array-share-prefix-pairs c = front-inside _ _
+    (c .before .before .before .before .before .before .before .before .before .before .before .before .before .before .before .before .certificates .ensures)
+    (lengths _ _ (c .before .before .before .before .before .before .before .before .before .before .before .before .before .before .before .before
+    .before .before .before .before .before .before .before .pre .0) .certificates)
 
 slice-aggregate-run-2 : tie.Need-slice-aggregate-run-2
-slice-aggregate-run-2 c = front-length _ _ (c .before .before .before .before .before .before .before .before .before .before .before .before .before .before .before .before .before .certificates .ensures) (lengths _ _ (c .before .before .before .before .before .before .before .before .before .before .before .before .before .before .before .before .before .before .before .before .before .before .before .before .pre .0) .certificates)
+slice-aggregate-run-2 c = front-length _ _
+    (c .before .before .before .before .before .before .before .before .before .before .before .before .before .before .before .before .before .certificates .ensures)
+    (lengths _ _ (c .before .before .before .before .before .before .before .before .before .before .before .before .before .before .before .before
+    .before .before .before .before .before .before .before .before .pre .0) .certificates)
 
 cast-run : tie.Need-cast-run
 cast-run c = search needs
@@ -49,13 +63,23 @@ same-length-3 c = search needs
 
 returns : tie.Need-returns
 returns c =
-    let pre = c .before .before .before .before .before .before .before .before .before .before .before .before .before .before .before .before .before .before .before .before .before .before .before .before .before .before .before .before .before .before .before .before .before .pre in
-    let args = c .before .before .before .before .before .before .before .before .before .before .before .before .before .before .before .before .before .before .before .before .before .before .before .before .before .before .before .before .before .before .before .before .before .args in
+    let pre = c .before .before .before .before .before .before .before .before .before .before .before .before .before .before .before .before
+    .before .before .before .before .before .before .before .before .before .before .before .before .before .before .before .before .before .pre
+    in
+    let args = c .before .before .before .before .before .before .before .before .before .before .before .before .before .before .before .before
+    .before .before .before .before .before .before .before .before .before .before .before .before .before .before .before .before .before .args
+    in
     let lent =
-    run-lent _ (pre .0) _ (c .before .before .before .before .before .before .before .before .before .before .before .before .before .before .before .before .before .before .before .before .before .before .before .before .before .before .before .kinds .ensures)
-    (objects-lent _ (pre .0) (args .objects .now) (pre .2) (c .before .before .before .before .before .before .before .before .before .before .before .before .before .before .before .before .before .before .before .before .before .before .before .object-cells .ensures))
-    (messages-lent _ (pre .0) (args .messages .now) (pre .3) (c .before .before .before .before .before .before .before .before .before .before .before .before .before .before .before .before .before .before .before .message-cells .ensures))
-    (c .before .before .before .before .before .before .before .before .before .before .before .before .before .before .before .before .before .before .before .before .before .before .before .before .before .before .certificates .ensures)
+    run-lent _ (pre .0) _
+    (c .before .before .before .before .before .before .before .before .before .before .before .before .before .before .before .before .before
+    .before .before .before .before .before .before .before .before .before .before .kinds .ensures)
+    (objects-lent _ (pre .0) (args .objects .now) (pre .2)
+    (c .before .before .before .before .before .before .before .before .before .before .before .before .before .before .before .before .before
+    .before .before .before .before .before .before .object-cells .ensures))
+    (messages-lent _ (pre .0) (args .messages .now) (pre .3)
+    (c .before .before .before .before .before .before .before .before .before .before .before .before .before .before .before .before .before .before .before .message-cells .ensures))
+    (c .before .before .before .before .before .before .before .before .before .before .before .before .before .before .before .before .before .before
+    .before .before .before .before .before .before .before .before .certificates .ensures)
     (terms-lent _ (pre .0) (args .rows .now) (pre .4) (c .before .before .before .before .before .before .before .before .before .before .before .before .before .before .before .term-rows .ensures))
     (c .before .before .before .before .before .before .run .ensures .0) in
     (lent, ran-counted _ (pre .0) _ (pre .1) lent (c .before .before .before .before .before .before .run .ensures .1))

@@ -21,7 +21,12 @@ returns : tie.Need-returns
 returns c = search ways
 
 store-lines-requires : tie.Need-store-lines-requires
-store-lines-requires c κs = omega (arith, code-end _ (c .before .before .before .before .before .before .before .before .before .code-lines .ensures) (omega arith), word-line-end _ _ (c .before .before .before .before .before .end-line .ensures))
+store-lines-requires c κs = omega (
+  arith,
+  code-end _ (c .before .before .before .before .before .before .before .before .before .code-lines .ensures)
+      (omega arith),
+  word-line-end _ _ (c .before .before .before .before .before .end-line .ensures),
+)
 
 same-length-2 : tie.Need-same-length-2
 same-length-2 c = search needs

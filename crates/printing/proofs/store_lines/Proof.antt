@@ -22,7 +22,12 @@ slice-aggregate-cell-lines-3 c = sym (length-take-le 64 (c .before .before .befo
 
 cell-lines-requires-2 : tie.Need-cell-lines-requires-2
 cell-lines-requires-2 c κs =
-    omega (arith, cells-end _ _ (c .before .before .before .before .before .cell-lines .ensures) (omega arith), length-take 64 (c .before .before .before .before .before .before .before .before .before .before .before .args .messages .now))
+    omega (
+      arith,
+      cells-end _ _ (c .before .before .before .before .before .cell-lines .ensures) (omega arith),
+      length-take 64
+          (c .before .before .before .before .before .before .before .before .before .before .before .args .messages .now),
+    )
 
 same-length : tie.Need-same-length
 same-length c = search needs

@@ -38,7 +38,8 @@ role-fits-requires : tie.Need-role-fits-requires
 role-fits-requires c κs = search needs
 
 returns : tie.Need-returns
-returns c = let s = c .before .before .before .before .before .before .before .before .before in role-limit (s .args .ends .now) (s .args .code .now) (x s) (sym (c .before .role-fits .ensures) ∙ not-true _ (c .if1 .taken))
+returns c = let s = c .before .before .before .before .before .before .before .before .before in role-limit (s .args .ends .now) (s .args .code .now)
+    (x s) (sym (c .before .role-fits .ensures) ∙ not-true _ (c .if1 .taken))
 
 set-cells-requires : tie.Need-set-cells-requires
 set-cells-requires c κs = lengths c .objects-length
@@ -54,7 +55,9 @@ number-requires c κs = search needs
 
 returns-2 : tie.Need-returns-2
 returns-2 c =
-    role-refused _ _ (x (start (c .before .before .before .before .before))) (fits (c .before .before .before .before .before)) _ _ (c .before .before .before .before .set-cells .ensures) (c .before .before .before .set-cells2 .ensures) (c .before .before .count-words .ensures)
+    role-refused _ _ (x (start (c .before .before .before .before .before))) (fits (c .before .before .before .before .before)) _ _
+    (c .before .before .before .before .set-cells .ensures) (c .before .before .before .set-cells2 .ensures)
+    (c .before .before .count-words .ensures)
     (λ e. c .if2 .taken (c .before .number .ensures .0 ∙ e))
 
 place-requires : tie.Need-place-requires
@@ -66,7 +69,9 @@ cast-if3 c = search needs
 returns-3 : tie.Need-returns-3
 returns-3 c =
     rw (c .before .place .ensures)
-    (role-short _ _ (x (start (c .before .before .before .before .before .before .before))) (fits (c .before .before .before .before .before .before .before)) _ _ (c .before .before .before .before .before .before .set-cells .ensures) (c .before .before .before .before .before .set-cells2 .ensures) (c .before .before .before .before .count-words .ensures) (zero (c .before))
+    (role-short _ _ (x (start (c .before .before .before .before .before .before .before)))
+    (fits (c .before .before .before .before .before .before .before)) _ _ (c .before .before .before .before .before .before .set-cells .ensures)
+    (c .before .before .before .before .before .set-cells2 .ensures) (c .before .before .before .before .count-words .ensures) (zero (c .before))
     (omega (arith, c .if3 .taken, c .before .place .ensures)))
 
 write-rounds-requires : tie.Need-write-rounds-requires
@@ -74,7 +79,10 @@ write-rounds-requires c κs =
     let passed = c .before .before .before .before .before .before .before .before .before in
     let l = lengths passed in (
       (omega (arith, l .even, l .ends-length), omega (arith, l .few, l .ends-length), all-rows passed),
-      role-fit (start passed .args .ends .now) (start passed .args .code .now) (x (start passed)) (fits passed) _ _ (c .before .before .before .before .before .before .before .before .set-cells .ensures) (c .before .before .before .before .before .before .before .set-cells2 .ensures) (c .before .before .before .before .before .before .count-words .ensures) (zero (c .before .before .before))
+      role-fit (start passed .args .ends .now) (start passed .args .code .now) (x (start passed)) (fits passed) _ _
+          (c .before .before .before .before .before .before .before .before .set-cells .ensures)
+          (c .before .before .before .before .before .before .before .set-cells2 .ensures)
+          (c .before .before .before .before .before .before .count-words .ensures) (zero (c .before .before .before))
           (omega (arith, c .before .before .if3 .left, c .before .before .before .place .ensures)),
     )
 
@@ -88,7 +96,11 @@ returns-4 : tie.Need-returns-4
 returns-4 c =
     let passed = c .before .before .before .before .before .before .before .before .before .before .before .before .before .before in
     let wrote = c .before .before .before .before .write-rounds .ensures in
-    role-done _ _ (x (start passed)) (fits passed) _ _ (c .before .before .before .before .before .before .before .before .before .before .before .before .before .set-cells .ensures) (c .before .before .before .before .before .before .before .before .before .before .before .before .set-cells2 .ensures) (c .before .before .before .before .before .before .before .before .before .before .before .count-words .ensures) (zero (c .before .before .before .before .before .before .before .before))
+    role-done _ _ (x (start passed)) (fits passed) _ _
+    (c .before .before .before .before .before .before .before .before .before .before .before .before .before .set-cells .ensures)
+    (c .before .before .before .before .before .before .before .before .before .before .before .before .set-cells2 .ensures)
+    (c .before .before .before .before .before .before .before .before .before .before .before .count-words .ensures)
+    (zero (c .before .before .before .before .before .before .before .before))
     (omega (arith, c .before .before .before .before .before .before .before .if3 .left, c .before .before .before .before .before .before .before .before .place .ensures)) (wrote .0) (wrote .1)
 
 pub compile-role-spec : {M : Type 1} → statement M

@@ -129,7 +129,16 @@ module _ {M : Type 1} (𝓤 : URA M) (H : Heap 𝓤) (A : Atoms 𝓤) (W : Given
 
   abbrev Said : RoundEnded → Ends → Type 0
   Said r zs = _≡_ {A = RoundOutcome} (record { answer = r .answer; session = r .session; objects = zs .1 .1 .1 .0; messages = zs .1 .1 .1 .1 .0; terms = zs .1 .1 .1 .1 .1 .1 .0 })
-      (round (record { session = h; rounds = y .0; kinds = y .1 .0 .now; objects = y .1 .1 .0 .now; messages = y .1 .1 .1 .0 .now; certificates = y .1 .1 .1 .1 .0 .now; terms = y .1 .1 .1 .1 .1 .0 .now })
+      (round (record {
+        session = h;
+        rounds = y .0;
+        kinds = y .1 .0 .now;
+        objects = y .1 .1 .0 .now;
+        messages = y .1 .1 .1 .0 .now;
+        certificates =
+            y .1 .1 .1 .1 .0 .now;
+        terms = y .1 .1 .1 .1 .1 .0 .now;
+      })
       (y .1 .1 .1 .1 .1 .1 .0 .now))
 
   exits : (r : RoundEnded) (zs : Ends) → Said r zs → Is E.the-row (r .answer) (evals (r .answer))
@@ -165,7 +174,8 @@ module _ {M : Type 1} (𝓤 : URA M) (H : Heap 𝓤) (A : Atoms 𝓤) (W : Given
         await ! tt $ pick ! (λ r.
         -- what `round_of` ensures, at some last values
         split ! $ move ! (1 ∷ []) $ use1 W (some (λ (zs : Ends). ‵ (lasts round_of.ended κs (h, y) zs) ⊛ raw (fact 𝓤 (Said r zs)))) (id⊢ 𝓤 _) $ pick ! (λ zs.
-        split ! $ move ! (1 ∷ []) $ heard ! (Said r zs) (λ e. fsplit ! $ drop ! $ move ! (1 ∷ []) $ split ! $ move ! (1 ∷ []) $ peeks ! O.the-row (Is O.the-row) (shows 𝓤 H A O.the-row) r (w ∷ []) (λ is.
+        split ! $ move ! (1 ∷ []) $ heard ! (Said r zs) (λ e. fsplit ! $ drop ! $ move ! (1 ∷ []) $ split ! $ move ! (1 ∷ []) $ peeks ! O.the-row
+        (Is O.the-row) (shows 𝓤 H A O.the-row) r (w ∷ []) (λ is.
         -- [what the RoundEnded owns; the others' tokens; their last values; the session's cell; the open borrow; obs; auth; _16; …; …; _0; …]
         land ! (local !) (init ! 21 refl (LL.lawful O.the-type O′.the-laws 𝓤 H A W .typed r _ is .0)) $
         rewrite ! 21 (λ (u : Val). ‵ (fat fullShare O′.mir l₉ 0 u)) (ap only (LL.tells O.the-type O′.the-laws r (w ∷ []) is)) refl $
@@ -182,14 +192,24 @@ module _ {M : Type 1} (𝓤 : URA M) (H : Heap 𝓤) (A : Atoms 𝓤) (W : Given
       → Walks 𝓤 H A f.ended stayed (WpFn 𝓤 H C Λ code.function) (f.clauses 𝓤 H A mem run)
   round-walks C Λ fm known = walked 𝓤 H A f.ended stayed (f.clauses 𝓤 H A mem run) (WpFn 𝓤 H C Λ code.function)
       (λ κs. (ptr-vals, spells (κs .1)))
-      (λ κs. (mut-tells (named 0) (κs .0) T.the-row, (uint-tells w32, ((λ x vs p. p .0 .0), ((λ x vs p. p .0 .0), ((λ x vs p. p .0 .0), ((λ x vs p. p .0 .0), ((λ x vs p. p .0 .0), ((λ x vs p. p .0 .0), tt)))))))))
+      (λ κs. (
+        mut-tells (named 0) (κs .0) T.the-row,
+        (
+          uint-tells w32,
+          (
+            (λ x vs p. p .0 .0),
+            ((λ x vs p. p .0 .0), ((λ x vs p. p .0 .0), ((λ x vs p. p .0 .0), ((λ x vs p. p .0 .0), ((λ x vs p. p .0 .0), tt))))),
+          ),
+        ),
+      ))
       (λ κs qs bounds a g are. via 𝓤 _ (fst∗ 𝓤 _ (emp 𝓤)) (walk 𝓤 H A W mem run (κs .0) (κs .1) bounds (qs .0) (qs .1) (a .0 .ptr .0) (a .0 .ptr .1) (a .0 .name) (a .0 .now) (a .1) (are .1)
       C Λ fm known))
 
   goes : AllGo 𝓤 H A W 7 (f.signature .params) (f.ended .kept) stayed
   goes = (goes-ref 𝓤 H A W 7 0 tt (plain (λ _. T.the-row)), all-go-on 𝓤 H A W (rest (f.signature .params)) (f.ended .kept .1))
 
-round-meets : {M : Type 1} (𝓤 : URA M) (H : Heap 𝓤) (A : Atoms 𝓤) → Given 𝓤 H A → (mem : Memory → SProp 𝓤) (run : Routine → Fun 𝓤) (𝓣 : Tables 𝓤 H) → Triple 𝓤 (𝓣 .C #rounds·round-of) (Callee 𝓤 H A mem run)
+round-meets : {M : Type 1} (𝓤 : URA M) (H : Heap 𝓤) (A : Atoms 𝓤) → Given 𝓤 H A → (mem : Memory → SProp 𝓤) (run : Routine → Fun 𝓤) (𝓣 : Tables 𝓤 H) →
+    Triple 𝓤 (𝓣 .C #rounds·round-of) (Callee 𝓤 H A mem run)
     → Meets 𝓤 H A f.signature (WpFn 𝓤 H (𝓣 .C) (𝓣 .Λ) code.function) (f.spec 𝓤 H A mem run)
 round-meets 𝓤 H A W mem run 𝓣 known = walk-meets 𝓤 H A f.ended stayed W (goes 𝓤 H A W mem run) (f.clauses 𝓤 H A mem run)
     (WpFn 𝓤 H (𝓣 .C) (𝓣 .Λ) code.function) (WpFn-mono 𝓤 H (W .laws) 𝓣 code.function) (round-walks 𝓤 H A W mem run (𝓣 .C) (𝓣 .Λ) (fmOf 𝓤 H (W .laws) 𝓣) known)

@@ -45,7 +45,8 @@ same-length-3 : tie.Need-same-length-3
 same-length-3 c = search needs
 
 returns : tie.Need-returns
-returns c = let s = c .before .before .before .before .before .before .before .before .before .before .before .before .before in round-refused (x s) (words s) (found-some _ (usedRows (x s .terms)) (sym (c .before .found .given .1) ∙ c .before .before .before .look .ensures))
+returns c = let s = c .before .before .before .before .before .before .before .before .before .before .before .before .before in round-refused (x s)
+    (words s) (found-some _ (usedRows (x s .terms)) (sym (c .before .found .given .1) ∙ c .before .before .before .look .ensures))
 
 same-length-4 : tie.Need-same-length-4
 same-length-4 c = search needs

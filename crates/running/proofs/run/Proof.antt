@@ -56,7 +56,12 @@ slice-aggregate-copy-2 : tie.Need-slice-aggregate-copy-2
 slice-aggregate-copy-2 c = search needs
 
 copy-requires-2 : tie.Need-copy-requires-2
-copy-requires-2 c κs = omega (arith, slice-aggregate-copy-2 (c .before), whole (c .before .before .before .before .before .before .before .before .before .before .before .before .before .before .before .before .before) .1)
+copy-requires-2 c κs = omega (
+  arith,
+  slice-aggregate-copy-2 (c .before),
+  whole
+      (c .before .before .before .before .before .before .before .before .before .before .before .before .before .before .before .before .before) .1,
+)
 
 same-length : tie.Need-same-length
 same-length c = search needs

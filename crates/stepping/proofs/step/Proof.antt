@@ -170,7 +170,8 @@ same-length-15 : tie.Need-same-length-15
 same-length-15 c = search needs
 
 returns-8 : tie.Need-returns-8
-returns-8 c = stepped-alike _ _ _ _ _ _ (c .before .before .before .before .before .before .before .before .before .instruction8 .given .1) (c .before .before .before .before .create-tuple .ensures) refl refl
+returns-8 c = stepped-alike _ _ _ _ _ _ (c .before .before .before .before .before .before .before .before .before .instruction8 .given .1)
+    (c .before .before .before .before .create-tuple .ensures) refl refl
 
 same-length-16 : tie.Need-same-length-16
 same-length-16 c = search needs
@@ -233,7 +234,8 @@ same-length-28 : tie.Need-same-length-28
 same-length-28 c = search needs
 
 returns-16 : tie.Need-returns-16
-returns-16 c = stepped-alike _ _ _ _ _ _ (c .before .before .before .before .enum-told2 .given .1) (λ kind. c .before .before .hash .ensures kind (c .before .before .before .before .enum-told2 .given .0 .0)) refl refl
+returns-16 c = stepped-alike _ _ _ _ _ _ (c .before .before .before .before .enum-told2 .given .1)
+    (λ kind. c .before .before .hash .ensures kind (c .before .before .before .before .enum-told2 .given .0 .0)) refl refl
 
 pub step-spec : {M : Type 1} → statement M
 step-spec =

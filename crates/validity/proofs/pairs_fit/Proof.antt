@@ -43,8 +43,11 @@ loop-less c = omega arith
 loop-again : tie.Need-loop-again Inv-loop μ-loop
 loop-again c =
     let loop = c .before .before .before .before .loop in
-    let args = c .before .before .before .before .before .before .before .args in
-    (omega arith, each-next (pairFits (args .rows .now) (args .used)) _ (args .certificates .now) 0 (loop .i) (loop .inv .1) (omega arith) (sym (c .before .pair-fits .ensures) ∙ not-false _ (c .if1 .left)))
+    let args = c .before .before .before .before .before .before .before .args in (
+      omega arith,
+      each-next (pairFits (args .rows .now) (args .used)) _ (args .certificates .now) 0 (loop .i) (loop .inv .1) (omega arith)
+          (sym (c .before .pair-fits .ensures) ∙ not-false _ (c .if1 .left)),
+    )
 
 returns-2 : tie.Need-returns-2 Inv-loop μ-loop
 returns-2 c =

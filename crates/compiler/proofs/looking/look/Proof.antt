@@ -67,7 +67,9 @@ enum-known-bad : tie.Need-enum-known-bad
 enum-known-bad c = search needs
 
 returns-3 : tie.Need-returns-3
-returns-3 c = let s = start2 (c .before .before .before .before) in found-row (create s) (pattern s) (kinds s) (objects s) (fits (c .before .before .before .before .before .before)) (cells (c .before .before .before .before)) (placed-at _ (c .before .before .before .first-bad-pattern .ensures) (c .before .bad .given .1))
+returns-3 c = let s = start2 (c .before .before .before .before) in found-row (create s) (pattern s) (kinds s) (objects s)
+    (fits (c .before .before .before .before .before .before)) (cells (c .before .before .before .before))
+    (placed-at _ (c .before .before .before .first-bad-pattern .ensures) (c .before .bad .given .1))
 
 enum-told : tie.Need-enum-told
 enum-told c = search needs
@@ -82,10 +84,15 @@ enum-told-2 : tie.Need-enum-told-2
 enum-told-2 c = search needs
 
 returns-4 : tie.Need-returns-4
-returns-4 c = let s = start2 (c .before .before .before .before .before .before .before) in found-kind (create s) (pattern s) (kinds s) (objects s) (fits (c .before .before .before .before .before .before .before .before .before)) (cells (c .before .before .before .before .before .before .before)) (rows (c .before .before .before .before)) (placed-at _ (c .before .before .before .first-wrong-kind .ensures) (c .before .wrong .given .1))
+returns-4 c = let s = start2 (c .before .before .before .before .before .before .before) in found-kind (create s) (pattern s) (kinds s) (objects s)
+    (fits (c .before .before .before .before .before .before .before .before .before))
+    (cells (c .before .before .before .before .before .before .before)) (rows (c .before .before .before .before))
+    (placed-at _ (c .before .before .before .first-wrong-kind .ensures) (c .before .wrong .given .1))
 
 returns-5 : tie.Need-returns-5
-returns-5 c = let s = start2 (c .before .before .before .before .before .before) in found-nothing (create s) (pattern s) (kinds s) (objects s) (fits (c .before .before .before .before .before .before .before .before)) (cells (c .before .before .before .before .before .before)) (rows (c .before .before .before)) (placed-nowhere _ (c .before .before .first-wrong-kind .ensures) (c .enum-told2 .given .1))
+returns-5 c = let s = start2 (c .before .before .before .before .before .before) in found-nothing (create s) (pattern s) (kinds s) (objects s)
+    (fits (c .before .before .before .before .before .before .before .before)) (cells (c .before .before .before .before .before .before))
+    (rows (c .before .before .before)) (placed-nowhere _ (c .before .before .first-wrong-kind .ensures) (c .enum-told2 .given .1))
 
 pub look-spec : {M : Type 1} → statement M
 look-spec =

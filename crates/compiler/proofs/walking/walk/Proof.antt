@@ -46,12 +46,15 @@ all-kinds-requires c κs = passes (c .before .before .before .before .before) .l
 emit-row-requires : tie.Need-emit-row-requires
 emit-row-requires c κs =
     let s = c .before .before .before .before .before .before .before .before .before .before in
-    rw (laid (pattern s) 96 0 (c .before .before .before .before .before .before .before .no-rows .ensures) (c .before .before .before .before .before .lay-rows .ensures)) (root-row (pattern s) (passes s .lengths .least) (passes s .lengths .most) (passes s .rows-good) _ _)
+    rw (laid (pattern s) 96 0 (c .before .before .before .before .before .before .before .no-rows .ensures)
+    (c .before .before .before .before .before .lay-rows .ensures)) (root-row (pattern s) (passes s .lengths .least) (passes s .lengths .most)
+    (passes s .rows-good) _ _)
 
 answer-of-requires : tie.Need-answer-of-requires
 answer-of-requires c κs =
     let s = c .before .before .before .before .before .before .before .before .before .before .before in
-    let d = rw (laid (pattern s) 96 0 (c .before .before .before .before .before .before .before .before .no-rows .ensures) (c .before .before .before .before .before .before .lay-rows .ensures)) at (c .emit-row .ensures) in
+    let d = rw (laid (pattern s) 96 0 (c .before .before .before .before .before .before .before .before .no-rows .ensures)
+    (c .before .before .before .before .before .before .lay-rows .ensures)) at (c .emit-row .ensures) in
     omega (arith, d .place, root-words (pattern s) (passes s .lengths .least) (passes s .lengths .most) (passes s .rows-good))
 
 array-read-if1 : tie.Need-array-read-if1
@@ -69,7 +72,11 @@ clear-requires c κs = c .before .before .before .emit-row .ensures .kept ∙ c 
 returns : tie.Need-returns
 returns c =
     let s = c .before .before .before .before .before .before .before .before .before .before .before .before .before in
-    let d = rw (laid (pattern s) 96 0 (c .before .before .before .before .before .before .before .before .before .before .no-rows .ensures) (c .before .before .before .before .before .before .before .before .lay-rows .ensures), c .before .before .before .before .before .before .before .all-kinds .ensures) at (c .before .before .emit-row .ensures) in
+    let d = rw (
+      laid (pattern s) 96 0 (c .before .before .before .before .before .before .before .before .before .before .no-rows .ensures)
+          (c .before .before .before .before .before .before .before .before .lay-rows .ensures),
+      c .before .before .before .before .before .before .before .all-kinds .ensures,
+    ) at (c .before .before .emit-row .ensures) in
     rw (c .before .answer-of .ensures)
     (walked-done (create s) (pattern s) (kinds s) (s .pre .0) (root-pattern (pattern s) (passes s .lengths .least) (passes s .lengths .most) (passes s .rows-good)) d
     (omega (arith, root-words (pattern s) (passes s .lengths .least) (passes s .lengths .most) (passes s .rows-good), s .pre .1)) (c .if1 .taken))
@@ -77,9 +84,16 @@ returns c =
 returns-2 : tie.Need-returns-2
 returns-2 c =
     let s = c .before .before .before .before .before .before .before .before .before .before .before .before .before .before .before in
-    let d = rw (laid (pattern s) 96 0 (c .before .before .before .before .before .before .before .before .before .before .before .before .no-rows .ensures) (c .before .before .before .before .before .before .before .before .before .before .lay-rows .ensures), c .before .before .before .before .before .before .before .before .before .all-kinds .ensures) at (c .before .before .before .before .emit-row .ensures) in
+    let d = rw (
+      laid (pattern s) 96 0
+          (c .before .before .before .before .before .before .before .before .before .before .before .before .no-rows .ensures)
+          (c .before .before .before .before .before .before .before .before .before .before .lay-rows .ensures),
+      c .before .before .before .before .before .before .before .before .before .all-kinds .ensures,
+    ) at
+    (c .before .before .before .before .emit-row .ensures) in
     rw (c .before .before .before .answer-of .ensures)
-    (walked-refused (create s) (pattern s) (kinds s) (s .pre .0) (root-pattern (pattern s) (passes s .lengths .least) (passes s .lengths .most) (passes s .rows-good)) d (c .before .before .if1 .left) (c .clear .ensures))
+    (walked-refused (create s) (pattern s) (kinds s) (s .pre .0) (root-pattern (pattern s) (passes s .lengths .least) (passes s .lengths .most)
+    (passes s .rows-good)) d (c .before .before .if1 .left) (c .clear .ensures))
 
 pub walk-spec : {M : Type 1} → statement M
 walk-spec =

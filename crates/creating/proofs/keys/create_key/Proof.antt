@@ -17,7 +17,14 @@ y-requires : tie.Need-y-requires
 y-requires c κs = search needs
 
 opposite-key-requires : tie.Need-opposite-key-requires
-opposite-key-requires c κs = ((key-low _ (c .before .before .before .before .before .before .pre .0) _ (c .before .before .before .before .before .key .ensures), second-low _ _ (c .y .ensures)), c .before .before .before .before .before .before .pre .1)
+opposite-key-requires c κs = (
+  (
+    key-low _ (c .before .before .before .before .before .before .pre .0) _
+        (c .before .before .before .before .before .key .ensures),
+    second-low _ _ (c .y .ensures),
+  ),
+  c .before .before .before .before .before .before .pre .1,
+)
 
 y-requires-2 : tie.Need-y-requires-2
 y-requires-2 c κs = search needs

@@ -35,7 +35,12 @@ returns-3 : tie.Need-returns-3
 returns-3 c =
     let read = c .before .before .before .before in
     let form = c .before .key-form .ensures in
-    one-of-pair (read .kind-of .result) 4 6 ∙ rw (plain-else (patternFields (read .before .before .before .args .word)) (λ op. c .match .rest .0 .1 (form ∙ op)) (λ own. c .match .rest .1 (form ∙ own)), read .kind-of .ensures, read .before .key .ensures)
+    one-of-pair (read .kind-of .result) 4 6 ∙ rw (
+      plain-else (patternFields (read .before .before .before .args .word))
+          (λ op. c .match .rest .0 .1 (form ∙ op)) (λ own. c .match .rest .1 (form ∙ own)),
+      read .kind-of .ensures,
+      read .before .key .ensures,
+    )
 
 pub public-side-spec : {M : Type 1} → statement M
 public-side-spec =

@@ -42,19 +42,46 @@ returns-3 c = rw (← c .before .tag .ensures, c .match .keys3, c .before .befor
 
 returns-4 : tie.Need-returns-4
 unfolding kindsBy
-returns-4 c = rw (← c .before .tag .ensures, c .match .keys4, c .before .before .before .before .kind-of .ensures, c .before .before .before .before .before .variable .ensures, c .before .before .kind-of2 .ensures, c .before .before .before .y .ensures)
+returns-4 c = rw (
+  ← c .before .tag .ensures,
+  c .match .keys4,
+  c .before .before .before .before .kind-of .ensures,
+  c .before .before .before .before .before .variable .ensures,
+  c .before .before .kind-of2 .ensures,
+  c .before .before .before .y .ensures,
+)
 
 returns-5 : tie.Need-returns-5
 unfolding kindsBy
-returns-5 c = rw (← c .before .tag .ensures, c .match .keys5, c .before .before .before .before .kind-of .ensures, c .before .before .before .before .before .variable .ensures, c .before .before .kind-of2 .ensures, c .before .before .before .y .ensures)
+returns-5 c = rw (
+  ← c .before .tag .ensures,
+  c .match .keys5,
+  c .before .before .before .before .kind-of .ensures,
+  c .before .before .before .before .before .variable .ensures,
+  c .before .before .kind-of2 .ensures,
+  c .before .before .before .y .ensures,
+)
 
 returns-6 : tie.Need-returns-6
 unfolding kindsBy
-returns-6 c = rw (← c .before .before .tag .ensures, c .before .match .keys6, c .key-fits .ensures, c .before .before .before .before .before .kind-of .ensures, c .before .before .before .before .before .before .variable .ensures)
+returns-6 c = rw (
+  ← c .before .before .tag .ensures,
+  c .before .match .keys6,
+  c .key-fits .ensures,
+  c .before .before .before .before .before .kind-of .ensures,
+  c .before .before .before .before .before .before .variable .ensures,
+)
 
 returns-7 : tie.Need-returns-7
 unfolding kindsBy
-returns-7 c = rw (← c .before .before .tag .ensures, c .before .match .keys7, c .key-fits2 .ensures, c .before .before .before .before .before .kind-of .ensures, c .before .before .before .before .before .before .variable .ensures, other-way)
+returns-7 c = rw (
+  ← c .before .before .tag .ensures,
+  c .before .match .keys7,
+  c .key-fits2 .ensures,
+  c .before .before .before .before .before .kind-of .ensures,
+  c .before .before .before .before .before .before .variable .ensures,
+  other-way,
+)
 
 returns-8 : tie.Need-returns-8
 unfolding kindsBy
@@ -71,7 +98,11 @@ returns-10 c = rw (← c .before .tag .ensures, c .match .keys10)
 returns-11 : tie.Need-returns-11
 returns-11 c =
     let word = c .before .before .before .before .before .before .before .args .word in
-    rw (kinds-past _ _ (patternFields word) (rw (← c .before .tag .ensures) (past 0 10 (c .before .tag .result) (c .match .rest) (omega arith))), c .before .before .before .before .kind-of .ensures, c .before .before .before .before .before .variable .ensures)
+    rw (
+      kinds-past _ _ (patternFields word) (rw (← c .before .tag .ensures) (past 0 10 (c .before .tag .result) (c .match .rest) (omega arith))),
+      c .before .before .before .before .kind-of .ensures,
+      c .before .before .before .before .before .variable .ensures,
+    )
 
 pub row-kinds-spec : {M : Type 1} → statement M
 row-kinds-spec =

@@ -14,7 +14,8 @@ numbers-requires c κs = search needs
 returns : tie.Need-returns
 returns c =
     let a = c .before .before .before .before .args in
-    rw (c .numbers .ensures) (bytes-short (a .words .now) (a .code .now) (c .before .before .before .before .pre .1) (λ place. c .before .before .slice-known .given place .fits) (c .before .if1 .taken))
+    rw (c .numbers .ensures) (bytes-short (a .words .now) (a .code .now) (c .before .before .before .before .pre .1)
+    (λ place. c .before .before .slice-known .given place .fits) (c .before .if1 .taken))
 
 mul-end : tie.Need-mul-end
 mul-end c = search needs

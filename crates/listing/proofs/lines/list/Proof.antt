@@ -69,13 +69,16 @@ same-length : tie.Need-same-length
 same-length c = search needs
 
 returns : tie.Need-returns
-returns c = refused-listed _ _ _ _ _ (c .before .before .before .before .before .before .before .before .before .before .before .given .ensures) (c .before .before .before .before .before .gave .given .1) (c .before .before .refused .ensures)
+returns c = refused-listed _ _ _ _ _ (c .before .before .before .before .before .before .before .before .before .before .before .given .ensures)
+    (c .before .before .before .before .before .gave .given .1) (c .before .before .refused .ensures)
 
 same-length-2 : tie.Need-same-length-2
 same-length-2 c = search needs
 
 returns-2 : tie.Need-returns-2
-returns-2 c = ran-listed _ _ _ _ _ (c .before .before .before .before .before .before .before .before .before .before .before .before .before .before .before .given .ensures) (c .before .before .before .before .before .before .before .before .before .gave2 .given .1) (c .before .before .ran .ensures)
+returns-2 c = ran-listed _ _ _ _ _
+    (c .before .before .before .before .before .before .before .before .before .before .before .before .before .before .before .given .ensures)
+    (c .before .before .before .before .before .before .before .before .before .gave2 .given .1) (c .before .before .ran .ensures)
 
 pub list-spec : {M : Type 1} → statement M
 list-spec =

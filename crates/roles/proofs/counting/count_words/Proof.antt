@@ -53,11 +53,18 @@ cast-t25 c = omega (arith, c .before .before .before .before .before .loop-test 
 
 returns : tie.Need-returns Inv-loop μ-loop
 returns c =
-    counting-refused _ _ _ _ (c .before .before .before .before .before .before .loop .inv .0) (c .before .before .before .before .before .loop-test .taken) (rw (part-of (c .before .before .before .before .before .before .loop .row) _ _) at (c .before .before .count-half .ensures))
+    counting-refused _ _ _ _ (c .before .before .before .before .before .before .loop .inv .0)
+    (c .before .before .before .before .before .loop-test .taken) (rw (part-of (c .before .before .before .before .before .before .loop .row) _ _)
+    at (c .before .before .count-half .ensures))
     (λ e. c .if1 .taken (c .before .number .ensures .0 ∙ e))
 
 add-words : tie.Need-add-words Inv-loop μ-loop
-add-words c = omega (arith, counting-small _ _ _ _ (c .before .before .before .before .before .before .loop .inv .0), c .before .before .before .before .before .before .loop .inv .1, c .before .before .before .before .before .before .before .before .before .before .pre .1)
+add-words c = omega (
+  arith,
+  counting-small _ _ _ _ (c .before .before .before .before .before .before .loop .inv .0),
+  c .before .before .before .before .before .before .loop .inv .1,
+  c .before .before .before .before .before .before .before .before .before .before .pre .1,
+)
 
 place-requires : tie.Need-place-requires Inv-loop μ-loop
 place-requires c κs = search needs
@@ -70,7 +77,9 @@ add-words-2 c =
       counting-small _ _ _ _ (loop .inv .0),
       loop .inv .1,
       c .place .ensures,
-      counting-few _ _ _ _ (loop .inv .0) (c .before .before .before .before .before .before .loop-test .taken) (rw (part-of (loop .row) _ _) at (c .before .before .before .count-half .ensures)) (sym (c .before .before .number .ensures .0) ∙ c .before .if1 .left),
+      counting-few _ _ _ _ (loop .inv .0) (c .before .before .before .before .before .before .loop-test .taken)
+          (rw (part-of (loop .row) _ _) at (c .before .before .before .count-half .ensures))
+          (sym (c .before .before .number .ensures .0) ∙ c .before .if1 .left),
       c .before .before .before .before .before .before .before .before .before .before .before .pre .1,
     )
 
@@ -84,7 +93,9 @@ loop-again : tie.Need-loop-again Inv-loop μ-loop
 loop-again c =
     let loop = c .before .before .before .before .before .before .before .loop in
     rw (c .place .ensures) (
-      counting-more _ _ _ _ (loop .inv .0) (c .before .before .before .before .before .before .loop-test .taken) (rw (part-of (loop .row) _ _) at (c .before .before .before .count-half .ensures)) (sym (c .before .before .number .ensures .0) ∙ c .before .if1 .left),
+      counting-more _ _ _ _ (loop .inv .0) (c .before .before .before .before .before .before .loop-test .taken)
+          (rw (part-of (loop .row) _ _) at (c .before .before .before .count-half .ensures))
+          (sym (c .before .before .number .ensures .0) ∙ c .before .if1 .left),
       omega arith,
     )
 

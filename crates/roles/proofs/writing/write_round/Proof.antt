@@ -27,13 +27,17 @@ write-half-requires : tie.Need-write-half-requires
 write-half-requires c κs = let s = c .before .before .before .before .before in first-fits _ _ _ _ _ (s .args .code .now) (halves s)
 
 write-half-requires-2 : tie.Need-write-half-requires-2
-write-half-requires-2 c κs = let s = c .before .before .before .before .before .before .before .before .before in second-fits _ _ _ _ _ (s .args .code .now) (halves s) (c .before .before .before .write-half .ensures)
+write-half-requires-2 c κs = let s = c .before .before .before .before .before .before .before .before .before in second-fits _ _ _ _ _
+    (s .args .code .now) (halves s) (c .before .before .before .write-half .ensures)
 
 inside : (c : tie.After-slice-known3) → c .before .before .write-half2 .result .end < length (c .before .before .write-half2 .last .1 .1 .1 .1 .1 .1 .0)
-inside c = let s = c .before .before .before .before .before .before .before .before .before .before .before .before in output-inside _ _ _ _ _ (s .args .code .now) (halves s) (c .before .before .before .before .before .before .write-half .ensures) (c .before .before .write-half2 .ensures)
+inside c = let s = c .before .before .before .before .before .before .before .before .before .before .before .before in output-inside _ _ _ _ _
+    (s .args .code .now) (halves s) (c .before .before .before .before .before .before .write-half .ensures) (c .before .before .write-half2 .ensures)
 
-long : (c : tie.After-slice-known3) → length (c .before .before .write-half2 .last .1 .1 .1 .1 .1 .1 .0) ≡ length (c .before .before .before .before .before .before .before .before .before .before .before .before .args .code .now)
-long c = let s = c .before .before .before .before .before .before .before .before .before .before .before .before in round-long _ _ _ _ _ (s .args .code .now) (halves s) (c .before .before .before .before .before .before .write-half .ensures) (c .before .before .write-half2 .ensures)
+long : (c : tie.After-slice-known3) → length (c .before .before .write-half2 .last .1 .1 .1 .1 .1 .1 .0) ≡ length
+    (c .before .before .before .before .before .before .before .before .before .before .before .before .args .code .now)
+long c = let s = c .before .before .before .before .before .before .before .before .before .before .before .before in round-long _ _ _ _ _
+    (s .args .code .now) (halves s) (c .before .before .before .before .before .before .write-half .ensures) (c .before .before .write-half2 .ensures)
 
 mul-code-2 : tie.Need-mul-code-2
 mul-code-2 c = omega (arith, inside c, long c, c .before .before .before .before .before .before .before .before .before .before .before .before .good .1 .1 .1 .1 .1 .1 .0 .1)
@@ -48,7 +52,8 @@ same-length : tie.Need-same-length
 same-length c = length-set (c .before .before .write-half2 .last .1 .1 .1 .1 .1 .1 .0) (c .before .before .write-half2 .result .end) outputWord ∙ long c
 
 returns : tie.Need-returns
-returns c = let s = c .before .before .before .before .before .before .before .before .before .before .before .before in round-left _ _ _ _ _ (s .args .code .now) (halves s) (c .before .before .before .before .before .before .write-half .ensures) (c .before .before .write-half2 .ensures)
+returns c = let s = c .before .before .before .before .before .before .before .before .before .before .before .before in round-left _ _ _ _ _
+    (s .args .code .now) (halves s) (c .before .before .before .before .before .before .write-half .ensures) (c .before .before .write-half2 .ensures)
 
 pub write-round-spec : {M : Type 1} → statement M
 write-round-spec =

@@ -18,7 +18,8 @@ Inv-loop rows counts kinds objects named ends₀ code₀ row₀ words₀ set-obj
 abbrev μ-loop : tie.MeasureT-loop
 μ-loop rows counts kinds objects named ends₀ code₀ row₀ words₀ set-objects₀ set-named₀ round₀ round-end ends code row words set-objects set-named round = round-end - round
 
-all : (s : tie.Start Inv-loop μ-loop) → AllCompiled (length (s .args .code .now)) (whole (s .args .kinds .now) (s .args .counts .now) (s .args .rows .now) (fromKnown (known (s .args .objects)) (known (s .args .named))))
+all : (s : tie.Start Inv-loop μ-loop) → AllCompiled (length (s .args .code .now))
+    (whole (s .args .kinds .now) (s .args .counts .now) (s .args .rows .now) (fromKnown (known (s .args .objects)) (known (s .args .named))))
 all s = all-compiled _ _ (s .pre .1)
 
 loop-holds : tie.Need-loop-holds Inv-loop μ-loop
@@ -54,7 +55,11 @@ add-end-2 c =
     omega (arith, ahead _ _ _ _ _ _ (all s .all) (all s .fits) (s .pre .0 .0) (c .before .before .before .loop .inv) (c .before .before .loop-test .taken) .next .rows-left, s .good .0 .1)
 
 mul-write-round : tie.Need-mul-write-round Inv-loop μ-loop
-mul-write-round c = omega (arith, rows-inside _ _ _ _ (c .before .before .before .loop .inv .reached) (shared-slice-read-middle (c .before)), c .before .before .before .before .before .before .before .before .before .good .0 .1)
+mul-write-round c = omega (
+  arith,
+  rows-inside _ _ _ _ (c .before .before .before .loop .inv .reached) (shared-slice-read-middle (c .before)),
+  c .before .before .before .before .before .before .before .before .before .good .0 .1,
+)
 
 sub-write-round : tie.Need-sub-write-round Inv-loop μ-loop
 sub-write-round c = omega arith
@@ -66,7 +71,12 @@ part-write-round-end : tie.Need-part-write-round-end Inv-loop μ-loop
 part-write-round-end c = rows-inside _ _ _ _ (c .before .before .before .loop .inv .reached) (shared-slice-read-middle (c .before))
 
 mul-write-round-2 : tie.Need-mul-write-round-2 Inv-loop μ-loop
-mul-write-round-2 c = omega (arith, rows-inside _ _ _ _ (c .before .before .before .before .loop .inv .reached) (shared-slice-read-middle (c .before .before)), c .before .before .before .before .before .before .before .before .before .before .good .0 .1)
+mul-write-round-2 c = omega (
+  arith,
+  rows-inside _ _ _ _ (c .before .before .before .before .loop .inv .reached)
+      (shared-slice-read-middle (c .before .before)),
+  c .before .before .before .before .before .before .before .before .before .before .good .0 .1,
+)
 
 sub-write-round-2 : tie.Need-sub-write-round-2 Inv-loop μ-loop
 sub-write-round-2 c = omega arith
@@ -83,7 +93,8 @@ write-round-requires : tie.Need-write-round-requires Inv-loop μ-loop
 write-round-requires c κs =
     let s = c .before .before .before .before .before .before .before .before .before .before .before .before in
     let loop = c .before .before .before .before .before .before .loop in
-    rw (part-of (loop .row) _ _, part-of (loop .row + _) _ _) (round-fits _ _ _ _ _ _ (all s .all) (all s .fits) (s .pre .0 .0) (loop .inv) (c .before .before .before .before .before .loop-test .taken))
+    rw (part-of (loop .row) _ _, part-of (loop .row + _) _ _) (round-fits _ _ _ _ _ _ (all s .all) (all s .fits) (s .pre .0 .0) (loop .inv)
+    (c .before .before .before .before .before .loop-test .taken))
 
 cast-ends : tie.Need-cast-ends Inv-loop μ-loop
 cast-ends c =
@@ -91,16 +102,26 @@ cast-ends c =
     let loop = c .before .before .before .before .before .before .before .before .before .loop in
     omega (
       arith,
-      end-small _ _ _ _ _ _ (all s .all) (all s .fits) (s .pre .0 .0) (loop .inv) (c .before .before .before .before .before .before .before .before .loop-test .taken) (rw (part-of (loop .row) _ _, part-of (loop .row + _) _ _) at (c .before .before .write-round .ensures)),
+      end-small _ _ _ _ _ _ (all s .all) (all s .fits) (s .pre .0 .0) (loop .inv)
+          (c .before .before .before .before .before .before .before .before .loop-test .taken)
+          (rw (part-of (loop .row) _ _, part-of (loop .row + _) _ _) at (c .before .before .write-round .ensures)),
       c .before .before .before .before .before .before .before .before .loop-test .taken,
       s .pre .0 .1,
     )
 
 mul-ends : tie.Need-mul-ends Inv-loop μ-loop
-mul-ends c = omega (arith, c .before .before .before .before .before .before .before .before .loop-test .taken, c .before .before .before .before .before .before .before .before .before .before .before .before .before .before .before .pre .0 .1)
+mul-ends c = omega (
+  arith,
+  c .before .before .before .before .before .before .before .before .loop-test .taken,
+  c .before .before .before .before .before .before .before .before .before .before .before .before .before .before .before .pre .0 .1,
+)
 
 slice-write-ends : tie.Need-slice-write-ends Inv-loop μ-loop
-slice-write-ends c = omega (arith, c .before .before .before .before .before .before .before .before .loop-test .taken, c .before .before .before .before .before .before .before .before .before .loop .inv .ends-long)
+slice-write-ends c = omega (
+  arith,
+  c .before .before .before .before .before .before .before .before .loop-test .taken,
+  c .before .before .before .before .before .before .before .before .before .loop .inv .ends-long,
+)
 
 add-round : tie.Need-add-round Inv-loop μ-loop
 add-round c = omega arith
@@ -112,7 +133,9 @@ loop-again : tie.Need-loop-again Inv-loop μ-loop
 loop-again c =
     let s = c .before .before .before .before .before .before .before .before .before .before .before .before .before .before .before in
     let loop = c .before .before .before .before .before .before .before .before .before .loop in
-    writing-more _ _ _ _ _ _ (all s .all) (all s .fits) (s .pre .0 .0) (loop .inv) (c .before .before .before .before .before .before .before .before .loop-test .taken) (rw (part-of (loop .row) _ _, part-of (loop .row + _) _ _) at (c .before .before .write-round .ensures))
+    writing-more _ _ _ _ _ _ (all s .all) (all s .fits) (s .pre .0 .0) (loop .inv)
+    (c .before .before .before .before .before .before .before .before .loop-test .taken)
+    (rw (part-of (loop .row) _ _, part-of (loop .row + _) _ _) at (c .before .before .write-round .ensures))
 
 same-length : tie.Need-same-length Inv-loop μ-loop
 same-length c = c .before .loop .inv .ends-long

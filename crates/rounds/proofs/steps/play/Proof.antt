@@ -57,10 +57,18 @@ part-steps-end : tie.Need-part-steps-end
 part-steps-end c = search needs
 
 steps-requires : tie.Need-steps-requires
-steps-requires c κs = let s = c .before .before .before .before .before .before .before .before .before .before .before .before .before .before .before in ready (passes s) (c .before .before .before .before .before .before .object-cells .ensures) (c .before .before .before .before .message-cells .ensures) (middle-part (words s)) (s .pre .1)
+steps-requires c κs = let s =
+    c .before .before .before .before .before .before .before .before .before .before .before .before .before .before .before in ready (passes s)
+    (c .before .before .before .before .before .before .object-cells .ensures) (c .before .before .before .before .message-cells .ensures)
+    (middle-part (words s)) (s .pre .1)
 
 in-round-requires : tie.Need-in-round-requires
-in-round-requires c κs = let s = c .before .before .before .before .before .before .before .before .before .before .before .before .before .before .before .before .before .before .before .before in place-small (x s) (words s) _ _ (c .before .before .before .before .before .before .before .before .before .before .before .object-cells .ensures) (c .before .before .before .before .before .before .before .before .before .message-cells .ensures) (middle-part (words s)) (c .before .before .before .before .steps .ensures .0) (passes s .within .words .1) (passes s .within .words .0)
+in-round-requires c κs = let s =
+    c .before .before .before .before .before .before .before .before .before .before .before .before .before .before .before .before .before .before .before .before
+    in place-small (x s) (words s) _ _
+    (c .before .before .before .before .before .before .before .before .before .before .before .object-cells .ensures)
+    (c .before .before .before .before .before .before .before .before .before .message-cells .ensures) (middle-part (words s))
+    (c .before .before .before .before .steps .ensures .0) (passes s .within .words .1) (passes s .within .words .0)
 
 number-requires : tie.Need-number-requires
 number-requires c κs = search needs
@@ -75,22 +83,41 @@ same-length-3 : tie.Need-same-length-3
 same-length-3 c = search needs
 
 returns : tie.Need-returns
-returns c = let s = c .before .before .before .before .before .before .before .before .before .before .before .before .before .before .before .before .before .before .before .before .before .before .before in round-stops (x s) (words s) _ _ (c .before .before .before .before .before .before .before .before .before .before .before .before .before .before .object-cells .ensures) (c .before .before .before .before .before .before .before .before .before .before .before .before .message-cells .ensures) (middle-part (words s)) (c .before .before .before .before .before .before .before .steps .ensures .0) (s .pre .0) (c .before .before .in-round .ensures) (λ e. c .if1 .taken (c .before .number .ensures .0 ∙ e))
+returns c = let s = c .before .before .before .before .before .before .before .before .before .before .before .before .before .before .before .before
+    .before .before .before .before .before .before .before in round-stops (x s) (words s) _ _
+    (c .before .before .before .before .before .before .before .before .before .before .before .before .before .before .object-cells .ensures)
+    (c .before .before .before .before .before .before .before .before .before .before .before .before .message-cells .ensures)
+    (middle-part (words s)) (c .before .before .before .before .before .before .before .steps .ensures .0) (s .pre .0)
+    (c .before .before .in-round .ensures) (λ e. c .if1 .taken (c .before .number .ensures .0 ∙ e))
 
 slice-aggregate-copy : tie.Need-slice-aggregate-copy
 slice-aggregate-copy c = search needs
 
 copy-requires : tie.Need-copy-requires
-copy-requires c κs = omega (arith, slice-aggregate-copy (c .before), passes (c .before .before .before .before .before .before .before .before .before .before .before .before .before .before .before .before .before .before .before .before .before .before .before .before .before) .valid .within .objects)
+copy-requires c κs = omega (
+  arith,
+  slice-aggregate-copy (c .before),
+  passes
+      (c .before .before .before .before .before .before .before .before .before .before .before .before .before .before .before .before .before .before
+      .before .before .before .before .before .before .before) .valid .within .objects,
+)
 
 slice-aggregate-copy-2 : tie.Need-slice-aggregate-copy-2
 slice-aggregate-copy-2 c = search needs
 
 copy-requires-2 : tie.Need-copy-requires-2
-copy-requires-2 c κs = omega (arith, slice-aggregate-copy-2 (c .before), passes (c .before .before .before .before .before .before .before .before .before .before .before .before .before .before .before .before .before .before .before .before .before .before .before .before .before .before .before .before .before .before) .valid .within .messages)
+copy-requires-2 c κs = omega (
+  arith,
+  slice-aggregate-copy-2 (c .before),
+  passes
+      (c .before .before .before .before .before .before .before .before .before .before .before .before .before .before .before .before .before .before
+      .before .before .before .before .before .before .before .before .before .before .before .before) .valid .within .messages,
+)
 
 session-after-requires : tie.Need-session-after-requires
-session-after-requires c κs = few-rounds (passes (c .before .before .before .before .before .before .before .before .before .before .before .before .before .before .before .before .before .before .before .before .before .before .before .before .before .before .before .before .before .before .before .before .before .before))
+session-after-requires c κs = few-rounds
+    (passes (c .before .before .before .before .before .before .before .before .before .before .before .before .before .before .before .before .before
+    .before .before .before .before .before .before .before .before .before .before .before .before .before .before .before .before .before))
 
 same-length-4 : tie.Need-same-length-4
 same-length-4 c = search needs
@@ -102,7 +129,22 @@ same-length-6 : tie.Need-same-length-6
 same-length-6 c = search needs
 
 returns-2 : tie.Need-returns-2
-returns-2 c = let s = c .before .before .before .before .before .before .before .before .before .before .before .before .before .before .before .before .before .before .before .before .before .before .before .before .before .before .before .before .before .before .before .before .before .before .before in round-sent (x s) (words s) _ _ (c .before .before .before .before .before .before .before .before .before .before .before .before .before .before .before .before .before .before .before .before .before .before .before .before .before .before .object-cells .ensures) (c .before .before .before .before .before .before .before .before .before .before .before .before .before .before .before .before .before .before .before .before .before .before .before .before .message-cells .ensures) (middle-part (words s)) (c .before .before .before .before .before .before .before .before .before .before .before .before .before .before .before .before .before .before .before .steps .ensures .0) (s .pre .0) (c .before .before .before .before .before .before .before .before .before .before .before .before .before .before .in-round .ensures) (passes s .within .words .0) (sym (c .before .before .before .before .before .before .before .before .before .before .before .before .before .number .ensures .0) ∙ c .before .before .before .before .before .before .before .before .before .before .before .before .if1 .left) (c .before .before .before .before .before .before .before .before .before .before .before .before .before .before .before .before .before .before .before .steps .ensures .1) (c .session-after .ensures) (c .before .before .before .before .before .before .before .before .before .copy .ensures) (c .before .before .before .before .copy2 .ensures)
+returns-2 c = let s =
+    c .before .before .before .before .before .before .before .before .before .before .before .before .before .before .before .before .before .before
+    .before .before .before .before .before .before .before .before .before .before .before .before .before .before .before .before .before in
+    round-sent (x s) (words s) _ _
+    (c .before .before .before .before .before .before .before .before .before .before .before .before .before .before .before .before .before .before
+    .before .before .before .before .before .before .before .before .object-cells .ensures)
+    (c .before .before .before .before .before .before .before .before .before .before .before .before .before .before .before .before .before .before
+    .before .before .before .before .before .before .message-cells .ensures) (middle-part (words s))
+    (c .before .before .before .before .before .before .before .before .before .before .before .before .before .before .before .before .before .before .before .steps .ensures .0)
+    (s .pre .0) (c .before .before .before .before .before .before .before .before .before .before .before .before .before .before .in-round .ensures)
+    (passes s .within .words .0)
+    (sym (c .before .before .before .before .before .before .before .before .before .before .before .before .before .number .ensures .0) ∙
+    c .before .before .before .before .before .before .before .before .before .before .before .before .if1 .left)
+    (c .before .before .before .before .before .before .before .before .before .before .before .before .before .before .before .before .before .before .before .steps .ensures .1)
+    (c .session-after .ensures) (c .before .before .before .before .before .before .before .before .before .copy .ensures)
+    (c .before .before .before .before .copy2 .ensures)
 
 pub play-spec : {M : Type 1} → statement M
 play-spec =

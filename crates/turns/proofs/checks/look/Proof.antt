@@ -84,7 +84,9 @@ record-fits-requires : tie.Need-record-fits-requires
 record-fits-requires c κs = search needs
 
 returns-2 : tie.Need-returns-2
-returns-2 c = let s = start (c .before .before .before .before .before .before) in found-store (x s) (words s) (fits (c .before .before .before .before .before)) (rows (c .before .before)) (rw (← counted (c .before .before .before .before .before .before)) (sym (c .before .record-fits .ensures) ∙ not-true _ (c .if2 .taken)))
+returns-2 c = let s = start (c .before .before .before .before .before .before) in found-store (x s) (words s)
+    (fits (c .before .before .before .before .before)) (rows (c .before .before))
+    (rw (← counted (c .before .before .before .before .before .before)) (sym (c .before .record-fits .ensures) ∙ not-true _ (c .if2 .taken)))
 
 first-bad-round-word-requires : tie.Need-first-bad-round-word-requires
 first-bad-round-word-requires c κs = omega (arith, long (c .before .before .before .before .before) .words .1)
@@ -99,13 +101,20 @@ turn-requires : tie.Need-turn-requires
 turn-requires c κs = search needs
 
 returns-3 : tie.Need-returns-3
-returns-3 c = let s = start (c .before .before .before .before .before) in found-term (x s) (words s) (fits (c .before .before .before .before)) (checked-bad (x s .terms) _ (c .before .before .before .first-bad-row .ensures) (c .before .checked .given .1))
+returns-3 c = let s = start (c .before .before .before .before .before) in found-term (x s) (words s) (fits (c .before .before .before .before))
+    (checked-bad (x s .terms) _ (c .before .before .before .first-bad-row .ensures) (c .before .checked .given .1))
 
 returns-4 : tie.Need-returns-4
-returns-4 c = let s = start (c .before .before .before .before .before .before .before .before .before .before) in found-word (x s) (words s) (fits (c .before .before .before .before .before .before .before .before .before)) (rows (c .before .before .before .before .before .before)) (holds (c .before .before .before .before)) (placed-at _ (c .before .before .before .first-bad-round-word .ensures) (c .before .place .given .1))
+returns-4 c = let s = start (c .before .before .before .before .before .before .before .before .before .before) in found-word (x s) (words s)
+    (fits (c .before .before .before .before .before .before .before .before .before)) (rows (c .before .before .before .before .before .before))
+    (holds (c .before .before .before .before)) (placed-at _ (c .before .before .before .first-bad-round-word .ensures) (c .before .place .given .1))
 
 returns-5 : tie.Need-returns-5
-returns-5 c = let s = start (c .before .before .before .before .before .before .before .before .before .before) in found-turn (x s) (words s) (fits (c .before .before .before .before .before .before .before .before .before)) (rows (c .before .before .before .before .before .before)) (holds (c .before .before .before .before)) (placed-nowhere _ (c .before .before .before .first-bad-round-word .ensures) (c .before .enum-told2 .given .1)) (counted (c .before .before .before .before .before .before .before .before .before .before)) (c .turn .ensures)
+returns-5 c = let s = start (c .before .before .before .before .before .before .before .before .before .before) in found-turn (x s) (words s)
+    (fits (c .before .before .before .before .before .before .before .before .before)) (rows (c .before .before .before .before .before .before))
+    (holds (c .before .before .before .before)) (placed-nowhere _ (c .before .before .before .first-bad-round-word .ensures)
+    (c .before .enum-told2 .given .1)) (counted (c .before .before .before .before .before .before .before .before .before .before))
+    (c .turn .ensures)
 
 pub look-spec : {M : Type 1} → statement M
 look-spec =

@@ -18,7 +18,8 @@ good-word-requires : tie.Need-good-word-requires
 good-word-requires c κs = search needs
 
 returns-3 : tie.Need-returns-3
-returns-3 c = let a = c .before .before .before .before .args in c .good-word .ensures ∙ good-between (kindIn (a .kinds .now)) (a .words) (a .place) (a .word) (c .before .before .if1 .left) (c .before .if2 .left)
+returns-3 c = let a = c .before .before .before .before .args in c .good-word .ensures ∙ good-between (kindIn (a .kinds .now)) (a .words) (a .place)
+    (a .word) (c .before .before .if1 .left) (c .before .if2 .left)
 
 pub good-round-word-spec : {M : Type 1} → statement M
 good-round-word-spec = tie.close (tie.spec returns add-if2 returns-2 good-word-requires returns-3)
