@@ -14,6 +14,7 @@ use Rattle.promises.proofs.Demand3.{demand-3}
 use Rattle.promises.proofs.Example.{example}
 use Rattle.promises.proofs.ForC.{for-c}
 use Rattle.promises.proofs.RoundLaws.{round-table}
+use Rattle.promises.proofs.RoleTable.{role-table}
 use Rattle.promises.proofs.Halves.{halves-in-turn}
 use Rattle.promises.proofs.Echo.{worked-echo}
 use Rattle.promises.proofs.ListingLaws.{listing-table}
@@ -34,6 +35,7 @@ promises = record {
   for-c = for-c;
   example = example;
   rounds = round-table;
+  roles = role-table;
   halves = halves-in-turn;
   echo = worked-echo;
   listings = listing-table;
