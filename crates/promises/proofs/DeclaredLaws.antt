@@ -1,13 +1,13 @@
--- Emission sets declared variables alone: what a word in range writes has a kind.
-use Prim.Native.Nat.{ℕ, suc, _+_, _<_}
+-- Emission sets declared variables alone, since what a word in range writes has a kind; and 3 says that no other is set.
+use Prim.Native.Nat.{ℕ, zero, suc, _+_, _<_}
 use mathlib.Core.Path.{_≡_, refl, _∙_, ap, subst}
-use mathlib.Core.Logic.{_≢_}
-use mathlib.Core.Bool.{Bool, true, false, cond}
+use mathlib.Core.Logic.{_↔_, _≢_}
+use mathlib.Core.Bool.{Bool, true, false, cond, not, _||_}
 use mathlib.Core.List.{List, [], _∷_, _++_}
 use lib.Dec.{T, eqb, ltb}
 use Rattle.word.specs.Lowest.{oneOf}
 use Rattle.word.proofs.All.{All}
-use Rattle.word.proofs.TestLaws.{both, equals}
+use Rattle.word.proofs.TestLaws.{both, equals, implied}
 use Rattle.numbers.specs.Limits.{variables}
 use Rattle.numbers.specs.declared.Object.{Object}
 use Rattle.answers.specs.declared.Compiled.{Compiled}
@@ -22,7 +22,18 @@ use Rattle.theory.specs.Uses.{Used, objectAt, messageAt, messagesAt, usesOf}
 use Rattle.theory.specs.Bounds.{InRange, AllInRange}
 use Rattle.theory.specs.Emission.{Env, Emitted, ok, refuse, behind, andThen, addObject, readable, occupied, addRaw, one, reading, writing, emit}
 use Rattle.theory.specs.Compilers.{compile↓, compile↓parts, compile↑, compile↑parts, compile↑K, creating, verifying}
-use Rattle.calls.specs.Compile.{tables}
+use Rattle.calls.specs.Compile.{tables, entry}
+use native.Mathlib.Omega.{arith}
+use lib.ListN.{length, getD}
+use Rattle.numbers.specs.Kinds.{kindIn}
+use Rattle.stores.specs.Cells.{unset}
+use Rattle.stores.specs.Valid.{kindsFit, eachVariable, undeclaredUnset, declared}
+use Rattle.stores.specs.ValidStores.{UndeclaredUnset}
+use Rattle.stores.proofs.ValidLaws.{undeclared-unset, each-variable}
+use Rattle.calls.specs.Half.{undeclaredUnknown, declaredKnown}
+use Rattle.promises.specs.Roles.{next}
+use native.Mathlib.Nat.{add-zero, zero-add}
+use Rattle.promises.proofs.RoundLaws.{unset-cell}
 
 -- a property of both parts of a list
 all-parts : {A : Type 0} (P : A → Type 0) (front back : List A) → All P (front ++ back) → All P front × All P back
@@ -50,7 +61,7 @@ raised e n = record { objects = e .objects; raws = e .raws; next = e .next + n }
 module _ (kind : ℕ → ℕ) where
   -- no undeclared variable is set
   abbrev pub OnlyDeclared : (ℕ → Bool) → Type 0
-  OnlyDeclared objects = (v : ℕ) → v < variables → kind v ≡ 0 → objects v ≡ false
+  OnlyDeclared objects = (v : ℕ) → v < variables → kind v ≡ 0 → T (not (objects v))
 
   -- so it stays, if the words are in range
   unfoldable KeepsT : (ℕ → Bool) → Emitted → Type 0
@@ -110,7 +121,7 @@ module _ (kind : ℕ → ℕ) where
   unfolding put
   put-declared objects v some d w inside none = go (eqb v w) refl
     where
-      go : (b : Bool) → eqb v w ≡ b → cond b true (objects w) ≡ false
+      go : (b : Bool) → eqb v w ≡ b → T (not (cond b true (objects w)))
       go true e = absurd (some (ap kind (equals v w .0 (rw e tt)) ∙ none))
       go false e = d w inside none
 
@@ -221,3 +232,42 @@ module _ (kind : ℕ → ℕ) where
       → OnlyDeclared (e .objects) → OnlyDeclared (e′ .objects)
   unfolding KeepsT
   sets-declared create p e e′ lines q r d = subst (Keeps (e .objects)) q (keeps create p e) .kept r d
+
+-- 3 over known cells and over cells: the kinds are known, and no undeclared variable is set
+undeclared-from : (n : ℕ) (kinds : List ℕ) (set : ℕ → Bool) → T (undeclaredUnknown n kinds set) ↔ ((v : ℕ) → v < length kinds → getD kinds v 0 ≡ 0 → T (not (set (n + v))))
+unfolding undeclaredUnknown
+undeclared-from n [] set = (λ _ v k. absurd (omega arith), λ _. tt)
+undeclared-from n (kind ∷ kinds) set =
+    let tests = both (not (eqb kind 0) || not (set n)) (undeclaredUnknown (suc n) kinds set) in
+    let here = implied (eqb kind 0) (not (set n)) in
+    let rest = undeclared-from (suc n) kinds set in (
+      λ t. let (h, r) = tests .0 t in each (λ e. here .0 h (equals kind 0 .1 e)) (rest .0 r),
+      λ all. tests .1 (here .1 λ t. rw add-zero at (all zero (omega arith) (equals kind 0 .0 t)), rest .1 λ v l e. later v (all (suc v) (omega arith) e)),
+    )
+  where
+    each : (kind ≡ 0 → T (not (set n))) → ((v : ℕ) → v < length kinds → getD kinds v 0 ≡ 0 → T (not (set (suc n + v))))
+        → (v : ℕ) → v < length (kind ∷ kinds) → getD (kind ∷ kinds) v 0 ≡ 0 → T (not (set (n + v)))
+    each h r zero l e = rw add-zero (h e)
+    each h r (suc v) l e = let same : n + suc v ≡ suc n + v = omega arith in rw same (r v (omega arith) e)
+
+    later : (v : ℕ) → T (not (set (n + suc v))) → T (not (set (suc n + v)))
+    later v t = let same : suc n + v ≡ n + suc v = omega arith in rw same t
+
+pub declared-known : (kinds : List ℕ) (set : ℕ → Bool) → length kinds ≡ variables → T (declaredKnown kinds set) ↔ (T (kindsFit kinds) × OnlyDeclared (kindIn kinds) set)
+unfolding declaredKnown
+declared-known kinds set k =
+    let tests = both (kindsFit kinds) (undeclaredUnknown 0 kinds set) in
+    let cells = undeclared-from 0 kinds set in (
+      λ t. let (f, u) = tests .0 t in (f, λ v inside none. rw zero-add at (cells .0 u v (omega (arith, k)) none)),
+      λ h. tests .1 (h .0, cells .1 λ v inside none. rw zero-add (h .1 v (omega (arith, k)) none)),
+    )
+
+pub declared-cells : (kinds objects named : List ℕ) → length kinds ≡ variables → length objects ≡ variables
+    → T (declared kinds objects) ↔ (T (kindsFit kinds) × OnlyDeclared (kindIn kinds) (entry objects named .objects))
+unfolding declared
+declared-cells kinds objects named k o =
+    let tests = both (kindsFit kinds) (eachVariable undeclaredUnset kinds objects) in
+    let cells = each-variable undeclaredUnset UndeclaredUnset undeclared-unset kinds objects in (
+      λ t. let (f, u) = tests .0 t in (f, λ v inside none. unset-cell (getD objects v unset) .1 (cells .0 u v (omega (arith, k)) (omega (arith, o)) none)),
+      λ h. tests .1 (h .0, cells .1 λ v inside _ none. unset-cell (getD objects v unset) .0 (h .1 v (omega (arith, k)) none)),
+    )

@@ -38,7 +38,7 @@ module _ (x : RoleLent) (n : ℕ) where
     HalfRefuses Limit = FewRows x n → ⊥
     HalfRefuses BadStore = FewRows x n × (Declared → ⊥)
     HalfRefuses (BadPattern row) = FewRows x n × Declared × BadPatternAt (rowsOfHalf x n) row
-    HalfRefuses (WrongKind row) = FewRows x n × Declared × GoodPattern (rowsOfHalf x n) × WrongKindAt (createsHalf x n) (x .kinds) (rowsOfHalf x n) row
+    HalfRefuses (WrongKind row) = FewRows x n × Declared × GoodPattern (rowsOfHalf x n) × WrongKindAt (createsHalf n) (x .kinds) (rowsOfHalf x n) row
     HalfRefuses (WrittenWhileSet row) = HalfChecked x n × (halfEmission x n set ≡ refuse (WrittenWhileSet row))
     HalfRefuses (ReadWhileUnset row) = HalfChecked x n × (halfEmission x n set ≡ refuse (ReadWhileUnset row))
     HalfRefuses (CodeTooShort words) = ⊥
@@ -53,7 +53,7 @@ module _ (x : RoleLent) (n : ℕ) (kinds-length : length (x .kinds) ≡ variable
   rows = rowsOfHalf x n
 
   abbrev create : Bool
-  create = createsHalf x n
+  create = createsHalf n
 
   few : T (knownFit (length rows) (length (x .kinds))) ↔ FewRows x n
   few = simp (both, equals, at-most) (λ h. h .0, λ f. (f, kinds-length))

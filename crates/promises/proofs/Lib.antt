@@ -28,6 +28,7 @@ pub mod RoundDecisionLaws
 pub mod RoleLaws
 pub mod DeclaredLaws
 pub mod HalfTable
+pub mod TurnLaws
 pub mod RoleTable
 pub mod Halves
 pub mod Echo

@@ -32,13 +32,14 @@ pub record RoleWithin (ends : List ℕ) (x : RoleLent) : Type 0 where
   pub one-end : length ends ≡ length (x .counts) / 2
   pub rows : sum (x .counts) ≡ length (x .rows)
 
+-- the even halves match, the odd ones create
+abbrev pub createsHalf : ℕ → Bool
+createsHalf n = eqb (n % 2) 1
+
 module _ (x : RoleLent) (n : ℕ) where
-  -- half n's own rows; the even halves match, the odd ones create
+  -- half n's own rows
   abbrev pub rowsOfHalf : List ℕ
   rowsOfHalf = getD (halfRows (x .counts) (x .rows)) n []
-
-  abbrev pub createsHalf : Bool
-  createsHalf = eqb (n % 2) 1
 
   -- not a half's own 1
   abbrev pub FewRows : Type 0
@@ -49,11 +50,11 @@ module _ (x : RoleLent) (n : ℕ) where
     pub few : FewRows
     pub declared : BadVariable (x .kinds) (x .objects) → ⊥
     pub rows : GoodPattern rowsOfHalf
-    pub right : RightPattern createsHalf (x .kinds) rowsOfHalf
+    pub right : RightPattern (createsHalf n) (x .kinds) rowsOfHalf
 
   -- 6 and 7: what figure 6 or figure 5 emits where these cells are set, or where it stops
   abbrev pub halfEmission : Env → Emitted
-  halfEmission set = tables createsHalf (kindIn (x .kinds)) (patternOf rowsOfHalf) set
+  halfEmission set = tables (createsHalf n) (kindIn (x .kinds)) (patternOf rowsOfHalf) set
 
 -- the halves before half n are compiled in turn, from the cells that are set on entry: these cells are set then, and they have so many words
 pub data Reached (x : RoleLent) : ℕ → Env → ℕ → Type 0 where
@@ -61,41 +62,43 @@ pub data Reached (x : RoleLent) : ℕ → Env → ℕ → Type 0 where
   next : {n words : ℕ} {set env : Env} {lines : List Line} → Reached x n set words → HalfChecked x n → halfEmission x n set ≡ ok lines env
       → Reached x (suc n) (again env) (words + length lines)
 
+-- it is half n's turn
+pub record HalfTurn (ends : List ℕ) (x : RoleLent) (n : ℕ) : Type 0 where
+  pub within : RoleWithin ends x
+  pub inside : n < length (x .counts)
+  pub set : Env
+  pub words : ℕ
+  pub reached : Reached x n set words
+
+-- all halves are compiled, and with the INPUT and OUTPUT of each round the role has so many words
+pub record WholeRole (ends : List ℕ) (x : RoleLent) (words : ℕ) : Type 0 where
+  pub within : RoleWithin ends x
+  pub set : Env
+  pub halves : ℕ
+  pub reached : Reached x (length (x .counts)) set halves
+  pub count : words ≡ halves + 2 * length ends
+
 module _ (ends slice : List ℕ) (x : RoleLent) where
   abbrev outcome : RoleOutcome
   outcome = role ends slice x
 
-  -- it is half n's turn
-  pub record HalfTurn (n : ℕ) : Type 0 where
-    pub within : RoleWithin ends x
-    pub inside : n < length (x .counts)
-    pub set : Env
-    pub words : ℕ
-    pub reached : Reached x n set words
+  abbrev Turn : ℕ → Type 0
+  Turn n = HalfTurn ends x n
 
-  -- all halves are compiled, and the role has so many words with each round's INPUT and OUTPUT
-  pub record WholeRole (words : ℕ) : Type 0 where
-    pub within : RoleWithin ends x
-    pub set : Env
-    pub between : ℕ
-    pub reached : Reached x (length (x .counts)) set between
-    pub count : words ≡ between + 2 * length ends
+  abbrev Bad : Type 0
+  Bad = BadVariable (x .kinds) (x .objects)
 
   pub record RoleTable : Type 0 where
-    pub limit : RoleAnswers outcome 1 0 0 ↔ ((RoleWithin ends x → ⊥) ⊎ (HalfTurn 0 × (FewRows x 0 → ⊥)))
-    pub half-limit : (n : ℕ) → RoleAnswers outcome 1 0 (suc n) ↔ (HalfTurn (suc n) × (FewRows x (suc n) → ⊥))
-    pub bad-store : RoleAnswers outcome 3 0 0 ↔ (HalfTurn 0 × FewRows x 0 × BadVariable (x .kinds) (x .objects))
-    pub bad-pattern : (row n : ℕ)
-        → RoleAnswers outcome 4 row n ↔ (HalfTurn n × FewRows x n × (BadVariable (x .kinds) (x .objects) → ⊥) × BadPatternAt (rowsOfHalf x n) row)
+    pub limit : RoleAnswers outcome 1 0 0 ↔ ((RoleWithin ends x → ⊥) ⊎ (Turn 0 × (FewRows x 0 → ⊥)))
+    pub half-limit : (n : ℕ) → RoleAnswers outcome 1 0 (suc n) ↔ (Turn (suc n) × (FewRows x (suc n) → ⊥))
+    pub bad-store : RoleAnswers outcome 3 0 0 ↔ (Turn 0 × FewRows x 0 × Bad)
+    pub bad-pattern : (row n : ℕ) → RoleAnswers outcome 4 row n ↔ (Turn n × FewRows x n × (Bad → ⊥) × BadPatternAt (rowsOfHalf x n) row)
     pub wrong-kind : (row n : ℕ)
-        → RoleAnswers outcome 5 row n
-        ↔ (HalfTurn n × FewRows x n × (BadVariable (x .kinds) (x .objects) → ⊥) × GoodPattern (rowsOfHalf x n) × WrongKindAt (createsHalf x n) (x .kinds) (rowsOfHalf x n) row)
-    pub written-while-set : (row n : ℕ)
-        → RoleAnswers outcome 6 row n ↔ ((turn : HalfTurn n) × HalfChecked x n × (halfEmission x n (turn .set) ≡ refuse (WrittenWhileSet row)))
-    pub read-while-unset : (row n : ℕ)
-        → RoleAnswers outcome 7 row n ↔ ((turn : HalfTurn n) × HalfChecked x n × (halfEmission x n (turn .set) ≡ refuse (ReadWhileUnset row)))
-    pub too-short : (words : ℕ) → RoleAnswers outcome 8 words 0 ↔ (WholeRole words × (length slice < words))
-    pub done : (words : ℕ) → RoleAnswers outcome 0 words 0 ↔ (WholeRole words × (words ≤ length slice))
+        → RoleAnswers outcome 5 row n ↔ (Turn n × FewRows x n × (Bad → ⊥) × GoodPattern (rowsOfHalf x n) × WrongKindAt (createsHalf n) (x .kinds) (rowsOfHalf x n) row)
+    pub written-while-set : (row n : ℕ) → RoleAnswers outcome 6 row n ↔ ((turn : Turn n) × HalfChecked x n × (halfEmission x n (turn .set) ≡ refuse (WrittenWhileSet row)))
+    pub read-while-unset : (row n : ℕ) → RoleAnswers outcome 7 row n ↔ ((turn : Turn n) × HalfChecked x n × (halfEmission x n (turn .set) ≡ refuse (ReadWhileUnset row)))
+    pub too-short : (words : ℕ) → RoleAnswers outcome 8 words 0 ↔ (WholeRole ends x words × (length slice < words))
+    pub done : (words : ℕ) → RoleAnswers outcome 0 words 0 ↔ (WholeRole ends x words × (words ≤ length slice))
     -- 0, 3 and 8 are of no half
     pub no-half : (compiledNumber (outcome .answer) ≡ 0) ⊎ (compiledNumber (outcome .answer) ≡ 3) ⊎ (compiledNumber (outcome .answer) ≡ 8) → outcome .half ≡ 0
     pub left : compiledNumber (outcome .answer) ≢ 0 → (outcome .ends ≡ ends) × (outcome .code ≡ slice)
