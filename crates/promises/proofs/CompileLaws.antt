@@ -151,7 +151,7 @@ abbrev pub compiledOf : ℕ → ℕ → Compiled
 compiledOf number place =
     getD (Done place ∷ Limit ∷ Limit ∷ BadStore ∷ BadPattern place ∷ WrongKind place ∷ WrittenWhileSet place ∷ ReadWhileUnset place ∷ CodeTooShort place ∷ []) number Limit
 
-compiled-back : (answer : Compiled) → compiledOf (compiledNumber answer) (compiledPlace answer) ≡ answer
+pub compiled-back : (answer : Compiled) → compiledOf (compiledNumber answer) (compiledPlace answer) ≡ answer
 compiled-back (Done words) = refl
 compiled-back Limit = refl
 compiled-back BadStore = refl

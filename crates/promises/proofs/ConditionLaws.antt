@@ -9,7 +9,7 @@ use lib.Dec.{T, eqb, leb}
 use lib.ListN.{length, getD}
 use Rattle.word.specs.Lowest.{each}
 use Rattle.word.proofs.All.{all-at}
-use Rattle.word.proofs.TestLaws.{equals, at-most}
+use Rattle.word.proofs.TestLaws.{stable, equals, at-most}
 use Rattle.stores.specs.Cells.{unset}
 use Rattle.stores.specs.Valid.{kindsFit, eachVariable, undeclaredUnset, declared}
 use Rattle.stores.proofs.ValidLaws.{declared-stores}
@@ -72,3 +72,8 @@ bad-variable kinds objects k o = (find (kindsFit kinds) refl, refute)
           | inl over ↦ let low = all-at (λ kind. kind ≤ 10) kinds 0 (d .known) (b .variable) (omega (arith, k, b .inside)) in omega arith
           | inr set ↦ set .1 (d .undeclared (b .variable) (omega (arith, k, b .inside)) (omega (arith, o, b .inside)) (set .0))
         ]
+
+pub no-bad-variable : (kinds objects : List ℕ) → length kinds ≡ variables → length objects ≡ variables → T (declared kinds objects) ↔ (BadVariable kinds objects → ⊥)
+no-bad-variable kinds objects k o =
+    let bad = bad-variable kinds objects k o in
+    (λ t b. bad .1 b t, λ n. stable (declared kinds objects) λ m. n (bad .0 m))

@@ -26,6 +26,10 @@ pub mod RoundLaws
 pub mod HalvesLaws
 pub mod RoundDecisionLaws
 pub mod RoleLaws
+pub mod DeclaredLaws
+pub mod HalfTable
+pub mod TurnLaws
+pub mod RoleTable
 pub mod Halves
 pub mod Echo
 pub mod ListingLaws

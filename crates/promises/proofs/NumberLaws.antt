@@ -6,7 +6,6 @@ use mathlib.Core.Bool.{Bool}
 use mathlib.Core.List.{List}
 use native.Mathlib.Omega.{arith}
 use lib.Dec.{T}
-use Rattle.word.proofs.TestLaws.{stable}
 use Rattle.answers.specs.Numbers.{compiledNumber, compiledPlace, reasonNumber, reasonOf, ranNumber, ranPlace, ranReason}
 use Rattle.answers.specs.declared.Reason.{Reason}
 use Rattle.answers.specs.declared.Reason.the-variants as Reasons
@@ -33,12 +32,12 @@ use Rattle.promises.specs.Demand1.{CompileTable, RunTable}
 use Rattle.promises.proofs.StepLaws.{reason-back, exec-reasoned}
 use Rattle.promises.proofs.RunLaws.{RunGives, ranOf, answered, answered-stuck, gives-run, run-unchanged}
 use Rattle.promises.proofs.WalkLaws.{after-all, at-stuck, at-room}
-use Rattle.promises.proofs.ConditionLaws.{bad-variable}
+use Rattle.promises.proofs.ConditionLaws.{bad-variable, no-bad-variable}
 use Rattle.promises.proofs.CompileLaws.{CompileGives, compiledOf, compile-answered, gives-compile, compile-unchanged}
 use Rattle.promises.proofs.TableLaws.{done-after, stuck-there, room-there}
 
 -- the numbers that come back
-compiled-range : (answer : Compiled) → (compiledNumber answer ≤ 8) × (compiledNumber answer ≢ 2)
+pub compiled-range : (answer : Compiled) → (compiledNumber answer ≤ 8) × (compiledNumber answer ≢ 2)
 compiled-range (Compiled.Done words) = omega arith
 compiled-range Compiled.Limit = omega arith
 compiled-range Compiled.BadStore = omega arith
@@ -97,9 +96,7 @@ module _ (create : Bool) (pattern kinds objects named slice : List ℕ) where
 
   -- 3
   no-bad : CompileWithin pattern kinds objects named → T (declared kinds objects) ↔ (BadVariable kinds objects → ⊥)
-  no-bad w =
-      let bad = bad-variable kinds objects (w .kinds-length) (w .objects-length) in
-      (λ t b. bad .1 b t, λ n. stable (declared kinds objects) λ m. n (bad .0 m))
+  no-bad w = no-bad-variable kinds objects (w .kinds-length) (w .objects-length)
 
   checked : Checked create pattern kinds objects named ↔ CompileChecked create pattern kinds objects named
   checked = (

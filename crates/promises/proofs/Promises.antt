@@ -13,6 +13,7 @@ use Rattle.promises.proofs.Demand3.{demand-3}
 use Rattle.promises.proofs.Example.{example}
 use Rattle.promises.proofs.ForC.{for-c}
 use Rattle.promises.proofs.RoundLaws.{round-table}
+use Rattle.promises.proofs.RoleTable.{role-table}
 use Rattle.promises.proofs.Halves.{halves-in-turn}
 use Rattle.promises.proofs.Echo.{worked-echo}
 use Rattle.promises.proofs.RoundsForC.{rounds-for-c}
@@ -33,6 +34,7 @@ promises = record {
   for-c = for-c;
   example = example;
   rounds = round-table;
+  roles = role-table;
   halves = halves-in-turn;
   echo = worked-echo;
   rounds-for-c = rounds-for-c;

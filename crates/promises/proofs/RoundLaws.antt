@@ -43,7 +43,7 @@ use Rattle.stores.proofs.ValidLaws.{unset-or-used}
 set-cell : (cell : ℕ) → T (isSet cell) ↔ (cell ≢ unset)
 set-cell cell = (λ t e. fails (eqb cell unset) .0 t (equals cell unset .1 e), λ n. fails (eqb cell unset) .1 λ t. n (equals cell unset .0 t))
 
-unset-cell : (cell : ℕ) → T (not (isSet cell)) ↔ (cell ≡ unset)
+pub unset-cell : (cell : ℕ) → T (not (isSet cell)) ↔ (cell ≡ unset)
 unset-cell cell = (λ t. equals cell unset .0 (twice (eqb cell unset) .0 t), λ e. twice (eqb cell unset) .1 (equals cell unset .1 e))
 
 module _ (x : RoundLent) (code : List ℕ) where

@@ -14,6 +14,7 @@ pub mod Demand2
 pub mod Demand1
 pub mod Rounds
 pub mod Halves
+pub mod Roles
 pub mod Echo
 pub mod Listing
 pub mod Example

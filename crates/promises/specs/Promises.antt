@@ -18,6 +18,8 @@ use Rattle.promises.specs.Example.{Example}
 use Rattle.promises.specs.ForC.{ForC}
 use Rattle.calls.specs.Round.{RoundLent}
 use Rattle.promises.specs.Rounds.{RoundTable}
+use Rattle.calls.specs.Role.{RoleLent}
+use Rattle.promises.specs.Roles.{RoleTable}
 use Rattle.promises.specs.Halves.{HalvesInTurn}
 use Rattle.promises.specs.Echo.{Echo}
 use Rattle.promises.specs.RoundsForC.{RoundsForC}
@@ -42,6 +44,8 @@ pub record Promises : Type 0 where
   pub example : Example
   -- every number of a round exactly where its condition holds, and nothing changed by any answer but 0
   pub rounds : (x : RoundLent) (code : List ℕ) → RoundTable x code
+  -- every number of compiling a role exactly where its condition holds, half after half
+  pub roles : (ends slice : List ℕ) (x : RoleLent) → RoleTable ends slice x
   -- a round is one half after the other, finished exactly where figure 2 and then figure 3 lead somewhere, and a role compiled once serves every round
   pub halves : HalvesInTurn
   -- its premises met by a round that sends a nonce back
