@@ -112,11 +112,10 @@ unfolding roundsOf
 few-rounds k [] even all = tt
 few-rounds zero (match ∷ halves) even all = absurd (omega arith)
 few-rounds (suc k) (match ∷ []) even all = tt
-few-rounds (suc k) (match ∷ create ∷ halves) even all =
-    (
-    omega (arith, all .0, all .1 .0, length-append (match ++ create) (outputWord ∷ []), length-append match create),
-    few-rounds k halves (omega arith) (all .1 .1),
-    )
+few-rounds (suc k) (match ∷ create ∷ halves) even all = (
+  omega (arith, all .0, all .1 .0, length-append (match ++ create) (outputWord ∷ []), length-append match create),
+  few-rounds k halves (omega arith) (all .1 .1),
+)
 
 words-few : (halves : List (List ℕ)) → All (λ words. length words ≤ 767) halves → length (inTurn halves) ≤ 767 * length halves
 unfolding inTurn
