@@ -19,9 +19,9 @@ use Rattle.stores.specs.Valid.{kindsFit, eachVariable, undeclaredUnset, declare
 use Rattle.patterns.specs.Rules.{badPattern}
 use Rattle.patterns.specs.Kinds.{wrongKind}
 use Rattle.theory.specs.Machine.{Line}
-use Rattle.theory.specs.Emission.{Env, Emitted, ok, refuse}
+use Rattle.theory.specs.Emission.{Env, ok, refuse}
 use Rattle.theory.specs.Bounds.{InLimits}
-use Rattle.calls.specs.Compile.{entry, codeWords, CompileOutcome, finished, lengthsFit, refusals, compileBy, compile}
+use Rattle.calls.specs.Compile.{entry, codeWords, finished, lengthsFit, refusals, compileBy, compile}
 use Rattle.calls.specs.Half.{undeclaredUnknown, declaredKnown, knownFit, knownRefusals, knownEmitted, halfBy, half}
 use Rattle.calls.proofs.CompileLaws.{NotDone, refusal-not-done, first-none, first-nothing, first-some, when-none, when-some, map-none, map-some}
 use Rattle.calls.proofs.Product.{Given, given, given-refuses, given-limits}

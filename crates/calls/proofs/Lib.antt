@@ -5,6 +5,8 @@ pub mod FrameLaws
 pub mod SetCells
 pub mod CompiledWords
 pub mod HalfLaws
+pub mod RoleLaws
+pub mod EndsLaws
 pub mod Product
 pub mod RunLaws
 pub mod ValidLent

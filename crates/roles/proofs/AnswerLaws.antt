@@ -13,14 +13,14 @@ use Rattle.answers.specs.Numbers.{compiledNumber, compiledPlace}
 use Rattle.answers.specs.declared.Compiled.{Compiled}
 use Rattle.answers.specs.declared.Compiled.the-variants.{Done, Limit, CodeTooShort}
 use Rattle.stores.specs.Cells.{isSet, unset}
-use Rattle.calls.specs.Role.{RoleLent, Halves, compiled, refusedIn, roundsOf, inTurn, endsFrom, sum, roleRefused, roleBy, roleFits, halvesOf, role, roundStart, isRound, roundPart, roundPlace}
+use Rattle.calls.specs.Role.{RoleLent, Halves, compiled, refusedIn, roundsOf, inTurn, endsFrom, sum, roleRefused, roleBy, roleFits, role, roundStart, isRound, roundPart, roundPlace}
 use Rattle.knowing.specs.Known.{known}
 use Rattle.compiler.specs.CompileKnown.{fromKnown}
 use Rattle.compiler.proofs.OverCells.{not-done}
 use Rattle.roles.specs.declared.RoleCompiled.{RoleCompiled}
 use Rattle.roles.specs.Counted.{countedBy}
 use Rattle.roles.specs.Written.{RoundsFit, roundsIn}
-use Rattle.roles.proofs.RoleLaws.{whole, halves-refused}
+use Rattle.calls.proofs.RoleLaws.{whole, halves-refused}
 
 -- the lengths of a role
 abbrev roleLengths : ℕ → ℕ → ℕ → ℕ → ℕ → Bool

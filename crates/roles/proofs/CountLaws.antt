@@ -1,13 +1,11 @@
 -- A role's words are counted half after half.
 use mathlib.Core.Path.{_≡_, refl, sym, _∙_, ap}
-use mathlib.Core.Bool.{Bool, true, false, not, _&&_}
+use mathlib.Core.Bool.{Bool, false, not}
 use mathlib.Core.List.{List, [], _∷_, _++_}
-use Prim.Native.Nat.{ℕ, suc, _+_, _-_, _*_, _/_, _%_, _<_, _≤_}
+use Prim.Native.Nat.{ℕ, _+_, _-_, _*_, _/_, _%_, _<_, _≤_}
 use native.Mathlib.Numerals.{add-one}
 use native.Mathlib.Omega.{arith}
-use lib.Dec.{T, eqb, leb}
 use lib.ListN.{length, getD, take, drop, length-append, drop-of-length-le}
-use Rattle.word.proofs.TestLaws.{both, equals, at-most}
 use Rattle.answers.specs.Numbers.{compiledNumber, compiledPlace}
 use Rattle.answers.specs.declared.Compiled.{Compiled}
 use Rattle.answers.specs.declared.Compiled.the-variants.{Done}
@@ -20,7 +18,7 @@ use Rattle.calls.proofs.HalfLaws.{half-refuses, half-words}
 use Rattle.compiler.specs.CompileKnown.{KnownOutcome, fromKnown, knownFinished, compileKnown}
 use Rattle.compiler.proofs.OverCells.{not-done}
 use Rattle.roles.specs.Counted.{HalfCounted, halfCounted, countedBy}
-use Rattle.roles.proofs.RoleLaws.{turn-append, turn-one, rounds-words, sum-drop, whole, Reached, reached-none, reached-refused, reached-more, reached-all}
+use Rattle.calls.proofs.RoleLaws.{turn-append, turn-one, rounds-words, sum-drop, whole, Reached, reached-none, reached-refused, reached-more, reached-all}
 
 -- the sum of the counts so far and of those that are left
 pub record Summed (counts : List ℕ) (half rows : ℕ) : Type 0 where

@@ -1,5 +1,4 @@
 -- Laws of a role's halves in turn.
-pub mod RoleLaws
 pub mod RoundLaws
 pub mod CountLaws
 pub mod WriteLaws

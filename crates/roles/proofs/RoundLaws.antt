@@ -14,7 +14,7 @@ use Rattle.calls.specs.Half.{half}
 use Rattle.calls.specs.Frame.{framed}
 use Rattle.calls.specs.Role.{compiled, again, roundsOf, inTurn}
 use Rattle.roles.specs.Written.{roundEmitted}
-use Rattle.roles.proofs.RoleLaws.{after-compiled, refused-compiled, turn-append, turn-one, rounds-append, rounds-two, whole, Reached, reached-refused, reached-more}
+use Rattle.calls.proofs.RoleLaws.{after-compiled, refused-compiled, turn-append, turn-one, rounds-append, rounds-two, whole, Reached, reached-refused, reached-more}
 
 -- lines of both halves
 pub words-append : (a b : List Line) → codeWords (a ++ b) ≡ codeWords a ++ codeWords b

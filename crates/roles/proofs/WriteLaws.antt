@@ -3,12 +3,12 @@ use mathlib.Core.Path.{_≡_, refl, sym, _∙_, ap, subst}
 use mathlib.Core.Bool.{Bool, true, false}
 use mathlib.Core.List.{List, [], _∷_, _++_, append-nil, append-assoc}
 use Prim.Native.Nat.{ℕ, suc, _+_, _-_, _*_, _<_, _≤_}
-use native.Mathlib.Nat.{add-zero}
 use native.Mathlib.Numerals.{add-one}
 use native.Mathlib.Omega.{arith}
 use borrow.Rule.Slice.PartMut.{putMid}
 use lib.ListN.{length, getD, set, take, drop, length-append, length-drop, length-set, drop-of-length-le}
 use lib.Seq.{length-take-le, sets, sets-eq, length-sets, drop-drop, drop-append-add, take-append-seam, drop-cons, set-at}
+use Rattle.word.proofs.ByteLaws.{sets-append}
 use Rattle.answers.specs.Numbers.{compiledPlace}
 use Rattle.answers.specs.declared.Compiled.{Compiled}
 use Rattle.theory.specs.Machine.{Line}
@@ -19,7 +19,7 @@ use Rattle.calls.specs.Frame.{inputWord, outputWord, framed}
 use Rattle.calls.specs.Role.{Halves, compiled, refusedIn, again, roundsOf, inTurn, endsFrom, sum}
 use Rattle.compiler.specs.CompileKnown.{KnownOutcome, fromKnown, knownFinished}
 use Rattle.roles.specs.Written.{roundEmitted, CodeFits, CodeLeft, codeLeft, RoundsFit, roundsIn}
-use Rattle.roles.proofs.RoleLaws.{turn-append, turn-one, rounds-words, rounds-length, ends-more, ends-length, whole, Reached, reached-none, reached-all}
+use Rattle.calls.proofs.RoleLaws.{turn-append, turn-one, rounds-words, rounds-length, ends-more, ends-length, whole, Reached, reached-none, reached-all}
 use Rattle.roles.proofs.RoundLaws.{words-append, round-ok, RoundAhead, round-ahead}
 
 -- words written as a part, and in two parts
@@ -44,10 +44,6 @@ part-copied place count buffer code enough fits =
           rw (e, drop-of-length-le (take (place + count - place) (drop place code)) {i = length (take count buffer)} (omega (arith, words, part)), append-nil (take count buffer))
           (part-written place (place + count - place) code (take count buffer) (omega (arith, words)) (omega (arith, words)));
     }
-
-sets-append : (code : List ℕ) (place : ℕ) (a b : List ℕ) → sets code place (a ++ b) ≡ sets (sets code place a) (place + length a) b
-sets-append code place [] b = rw (add-zero place)
-sets-append code place (word ∷ a) b = let e : place + suc (length a) ≡ suc place + length a = omega arith in rw e (sets-append (set code place word) (suc place) a b)
 
 -- words behind those in front
 pub front-more : (front words before : List ℕ) {code : List ℕ} → length front + length words ≤ length before → code ≡ front ++ drop (length front) before

@@ -9,9 +9,9 @@ use checks::role_fits;
 use counting::count_words;
 use writing::write_rounds;
 
-mod checks;
-mod counting;
-mod writing;
+pub mod checks;
+pub mod counting;
+pub mod writing;
 
 // A role's answer, and the half that refuses.
 pub struct RoleCompiled {

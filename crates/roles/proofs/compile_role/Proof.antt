@@ -1,12 +1,11 @@
 -- The call's own checks, the halves counted, the room, the rounds written.
-use Prim.Native.Nat.{_≤_}
 use mathlib.Core.Path.{_≡_, sym, _∙_}
 use mathlib.Core.Bool.{true}
 use native.Mathlib.Omega.{arith}
 use lib.ListN.{length}
 use borrow.Author.Needs.{needs}
 use borrow.Author.Tests.{not-true, not-false}
-use Rattle.answers.specs.Numbers.{compiledNumber, compiledPlace}
+use Rattle.answers.specs.Numbers.{compiledNumber}
 use Rattle.calls.specs.Role.{RoleLent, sum, roleFits}
 use Rattle.roles.proofs.AnswerLaws.{RoleWithin, role-limit, fits-within, fits-sum, role-refused, role-short, role-fit, role-done}
 use Rattle.roles.proofs.compile_role.Statement.{statement}

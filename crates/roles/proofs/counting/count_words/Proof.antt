@@ -6,7 +6,7 @@ use lib.ListN.{length}
 use borrow.Author.Needs.{needs}
 use Rattle.knowing.specs.Known.{known}
 use Rattle.compiler.specs.CompileKnown.{fromKnown}
-use Rattle.roles.proofs.RoleLaws.{rows-inside}
+use Rattle.calls.proofs.RoleLaws.{rows-inside}
 use Rattle.roles.proofs.CountLaws.{part-of, Counting, counting-none, counting-small, counting-few, counting-more, counting-refused, counting-all}
 use Rattle.roles.proofs.counting.count_words.Statement.{statement}
 use Rattle.roles.proofs.counting.count_words.Tie as tie

@@ -1,11 +1,11 @@
 -- The rounds so far stand in front of the slice, and their ends in front of the other.
-use Prim.Native.Nat.{ℕ, _-_, _+_, _*_, _<_}
-use mathlib.Core.Path.{_≡_, refl}
+use Prim.Native.Nat.{_-_, _+_, _*_}
+use mathlib.Core.Path.{refl}
 use native.Mathlib.Omega.{arith}
 use lib.ListN.{length}
 use Rattle.knowing.specs.Known.{known}
 use Rattle.compiler.specs.CompileKnown.{fromKnown}
-use Rattle.roles.proofs.RoleLaws.{whole, rows-inside}
+use Rattle.calls.proofs.RoleLaws.{whole, rows-inside}
 use Rattle.roles.proofs.CountLaws.{part-of}
 use Rattle.roles.proofs.WriteLaws.{AllCompiled, all-compiled, Writing, writing-none, ahead, round-fits, end-small, writing-more, writing-all}
 use Rattle.roles.proofs.writing.write_rounds.Statement.{statement}
