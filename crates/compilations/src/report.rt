@@ -8,7 +8,7 @@ use reports::Stores;
 use reports::number;
 
 // The named ones of all message cells.
-fn named(messages: &[u16]) -> &[u16] {
+pub fn named(messages: &[u16]) -> &[u16] {
     if 64 <= messages.len() {
         &messages[..64]
     } else {
@@ -43,7 +43,7 @@ pub fn compiled(name: &[u8], create: bool, pattern: &[u64], stores: Stores, lent
 }
 
 // The rows of a pattern, of all that there is room for.
-fn first(rows: &[u64], count: usize) -> &[u64] {
+pub fn first(rows: &[u64], count: usize) -> &[u64] {
     if count <= rows.len() {
         &rows[..count]
     } else {
