@@ -53,8 +53,8 @@ pub fn certified(key: u8, agent: u8) -> Key {
     }
 }
 
-// The longest pattern of a case has six rows, and a role of three rounds thirteen.
-const ROOM: usize = 16;
+// The longest pattern of a case has six rows.
+const ROOM: usize = 8;
 
 pub struct Pattern {
     pub rows: [u64; ROOM],

@@ -43,7 +43,7 @@ pub fn compiled(name: &[u8], create: bool, pattern: &[u64], stores: Stores, lent
 }
 
 // The rows of a pattern, of all that there is room for.
-pub fn first(rows: &[u64], count: usize) -> &[u64] {
+fn first(rows: &[u64], count: usize) -> &[u64] {
     if count <= rows.len() {
         &rows[..count]
     } else {

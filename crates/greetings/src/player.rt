@@ -1,10 +1,9 @@
 // A role that is compiled, and its rounds, each with its line.
+use crate::written::HALF_ROWS;
 use crate::written::ROOM;
 use crate::written::certificates;
 use answers::Rounded;
 use answers::Session;
-use compilations::Pattern;
-use compilations::report::first;
 use compilations::report::named;
 use libc::STDOUT_FILENO;
 use reports::Stores;
@@ -46,15 +45,14 @@ struct Ended {
 }
 
 // The halves with the rows of each; no message waits yet.
-pub fn compile(name: &[u8], halves: Pattern, counts: &[u8], stores: Stores) -> Player {
-    let rows = halves.rows;
+pub fn compile(name: &[u8], halves: [u64; HALF_ROWS], counts: &[u8], stores: Stores) -> Player {
     let kinds = stores.kinds;
     let objects = stores.objects;
     let messages = stores.messages;
     let mut ends = [0u16; ROUNDS];
     let mut code = [0u32; WORDS];
     let compiled = roles::compile_role(
-        first(&rows, halves.count),
+        &halves,
         counts,
         &kinds,
         &objects,

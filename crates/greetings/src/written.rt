@@ -1,8 +1,4 @@
 // The two roles as they are written, and what they leave.
-use compilations::Pattern;
-use compilations::certified;
-use compilations::plain;
-use compilations::rows;
 use numbers::kinds::AGENT;
 use numbers::kinds::BYTE;
 use numbers::kinds::ENCRYPTION;
@@ -43,40 +39,55 @@ pub fn certificates() -> [u64; 2] {
     [0x0000_0300_0000_0000, 0x0010_0500_0000_0000]
 }
 
-// a2; e5:E(k4:keyOf(a2), t6:[a0, n3]); e7:E(K1, t8:[n3, n9]); e10:E(k4, n9); c11:1; a0
-pub fn initiator_halves() -> Pattern {
-    let first = rows().object(2)
-        .object(0)
-        .object(3)
-        .tuple(6, 2, 0, 1, 0, 0)
-        .encryption(5, certified(4, 2), 2);
-    first
-        .object(3)
-        .object(9)
-        .tuple(8, 2, 0, 1, 0, 0)
-        .encryption(7, plain(1), 2)
-        .object(9)
-        .encryption(10, plain(4), 0)
-        .constant(11, 1)
-        .object(0)
+// Pattern rows of all halves, half after half.
+pub const HALF_ROWS: usize = 13;
+
+pub fn initiator_halves() -> [u64; HALF_ROWS] {
+    [
+        // a2
+        0x0080_0000_0000_0000,
+        // e5:E(k4:keyOf(a2), t6:[a0, n3])
+        0x0000_0000_0000_0000,
+        0x00C0_0000_0000_0000,
+        0x8180_0000_4000_8000,
+        0x5160_4080_2080_0000,
+        // e7:E(K1, t8:[n3, n9])
+        0x00C0_0000_0000_0000,
+        0x0240_0000_0000_0000,
+        0x8200_0000_4000_8000,
+        0x51C0_1000_2080_0000,
+        // e10:E(k4, n9)
+        0x0240_0000_0000_0000,
+        0x5280_4000_2000_0000,
+        // c11:1
+        0x22C0_1000_0000_0000,
+        // a0
+        0x0000_0000_0000_0000,
+    ]
 }
 
-// e0:E(K1, t2:[a3, n4]); e5:E(k6:keyOf(a3), t7:[n4, n8]); e9:E(K1, n8); c10:1; a3; c10
-pub fn responder_halves() -> Pattern {
-    let first = rows().object(3)
-        .object(4)
-        .tuple(2, 2, 0, 1, 0, 0)
-        .encryption(0, plain(1), 2);
-    first
-        .object(4)
-        .object(8)
-        .tuple(7, 2, 0, 1, 0, 0)
-        .encryption(5, certified(6, 3), 2)
-        .object(8)
-        .encryption(9, plain(1), 0)
-        .constant(10, 1)
-        .object(3)
-        .object(10)
+pub fn responder_halves() -> [u64; HALF_ROWS] {
+    [
+        // e0:E(K1, t2:[a3, n4])
+        0x00C0_0000_0000_0000,
+        0x0100_0000_0000_0000,
+        0x8080_0000_4000_8000,
+        0x5000_1000_2080_0000,
+        // e5:E(k6:keyOf(a3), t7:[n4, n8])
+        0x0100_0000_0000_0000,
+        0x0200_0000_0000_0000,
+        0x81C0_0000_4000_8000,
+        0x5160_60C0_2080_0000,
+        // e9:E(K1, n8)
+        0x0200_0000_0000_0000,
+        0x5240_1000_2000_0000,
+        // c10:1
+        0x2280_1000_0000_0000,
+        // a3
+        0x00C0_0000_0000_0000,
+        // c10
+        0x0280_0000_0000_0000,
+    ]
 }
 
 // The variables with what they hold: a2, n3, k4, e5, t6 of the first round, e7, t8, n9, e10 of the second, c11 of the third.
