@@ -8,7 +8,7 @@ use trials::Stores;
 use trials::number;
 
 // The named ones of all message cells.
-fn named(messages: &[u16]) -> &[u16] {
+pub fn named(messages: &[u16]) -> &[u16] {
     if 64 <= messages.len() {
         &messages[..64]
     } else {
