@@ -28,7 +28,7 @@ use lib.ListN.{length, getD}
 use Rattle.numbers.specs.Kinds.{kindIn}
 use Rattle.stores.specs.Cells.{unset}
 use Rattle.stores.specs.Valid.{kindsFit, eachVariable, undeclaredUnset, declared}
-use Rattle.stores.specs.ValidStores.{UndeclaredUnset}
+use Rattle.stores.specs.GoodStores.{UndeclaredUnset}
 use Rattle.stores.proofs.ValidLaws.{undeclared-unset, each-variable}
 use Rattle.calls.specs.Half.{undeclaredUnknown, declaredKnown}
 use Rattle.promises.specs.Roles.{next}
