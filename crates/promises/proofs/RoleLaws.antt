@@ -9,7 +9,6 @@ use lib.ListN.{length, take, drop, length-append}
 use Rattle.word.proofs.TestLaws.{both, equals, at-most}
 use Rattle.numbers.specs.Limits.{mostRounds}
 use Rattle.answers.specs.Numbers.{compiledNumber, compiledPlace}
-use Rattle.answers.specs.declared.Compiled.{Compiled}
 use Rattle.answers.specs.declared.Compiled.the-variants.{Done, Limit, CodeTooShort}
 use Rattle.theory.specs.Machine.{Line}
 use Rattle.theory.specs.Emission.{Env, Emitted, ok, refuse}
@@ -18,8 +17,7 @@ use Rattle.calls.specs.Half.{half}
 use Rattle.calls.specs.Frame.{framed}
 use Rattle.calls.specs.Round.{RoundLent}
 use Rattle.calls.specs.Role.{RoleLent, RoleOutcome, Halves, compiled, refusedIn, afterHalves, again, halfThen, halvesFrom, roundsOf, inTurn, endsFrom, roleFits, roleRefused, roleWritten, roleBy, halvesOf, role}
-use Rattle.calls.proofs.CompileLaws.{NotDone}
-use Rattle.calls.proofs.HalfLaws.{half-refuses}
+use Rattle.calls.proofs.RoleLaws.{halves-refused}
 use Rattle.promises.specs.Halves.{HalfCode, RoundHalves, roundWords, RoundCode, RoleCode, RoundPlays, RolePlays, ended, next, halfRows, roundPatterns, RoleRounds}
 use Rattle.promises.proofs.CompileLaws.{number-done}
 use Rattle.promises.proofs.RoundDecisionLaws.{round-few, round-decided, cells-again}
@@ -94,28 +92,6 @@ module _ (kinds : List ℕ) where
         count = omega (arith, more .count);
       }
 
-  -- a half that refuses is not done
-  halves-refuse : (n : ℕ) (create : Bool) (counts rows : List ℕ) (set : Env) → set .next ≡ 0 → (k : ℕ) (answer : Compiled)
-      → halvesFrom n create kinds counts rows set ≡ refusedIn k answer → NotDone answer
-  unfolding halvesFrom halfThen afterHalves
-  halves-refuse n create [] rows set start k answer q = absurd (let z : _≡_ {A = ℕ} 0 1 = ap sort q in omega arith)
-  halves-refuse n create (count ∷ counts) rows set start k answer q =
-      by-half (λ e. halves-refuse (suc n) (not create) counts (drop count rows) (again e) refl) (half create (take count rows) kinds set) refl q
-    where
-      others : Env → Halves
-      others e = halvesFrom (suc n) (not create) kinds counts (drop count rows) e
-
-      Later : Env → Type 0
-      Later env = (k : ℕ) (answer : Compiled) → others (again env) ≡ refusedIn k answer → NotDone answer
-
-      by-rest : (lines : List Line) (env : Env) → Later env → (H : Halves) → others (again env) ≡ H → afterHalves (codeWords lines ∷ []) H ≡ refusedIn k answer → NotDone answer
-      by-rest lines env later (compiled rest) g e = absurd (let z : _≡_ {A = ℕ} 0 1 = ap sort e in omega arith)
-      by-rest lines env later (refusedIn j other) g e = let same : other ≡ answer = cc in rw (← same) (later j other g)
-
-      by-half : ((env : Env) → Later env) → (E : Emitted) → half create (take count rows) kinds set ≡ E → halfThen n E others ≡ refusedIn k answer → NotDone answer
-      by-half later (refuse other) h e = let same : other ≡ answer = cc in rw (← same) (half-refuses create (take count rows) kinds set start other h)
-      by-half later (ok lines env) h e = by-rest lines env (later env) (others (again env)) refl e
-
 -- a compiled round plays, for any stores
 pub round-plays : {kinds : List ℕ} {set carried : Env} {r : RoundHalves} → set .next ≡ 0 → RoundCode kinds set r carried → RoundPlays kinds set r carried
 round-plays {kinds} {set} {carried} {r} start c = record {
@@ -171,7 +147,7 @@ module _ (x : RoleLent) (ends slice : List ℕ) where
       → compiledNumber (roleBy ends slice H .answer) ≡ 0 → RoleRounds x slice (roleBy ends slice H)
   by-halves fit (compiled halves) q e = by-room (fit .1) halves (chain (x .kinds) 0 (x .counts) (x .rows) (entry (x .objects) (x .named)) halves (fit .0) q) e
   by-halves fit (refusedIn n answer) q e =
-      absurd (halves-refuse (x .kinds) 0 false (x .counts) (x .rows) (entry (x .objects) (x .named)) refl n answer q (compiledPlace answer) (number-done answer e))
+      absurd (halves-refused 0 false (x .kinds) (x .counts) (x .rows) (entry (x .objects) (x .named)) refl q (compiledPlace answer) (number-done answer e))
 
   pub role-rounds : compiledNumber (role ends slice x .answer) ≡ 0 → RoleRounds x slice (role ends slice x)
   unfolding role
