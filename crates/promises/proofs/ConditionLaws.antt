@@ -15,7 +15,6 @@ use Rattle.stores.specs.Valid.{kindsFit, eachVariable, undeclaredUnset, declare
 use Rattle.stores.proofs.ValidLaws.{declared-stores}
 use Rattle.numbers.specs.Kinds.{kindIn}
 use Rattle.numbers.specs.Limits.{variables}
-use Rattle.calls.specs.Compile as Compile
 use Rattle.promises.specs.Conditions.{cell, BadVariable}
 
 -- 3, in compile

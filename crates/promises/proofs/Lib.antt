@@ -25,11 +25,11 @@ pub mod Demand1
 pub mod RoundLaws
 pub mod HalvesLaws
 pub mod RoundDecisionLaws
-pub mod RoleLaws
 pub mod DeclaredLaws
 pub mod HalfTable
 pub mod TurnLaws
 pub mod RoleTable
+pub mod RoleLaws
 pub mod Halves
 pub mod Echo
 pub mod ListingLaws

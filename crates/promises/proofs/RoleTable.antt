@@ -22,7 +22,7 @@ use Rattle.promises.proofs.ConditionLaws.{bad-variable}
 use Rattle.promises.proofs.CompileLaws.{compiledOf, compiled-back}
 use Rattle.promises.proofs.NumberLaws.{compiled-range}
 use Rattle.promises.proofs.HalfTable.{HalfRefuses}
-use Rattle.promises.proofs.TurnLaws.{role-within, Refusing, refused-here, rest, whole, far}
+use Rattle.promises.proofs.TurnLaws.{role-within, Refusing, refused-at, whole, far}
 
 module _ (ends slice : List ℕ) (x : RoleLent) where
   -- what each answer says, with its half
@@ -71,7 +71,10 @@ module _ (ends slice : List ℕ) (x : RoleLent) where
       words = inTurn rounds
 
       go : (b : Bool) → (T b → length words ≤ length slice) → (T (not b) → length slice < length words)
-          → RoleLeaves (cond b (record { answer = Done (length words); half = 0; ends = endsFrom 0 rounds; code = words ++ drop (length words) slice }) (roleRefused ends slice 0 (CodeTooShort (length words))))
+          → RoleLeaves
+          (cond b
+          (record { answer = Done (length words); half = 0; ends = endsFrom 0 rounds; code = words ++ drop (length words) slice })
+          (roleRefused ends slice 0 (CodeTooShort (length words))))
       go true long short = ((refl, all, long tt), λ n. absurd (n refl))
       go false long short = ((refl, all, short tt), λ _. (refl, refl))
 
@@ -79,13 +82,14 @@ module _ (ends slice : List ℕ) (x : RoleLent) where
   unfolding role
   role-leaves = by-fit (roleFits ends slice x) refl
     where
-      by-far : (w : RoleWithin ends x) → ((set : Env) × (words : ℕ) × Reached x (length (x .counts)) set words) ⊎ Refusing ends slice x w → RoleLeaves (roleBy ends slice (halvesOf ends slice x))
+      by-far : (w : RoleWithin ends x) → ((set : Env) × (words : ℕ) × Reached x (length (x .counts)) set words) ⊎ Refusing ends slice x w
+          → RoleLeaves (roleBy ends slice (halvesOf ends slice x))
       by-far w (inl all) =
           let W = whole ends slice x w (all .2) in
           subst (λ H. RoleLeaves (roleBy ends slice H)) (sym (W .is))
-          (by-room (roundsOf (W .halves)) (record { within = w; set = all .0; halves = all .1; reached = all .2; count = W .count }))
+          (by-room (roundsOf (W .halves)) (record { within = w; set = all .0; halves = all .1; reached = all .2; count = omega (arith, W .count) }))
       by-far w (inr R) =
-          let is = refused-here ends slice x w (R .turn .reached) (R .answer) (R .refuses) (R .turn .inside) (rest ends slice x w (R .turn .reached) (omega (arith, R .turn .inside))) in
+          let is = refused-at ends slice x w (R .turn .reached) (R .answer) (R .refuses) (R .turn .inside) in
           subst (λ H. RoleLeaves (roleBy ends slice H)) (sym is) (half-gives (R .answer) (R .n) (R .turn) (R .refuses), λ _. (refl, refl))
 
       by-fit : (fits : Bool) → roleFits ends slice x ≡ fits → RoleLeaves (cond fits (roleBy ends slice (halvesOf ends slice x)) (roleRefused ends slice 0 Limit))
@@ -108,13 +112,12 @@ module _ (ends slice : List ℕ) (x : RoleLent) where
       → RoleAnswers (role ends slice x) (compiledNumber answer) (compiledPlace answer) n
   refuses n turn answer h =
       let w = turn .within in
-      let is = refused-here ends slice x w (turn .reached) answer h (turn .inside) (rest ends slice x w (turn .reached) (omega (arith, turn .inside))) in
-      told (fitting-role w ∙ ap (roleBy ends slice) is)
+      told (fitting-role w ∙ ap (roleBy ends slice) (refused-at ends slice x w (turn .reached) answer h (turn .inside)))
 
   whole-role : (words : ℕ) → WholeRole ends x words → (rounds : List (List ℕ)) × (length (inTurn rounds) ≡ words) × (role ends slice x ≡ roleWritten ends slice rounds)
   whole-role words all =
       let W = whole ends slice x (all .within) (all .reached) in
-      (roundsOf (W .halves), W .count ∙ sym (all .count), fitting-role (all .within) ∙ ap (roleBy ends slice) (W .is))
+      (roundsOf (W .halves), omega (arith, W .count, all .count), fitting-role (all .within) ∙ ap (roleBy ends slice) (W .is))
 
   short-role : (words : ℕ) → WholeRole ends x words → length slice < words → RoleAnswers (role ends slice x) 8 words 0
   short-role words all short =

@@ -120,15 +120,15 @@ module _ (ends slice : List ℕ) (x : RoleLent) where
       says-turn = says-half x n (w .kinds) set (from-start r) (known r)
 
     -- what is left from half n on, behind the words of the halves before it
-    pub record Rest (n : ℕ) (set : Env) (words : ℕ) : Type 0 where
-      pub counts : List ℕ
-      pub rows : List ℕ
-      pub done : List (List ℕ)
-      pub left : n + length counts ≡ length (x .counts)
-      pub same : (k : ℕ) → getD (halfRows counts rows) k [] ≡ rowsOfHalf x (n + k)
-      pub is : halvesOf ends slice x ≡ afterHalves done (halvesFrom n (createsHalf n) (x .kinds) counts rows set)
-      pub number : length done ≡ n
-      pub count : length (inTurn done) ≡ words
+    record Rest (n : ℕ) (set : Env) (words : ℕ) : Type 0 where
+      counts : List ℕ
+      rows : List ℕ
+      done : List (List ℕ)
+      left : n + length counts ≡ length (x .counts)
+      same : (k : ℕ) → getD (halfRows counts rows) k [] ≡ rowsOfHalf x (n + k)
+      is : halvesOf ends slice x ≡ afterHalves done (halvesFrom n (createsHalf n) (x .kinds) counts rows set)
+      number : length done ≡ n
+      count : length (inTurn done) ≡ words
 
     -- its first half is half n
     own-rows : (n : ℕ) {mine : List ℕ} → mine ≡ rowsOfHalf x (n + 0) → rowsOfHalf x n ≡ mine
@@ -161,7 +161,7 @@ module _ (ends slice : List ℕ) (x : RoleLent) where
                 count = omega (arith, words-more (R .done) (codeWords lines), length-map lines (λ l. wordOf (l .instruction)), R .count);
               }
 
-      pub refused-here : (answer : Compiled) → HalfRefuses x n set answer → n < length (x .counts) → Rest n set words → halvesOf ends slice x ≡ refusedIn n answer
+      refused-here : (answer : Compiled) → HalfRefuses x n set answer → n < length (x .counts) → Rest n set words → halvesOf ends slice x ≡ refusedIn n answer
       unfolding halvesFrom halfThen afterHalves
       refused-here answer h inside R = go (R .counts) (R .rows) (R .left) (R .same) (R .is)
         where
@@ -173,7 +173,7 @@ module _ (ends slice : List ℕ) (x : RoleLent) where
               ap (λ mine. half (createsHalf n) mine (x .kinds) set) (sym (own-rows n (same 0))) ∙ says-turn r (refuse answer) h in
               is ∙ ap (λ E. afterHalves (R .done) (halfThen n E (λ e′. halvesFrom (suc n) (not (createsHalf n)) (x .kinds) counts (drop count rows) e′))) refuses
 
-    pub rest : {n words : ℕ} {set : Env} → Reached x n set words → n ≤ length (x .counts) → Rest n set words
+    rest : {n words : ℕ} {set : Env} → Reached x n set words → n ≤ length (x .counts) → Rest n set words
     unfolding inTurn
     rest start inside = record {
       counts = x .counts;
@@ -186,6 +186,10 @@ module _ (ends slice : List ℕ) (x : RoleLent) where
       count = refl;
     }
     rest (next r c e) inside = compiled-more r c e inside (rest r (omega arith))
+
+    pub refused-at : {n words : ℕ} {set : Env} → Reached x n set words → (answer : Compiled) → HalfRefuses x n set answer → n < length (x .counts)
+        → halvesOf ends slice x ≡ refusedIn n answer
+    refused-at r answer h inside = refused-here r answer h inside (rest r (omega arith))
 
     -- no half is left
     pub record Whole (words : ℕ) : Type 0 where

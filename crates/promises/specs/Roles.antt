@@ -78,6 +78,7 @@ pub record WholeRole (ends : List ℕ) (x : RoleLent) (words : ℕ) : Type 0 whe
   pub reached : Reached x (length (x .counts)) set halves
   pub count : words ≡ halves + 2 * length ends
 
+-- The call's own 1; then half by half its own 1, 3 of half 0 alone, 4, 5, then 6 and 7 by emission; last 8, for the whole role.
 module _ (ends slice : List ℕ) (x : RoleLent) where
   abbrev outcome : RoleOutcome
   outcome = role ends slice x
