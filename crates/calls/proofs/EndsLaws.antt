@@ -100,7 +100,8 @@ few-halves n create kinds (count ∷ counts) rows e halves fresh h =
     by (refuse answer) q g rest = absurd (let z : _≡_ {A = ℕ} 0 1 = cc in omega arith)
     by (ok lines e′) q g rest = behind (halvesFrom (suc n) (not create) kinds counts (drop count rows) (again e′)) refl g
       where
-        behind : (H : Halves) → halvesFrom (suc n) (not create) kinds counts (drop count rows) (again e′) ≡ H → afterHalves (codeWords lines ∷ []) H ≡ compiled halves → FewHalves (count ∷ counts) halves
+        behind : (H : Halves) → halvesFrom (suc n) (not create) kinds counts (drop count rows) (again e′) ≡ H → afterHalves (codeWords lines ∷ []) H ≡
+            compiled halves → FewHalves (count ∷ counts) halves
         behind (refusedIn m answer) p g = absurd (let z : _≡_ {A = ℕ} 0 1 = cc in omega arith)
         behind (compiled more) p g =
             let split : halves ≡ (codeWords lines ∷ []) ++ more = cc in

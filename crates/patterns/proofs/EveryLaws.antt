@@ -3,14 +3,14 @@ use Prim.Native.Nat.{ℕ, suc, _+_, _-_, _<_, _≤_}
 use mathlib.Core.Path.{_≡_, refl, sym, _∙_, ap, ap₂}
 use mathlib.Core.List.{List, [], _∷_, _++_, append-assoc, append-nil}
 use native.Mathlib.Omega.{arith}
-use lib.ListN.{length, getD, take, drop, length-append}
+use lib.ListN.{length, getD, take, length-append}
 use lib.Seq.{getD-at, getD-append-add}
 use Rattle.word.specs.Fields.{at}
 use Rattle.word.proofs.All.{All, all-getD}
 use Rattle.word.proofs.FieldLaws.{Fit, split-join}
 use Rattle.patterns.specs.Pattern.{Key, plainKey, opKey, certifiedKey, Pattern, object, raw, constant, opposite, keyOf, encryption, signature, hash, tuple, letIn, Parts, end, part}
 use Rattle.patterns.specs.Pattern.{count, size, sizes, RawsBelow, PartsBelow, Packed, PackedParts}
-use Rattle.patterns.specs.Row.{patternWidths, PatternFields, fieldsBy, patternFields}
+use Rattle.patterns.specs.Row.{patternWidths, fieldsBy, patternFields}
 use Rattle.patterns.specs.Tree.{partsBy, formBy, noPattern, patternAt, patternsFrom, patternsOf, patternOf}
 use Rattle.patterns.specs.Laid.{rowFields, rowBy, keyForm, keyName, keyOther, rootFrom, roots, laid, laidParts, numbered, numberedParts, bare, bareParts, ObjectsBelow, ObjectsInParts, Fits}
 

@@ -6,7 +6,6 @@ use mathlib.Core.List.{List, [], _∷_, _++_, map}
 use native.Mathlib.Omega.{arith}
 use lib.Dec.{T, leb}
 use lib.ListN.{length, take, drop, length-append}
-use Rattle.word.proofs.TestLaws.{both, equals, at-most}
 use Rattle.numbers.specs.Limits.{mostRounds}
 use Rattle.answers.specs.Numbers.{compiledNumber, compiledPlace}
 use Rattle.answers.specs.declared.Compiled.the-variants.{Done, Limit, CodeTooShort}
@@ -20,6 +19,7 @@ use Rattle.calls.specs.Role.{RoleLent, RoleOutcome, Halves, compiled, refusedIn
 use Rattle.calls.proofs.RoleLaws.{halves-refused}
 use Rattle.promises.specs.Halves.{HalfCode, RoundHalves, roundWords, RoundCode, RoleCode, RoundPlays, RolePlays, ended, next, halfRows, roundPatterns, RoleRounds}
 use Rattle.promises.proofs.CompileLaws.{number-done}
+use Rattle.promises.proofs.TurnLaws.{role-within}
 use Rattle.promises.proofs.RoundDecisionLaws.{round-few, round-decided, cells-again}
 
 halves-inj : {a b : List (List ℕ)} → compiled a ≡ compiled b → a ≡ b
@@ -116,7 +116,7 @@ role-few start (RoleCode.more {r = r} {rounds = rounds} c rest) =
 
 module _ (x : RoleLent) (ends slice : List ℕ) where
   counts-fit : T (roleFits ends slice x) → (length (x .counts) % 2 ≡ 0) × (length (x .counts) / 2 ≤ mostRounds)
-  counts-fit = simp (both, equals, at-most) λ h. (h .0 .0 .0 .0 .0 .0 .0, h .0 .0 .0 .0 .0 .1)
+  counts-fit t = let w = role-within ends slice x .0 t in (w .even, w .rounds .1)
 
   by-room : length (x .counts) / 2 ≤ mostRounds → (halves : List (List ℕ)) → Chain (x .kinds) (x .counts) (x .rows) (entry (x .objects) (x .named)) halves
       → compiledNumber (roleWritten ends slice (roundsOf halves) .answer) ≡ 0 → RoleRounds x slice (roleWritten ends slice (roundsOf halves))
