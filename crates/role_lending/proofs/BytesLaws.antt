@@ -1,9 +1,9 @@
 -- Words that come to bytes at their place.
-use mathlib.Core.Path.{_≡_, refl, sym, _∙_, ap}
+use mathlib.Core.Path.{_≡_, sym, _∙_, ap}
 use mathlib.Core.List.{List, [], _∷_, _++_, append-nil}
 use Prim.Native.Nat.{ℕ, _+_, _*_, _≤_}
 use native.Mathlib.Omega.{arith}
-use lib.ListN.{length, set, take, drop, take-append-drop}
+use lib.ListN.{length, take, drop, take-append-drop}
 use lib.Seq.{length-take-le, take-at, drop-at, sets, sets-eq}
 use Rattle.word.specs.Bytes.{bytesOf, spelled}
 use Rattle.word.proofs.ByteLaws.{length-spelled, spelled-append}
@@ -30,7 +30,8 @@ module _ (size : ℕ) (all : List ℕ) (place : ℕ) (words : List ℕ) (fits : 
       ∙ ap (λ (n : ℕ). take (size * place) (spelled size all) ++ spelled size words ++ drop n (spelled size all)) long
       ∙ ap (λ (l : List ℕ). l ++ spelled size words ++ drop (size * (place + length words)) (spelled size all)) (take-spelled size all place (omega arith))
       ∙ ap (λ (l : List ℕ). spelled size (take place all) ++ spelled size words ++ l) (drop-spelled size all (place + length words) fits)
-      ∙ sym (ap (spelled size) (sets-eq words all place fits) ∙ spelled-append size (take place all ++ words) (drop (place + length words) all) ∙ ap (_++ spelled size (drop (place + length words) all)) (spelled-append size (take place all) words))
+      ∙ sym (ap (spelled size) (sets-eq words all place fits) ∙ spelled-append size (take place all ++ words) (drop (place + length words) all)
+      ∙ ap (_++ spelled size (drop (place + length words) all)) (spelled-append size (take place all) words))
 
 -- one number
 pub one-spelled : (size number : ℕ) → bytesOf size number ≡ spelled size (number ∷ [])

@@ -1,8 +1,8 @@
 -- A role over lent bytes: lengths that fit, and an outcome in numbers and bytes.
-use mathlib.Core.Path.{_≡_, refl, sym, _∙_, ap}
+use mathlib.Core.Path.{_≡_, sym, _∙_, ap}
 use mathlib.Core.Bool.{Bool, true, false, _&&_}
 use mathlib.Core.List.{List}
-use Prim.Native.Nat.{ℕ, _*_, _/_, _%_, _≤_}
+use Prim.Native.Nat.{ℕ, _*_, _/_, _%_}
 use native.Mathlib.Omega.{arith}
 use lib.Dec.{T, eqb, leb}
 use lib.ListN.{length}
@@ -11,12 +11,11 @@ use Rattle.word.proofs.ByteLaws.{Below, length-words, spelled-elements}
 use Rattle.word.proofs.TestLaws.{both, equals, is-true, is-false}
 use Rattle.numbers.specs.Limits.{variables, mostRounds}
 use Rattle.answers.specs.declared.Compiled.{Compiled}
-use Rattle.answers.specs.declared.Compiled.the-variants.{Limit}
 use Rattle.calls.specs.Role.{RoleLent, RoleOutcome, sum, roleFits, role}
 use Rattle.looking.proofs.LookLaws.{true-holds}
 use Rattle.lending.proofs.ChoiceLaws.{where-true, either-way}
 use Rattle.roles.proofs.AnswerLaws.{RoleWithin, role-limit, fits-within}
-use Rattle.role_lending.specs.RoleEntry.{RoleLeft, roleNumbers, roleSpelled, roleElements, roleUntouched, roleWhole, roleEntry}
+use Rattle.role_lending.specs.RoleEntry.{roleNumbers, roleSpelled, roleElements, roleUntouched, roleWhole, roleEntry}
 
 module _ (ends code : List ℕ) (x : RoleLent) where
   abbrev pub bytesFit : Bool

@@ -2,7 +2,7 @@
 use mathlib.Core.Path.{_≡_, refl, sym, _∙_, ap}
 use mathlib.Core.Bool.{Bool, true, false}
 use mathlib.Core.List.{List, [], _∷_, _++_}
-use Prim.Native.Nat.{ℕ, suc, _+_, _-_, _*_, _/_, _%_, _<_, _≤_}
+use Prim.Native.Nat.{ℕ, _+_, _-_, _*_, _/_, _<_, _≤_}
 use native.Mathlib.Nat.{zero-add}
 use native.Mathlib.Omega.{arith}
 use lib.Dec.{T}
@@ -10,7 +10,7 @@ use lib.ListN.{length, getD, set, take, drop, length-append, length-drop}
 use lib.Seq.{length-take-le, sets, sets-eq, length-sets, take-append-seam}
 use borrow.Rule.Slice.PartMut.{putMid}
 use Rattle.word.specs.Bytes.{whole, elements, spelled, bytesOf}
-use Rattle.word.proofs.ByteLaws.{Below, length-spelled, length-words, spelled-elements}
+use Rattle.word.proofs.ByteLaws.{Below, length-spelled, spelled-elements}
 use Rattle.theory.specs.Machine.{Line}
 use Rattle.theory.specs.Emission.{Env, Emitted, ok}
 use Rattle.calls.specs.Compile.{codeWords}
@@ -21,7 +21,7 @@ use Rattle.calls.proofs.HalfLaws.{half-done, half-words}
 use Rattle.compiler.specs.CompileKnown.{fromKnown}
 use Rattle.roles.specs.Written.{roundEmitted, CodeFits, CodeLeft, codeLeft, roundsIn}
 use Rattle.roles.proofs.RoundLaws.{words-append, round-ok}
-use Rattle.roles.proofs.WriteLaws.{part-written, BothHalves, both-halves, Left, left-by, Writing, writing-none, ahead, round-fits, end-small, writing-more, writing-all}
+use Rattle.roles.proofs.WriteLaws.{part-written, BothHalves, Left, left-by, Writing, writing-none, ahead, round-fits, end-small, writing-more, writing-all}
 use Rattle.role_lending.specs.Bytes.{bytesLeft}
 use Rattle.role_lending.proofs.BytesLaws.{bytes-sets, one-spelled}
 
@@ -108,7 +108,8 @@ pub record Packing (kinds counts rows : List ℕ) (start : Env) (ends₀ code₀
   pub ends-bytes : ends ≡ spelled 2 ended
   pub code-bytes : code ≡ spelled 4 coded
 
-module _ (kinds counts rows : List ℕ) (start : Env) (ends₀ code₀ : List ℕ) (ends-whole : T (whole 2 ends₀)) (code-whole : T (whole 4 code₀)) (ends-below : Below 256 ends₀) (code-below : Below 256 code₀) where
+module _ (kinds counts rows : List ℕ) (start : Env) (ends₀ code₀ : List ℕ) (ends-whole : T (whole 2 ends₀)) (code-whole : T (whole 4 code₀))
+    (ends-below : Below 256 ends₀) (code-below : Below 256 code₀) where
   pub packing-none : sum counts ≡ length rows → start .next ≡ 0 → Packing kinds counts rows start ends₀ code₀ 0 0 start 0 ends₀ code₀
   packing-none all fresh = record {
     ended = elements 2 ends₀;

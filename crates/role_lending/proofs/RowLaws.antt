@@ -1,13 +1,12 @@
 -- A half's rows in the lent bytes.
-use mathlib.Core.Path.{_≡_, refl, sym, _∙_, ap}
-use mathlib.Core.Bool.{Bool, false, _&&_}
+use mathlib.Core.Path.{_≡_, sym}
+use mathlib.Core.Bool.{Bool, false}
 use mathlib.Core.List.{List}
 use Prim.Native.Nat.{ℕ, _+_, _-_, _*_, _/_, _<_, _≤_}
 use native.Mathlib.Omega.{arith}
-use lib.Dec.{T, eqb, leb}
 use lib.ListN.{length, take, drop, length-drop}
 use lib.Seq.{length-take-le}
-use Rattle.word.specs.Bytes.{words, elements}
+use Rattle.word.specs.Bytes.{elements}
 use Rattle.word.proofs.ByteLaws.{length-words}
 use Rattle.word.proofs.TestLaws.{is-false, both, at-most}
 use Rattle.answers.specs.First.{first}
@@ -21,7 +20,7 @@ pub half-limit : (create : Bool) (rows kinds : List ℕ) (e : Env) → 96 < leng
 unfolding half first
 half-limit create rows kinds e many =
     let not-fit : knownFit (length rows) (length kinds) ≡ false =
-    is-false (knownFit (length rows) (length kinds)) (λ h. omega (arith, at-most (length rows) 96 .0 (both (leb 1 (length rows)) (leb (length rows) 96) .0 (both (leb 1 (length rows) && leb (length rows) 96) (eqb (length kinds) 64) .0 h .0) .1))) in
+    is-false (knownFit (length rows) (length kinds)) (λ h. let t = simp (both, at-most) at h in omega (arith, t .0 .1)) in
     rw not-fit
 
 -- the rows of a part of the bytes

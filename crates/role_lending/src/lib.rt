@@ -54,7 +54,13 @@ pub fn compile_role(
     code: &mut [u8],
 ) -> RoleAnswer
     ensures { λ r. ⌜ record { answer = r; ends = now (ends .exit); code = now (code .exit) }
-        ≡ roleEntry (now (ends .entry)) (now (code .entry)) (record { rows = now (rows .entry); counts = now (counts .entry); kinds = now (kinds .entry); objects = now (objects .entry); named = now (named .entry) }) ⌝ }
+        ≡ roleEntry (now (ends .entry)) (now (code .entry)) (record {
+          rows = now (rows .entry);
+          counts = now (counts .entry);
+          kinds = now (kinds .entry);
+          objects = now (objects .entry);
+          named = now (named .entry);
+        }) ⌝ }
 {
     if !lengths_fit(
         rows.len(),

@@ -35,7 +35,8 @@ fn write_round(
 ) -> Written
     requires { ⌜ CodeFits framed place (length (now code) / 4) (roundEmitted (now kinds) (elements 8 (now matching)) (elements 8 (now creating)) (fromKnown (known objects) (known named))) ⌝ }
     ensures { λ r. ⌜ record { end = r .end; objects = known (r .objects); named = known (r .named); code = now (code .exit) }
-        ≡ bytesLeft place (now (code .entry)) (roundEmitted (now (kinds .entry)) (elements 8 (now (matching .entry))) (elements 8 (now (creating .entry))) (fromKnown (known objects) (known named))) ⌝ }
+        ≡ bytesLeft place (now (code .entry)) (roundEmitted (now (kinds .entry))
+        (elements 8 (now (matching .entry))) (elements 8 (now (creating .entry))) (fromKnown (known objects) (known named))) ⌝ }
 {
     let first = matching.len() / 8;
     let second = creating.len() / 8;
@@ -73,11 +74,15 @@ pub fn write_rounds(
     ends: &mut [u8],
     code: &mut [u8],
 )
-    requires { ⌜ (length (now counts) ≡ length (now ends)) × (length (now ends) % 2 ≡ 0) × (length (now ends) / 2 ≤ mostRounds) × (length (now code) % 4 ≡ 0) × (sum (now counts) ≡ length (now rows) / 8) ⌝ }
+    requires { ⌜ (length (now counts) ≡ length (now ends)) × (length (now ends) % 2 ≡ 0) × (length (now ends) / 2 ≤ mostRounds)
+        × (length (now code) % 4 ≡ 0) × (sum (now counts) ≡ length (now rows) / 8) ⌝ }
     requires { ⌜ RoundsFit (length (now code) / 4) (halvesFrom 0 false (now kinds) (now counts) (elements 8 (now rows)) (fromKnown (known objects) (known named))) ⌝ }
-    ensures { λ _. ⌜ now (ends .exit) ≡ spelled 2 (endsFrom 0 (roundsIn (halvesFrom 0 false (now (kinds .entry)) (now (counts .entry)) (elements 8 (now (rows .entry))) (fromKnown (known objects) (known named))))) ⌝ }
-    ensures { λ _. ⌜ now (code .exit) ≡ spelled 4 (inTurn (roundsIn (halvesFrom 0 false (now (kinds .entry)) (now (counts .entry)) (elements 8 (now (rows .entry))) (fromKnown (known objects) (known named))))
-        ++ drop (length (inTurn (roundsIn (halvesFrom 0 false (now (kinds .entry)) (now (counts .entry)) (elements 8 (now (rows .entry))) (fromKnown (known objects) (known named)))))) (elements 4 (now (code .entry)))) ⌝ }
+    ensures { λ _. ⌜ now (ends .exit) ≡ spelled 2 (endsFrom 0
+        (roundsIn (halvesFrom 0 false (now (kinds .entry)) (now (counts .entry)) (elements 8 (now (rows .entry))) (fromKnown (known objects) (known named))))) ⌝ }
+    ensures { λ _. ⌜ now (code .exit) ≡ spelled 4 (inTurn
+        (roundsIn (halvesFrom 0 false (now (kinds .entry)) (now (counts .entry)) (elements 8 (now (rows .entry))) (fromKnown (known objects) (known named))))
+        ++ drop (length (inTurn
+        (roundsIn (halvesFrom 0 false (now (kinds .entry)) (now (counts .entry)) (elements 8 (now (rows .entry))) (fromKnown (known objects) (known named)))))) (elements 4 (now (code .entry)))) ⌝ }
 {
     let mut row: usize = 0;
     let mut words: usize = 0;

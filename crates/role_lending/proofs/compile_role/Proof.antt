@@ -1,7 +1,7 @@
 -- The lengths of the bytes, the call's own checks, the halves counted, the room, the rounds written.
-use Prim.Native.Nat.{_/_, _%_, _≤_}
+use Prim.Native.Nat.{_/_}
 use mathlib.Core.Path.{_≡_, refl, sym, _∙_}
-use mathlib.Core.Bool.{true, false}
+use mathlib.Core.Bool.{true}
 use native.Mathlib.Omega.{arith}
 use lib.ListN.{length, getD}
 use borrow.Author.Needs.{needs}
