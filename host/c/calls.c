@@ -213,7 +213,6 @@ static void rounds(void)
     expect(answers(&t, session, 1, CRAM_ROLE_ENDED, 0, 0), "the role has ended");
 }
 
-#ifdef ROLES
 static struct cram_role compile_role(struct terminal *t, const uint8_t *rows, size_t count, const uint8_t *counts,
                                      uint8_t *ends, size_t words)
 {
@@ -244,7 +243,6 @@ static void role(void)
     expect(refuses(c, CRAM_DONE, 9, 0) && cell(ends, 0) == 9, "the role compiles");
     expect(memcmp(t.code, round_words, sizeof round_words) == 0, "the words of its round");
 }
-#endif
 
 int main(void)
 {
@@ -252,9 +250,7 @@ int main(void)
     refusal();
     out_of_names();
     rounds();
-#ifdef ROLES
     role();
-#endif
     printf("c: %d passed, %d failed\n", passed, failed);
     return failed != 0;
 }

@@ -8,7 +8,7 @@ use crate::{Compiled, Ran, ARCHIVE};
 
 pub const ROLES: RoleEngine = RoleEngine { compile_role, round, take };
 
-pub(crate) fn compile_role(
+fn compile_role(
     rows: &[u8],
     counts: &[u8],
     kinds: &[u8],

@@ -55,15 +55,10 @@ pub fn round_part<'a>(code: &'a [u8], ends: &[u8], round: usize) -> &'a [u8] {
 }
 
 mod archive {
-    #[cfg(feature = "roles")]
-    use super::RoleCompiled;
-    use super::{Rounded, Taken};
-    #[cfg(not(feature = "roles"))]
-    pub(super) use crate::by_halves::compile_role;
+    use super::{RoleCompiled, Rounded, Taken};
 
     // Nothing checks these against the archive but the tests.
     extern "C" {
-        #[cfg(feature = "roles")]
         fn cram_compile_role(
             rows: *const u8,
             rows_len: usize,
@@ -103,7 +98,6 @@ mod archive {
     }
 
     /// The archive's compile of a role: code for all its rounds, and where each ends.
-    #[cfg(feature = "roles")]
     pub fn compile_role(
         rows: &[u8],
         counts: &[u8],

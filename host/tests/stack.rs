@@ -32,7 +32,6 @@ fn run() {
     }
 }
 
-#[cfg(feature = "roles")]
 #[test]
 fn compile_role() {
     for (name, mut lent) in measured::role_compiles() {

@@ -41,7 +41,6 @@ fn main() {
         }
     }
     let engines = [&ROLES, &plain::ROLES];
-    #[cfg(feature = "roles")]
     for (name, lent) in measured::role_compiles() {
         print(name, medians(&lent, engines, |lent, engine| lent.call(engine).place));
     }
@@ -55,7 +54,6 @@ fn main() {
     for (name, mut lent) in measured::runs() {
         println!("{:<45}{:>12}", name, stack::taken_by(|| lent.call(&ARCHIVE)));
     }
-    #[cfg(feature = "roles")]
     for (name, mut lent) in measured::role_compiles() {
         println!("{:<45}{:>12}", name, stack::taken_by(|| lent.call(&ROLES)));
     }

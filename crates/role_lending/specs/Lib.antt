@@ -1,0 +1,3 @@
+-- The entry for C that compiles a role.
+pub mod RoleEntry
+pub mod Bytes
