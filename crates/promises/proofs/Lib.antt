@@ -37,4 +37,5 @@ pub mod Printed
 pub mod Example
 pub mod ForC
 pub mod RoundsForC
+pub mod RolesForC
 pub mod Promises

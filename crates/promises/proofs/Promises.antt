@@ -17,6 +17,7 @@ use Rattle.promises.proofs.RoleTable.{role-table}
 use Rattle.promises.proofs.Halves.{halves-in-turn}
 use Rattle.promises.proofs.Echo.{worked-echo}
 use Rattle.promises.proofs.RoundsForC.{rounds-for-c}
+use Rattle.promises.proofs.RolesForC.{roles-for-c}
 use Rattle.promises.proofs.ListingLaws.{listing-table}
 use Rattle.promises.proofs.Printed.{printed}
 use Rattle.outcomes.proofs.Listed.{listing-short, cut}
@@ -38,6 +39,7 @@ promises = record {
   halves = halves-in-turn;
   echo = worked-echo;
   rounds-for-c = rounds-for-c;
+  roles-for-c = roles-for-c;
   listings = listing-table;
   program = record { fits = listing-short; cut = cut; printed = λ bytes wrote long. Listed.printed bytes wrote long };
   printed = printed;

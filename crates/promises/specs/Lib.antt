@@ -20,4 +20,5 @@ pub mod Listing
 pub mod Example
 pub mod ForC
 pub mod RoundsForC
+pub mod RolesForC
 pub mod Promises

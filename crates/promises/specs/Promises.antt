@@ -23,6 +23,7 @@ use Rattle.promises.specs.Roles.{RoleTable}
 use Rattle.promises.specs.Halves.{HalvesInTurn}
 use Rattle.promises.specs.Echo.{Echo}
 use Rattle.promises.specs.RoundsForC.{RoundsForC}
+use Rattle.promises.specs.RolesForC.{RolesForC}
 use Rattle.promises.specs.Listing.{ListingTable, Printed, Program}
 
 pub record Promises : Type 0 where
@@ -52,6 +53,7 @@ pub record Promises : Type 0 where
   pub echo : Echo
   -- the same over bytes, and what a take does there
   pub rounds-for-c : RoundsForC
+  pub roles-for-c : RolesForC
   -- what a bundle's listing prints
   pub listings : (bytes : List ℕ) → ListingTable bytes
   -- the program around it
