@@ -6,6 +6,7 @@ use Rattle.rounds.proofs.round_of.Met as RoundOf
 use Rattle.rounds.proofs.round.Met as Round
 use Rattle.rounds.proofs.take_of.Met as TakeOf
 use Rattle.rounds.proofs.take.Met as Take
+use Rattle.cram.proofs.roles.cram_compile_role.Met as CramRole
 use Rattle.cram.proofs.session.cram_round.Met as CramRound
 use Rattle.cram.proofs.session.cram_take.Met as CramTake
 use Rattle.product.specs.RoleFunctions.{RoleSays, RoleOnce, RoleFunctions}
@@ -13,6 +14,7 @@ use Rattle.product.specs.RoleFunctions.{RoleSays, RoleOnce, RoleFunction
 says : RoleSays
 says = record {
   compiles = λ κs lent compiled left learnt. learnt;
+  cram-compiles = λ κs lent answer left learnt. learnt;
   parts = λ κs lent part left learnt. learnt;
   plays = λ κs lent ended left learnt. learnt;
   cram-rounds = λ κs lent answer left learnt. learnt;
@@ -23,6 +25,7 @@ says = record {
 once : RoleOnce
 once = record {
   compiles = λ κs lent one other left also p q. says .compiles κs lent one left p ∙ sym (says .compiles κs lent other also q);
+  cram-compiles = λ κs lent one other left also p q. says .cram-compiles κs lent one left p ∙ sym (says .cram-compiles κs lent other also q);
   parts = λ κs lent one other left also p q.
       let e = says .parts κs lent one left p in
       let f = says .parts κs lent other also q in
@@ -36,6 +39,7 @@ once = record {
 pub role-functions : {M : Type 1} → RoleFunctions M
 role-functions = record {
   compile-role = CompileRole.met;
+  cram-compile-role = CramRole.met;
   round-part = RoundPart.met;
   round-of = RoundOf.met;
   round = Round.met;

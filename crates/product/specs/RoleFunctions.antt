@@ -16,6 +16,7 @@ use borrow.Fn.World.{ArgsD, ResD}
 use Rattle.calls.specs.Role.{RoleOutcome, role, roundPart, roundPlace}
 use Rattle.calls.specs.Round.{RoundOutcome, round, TakenOutcome, takenOf}
 use Rattle.lending.specs.RoundEntry.{RoundLeft, roundEntry, TakeLeft, takeEntry}
+use Rattle.role_lending.specs.RoleEntry.{RoleLeft, roleEntry}
 use Rattle.roles.proofs.compile_role as CompileRole
 use Rattle.roles.proofs.compile_role.Statement as CompileRoleStatement
 use Rattle.roles.proofs.compile_role.Reads as CompileRoleReads
@@ -32,6 +33,9 @@ use Rattle.rounds.proofs.take_of.Statement as TakeOfStatement
 use Rattle.rounds.proofs.take_of.Reads as TakeOfReads
 use Rattle.rounds.proofs.take as Take
 use Rattle.rounds.proofs.take.Statement as TakeStatement
+use Rattle.cram.proofs.roles.cram_compile_role as CramRole
+use Rattle.cram.proofs.roles.cram_compile_role.Statement as CramRoleStatement
+use Rattle.cram.proofs.roles.cram_compile_role.Reads as CramRoleReads
 use Rattle.cram.proofs.session.cram_round as CramRound
 use Rattle.cram.proofs.session.cram_round.Statement as CramRoundStatement
 use Rattle.cram.proofs.session.cram_round.Reads as CramRoundReads
@@ -52,6 +56,21 @@ module _ (κs : Lfts 7) (lent : ArgsD CompileRole.signature κs) where
   abbrev pub roleOf : RoleOutcome
   roleOf =
       role (now (lent .1 .1 .1 .1 .1 .0)) (now (lent .1 .1 .1 .1 .1 .1 .0)) (record {
+        rows = now (lent .0);
+        counts = now (lent .1 .0);
+        kinds = now (lent .1 .1 .0);
+        objects = now (lent .1 .1 .1 .0);
+        named = now (lent .1 .1 .1 .1 .0);
+      })
+
+-- cram_compile_role: the same over bytes
+module _ (κs : Lfts 7) (lent : ArgsD CramRole.signature κs) where
+  abbrev pub cramRoleTo : ResD CramRole.signature κs → AtExit CramRole.ended κs → RoleLeft
+  cramRoleTo answer left = record { answer = answer; ends = now (left .1 .1 .1 .1 .1 .0); code = now (left .1 .1 .1 .1 .1 .1 .0) }
+
+  abbrev pub cramRoleOf : RoleLeft
+  cramRoleOf =
+      roleEntry (now (lent .1 .1 .1 .1 .1 .0)) (now (lent .1 .1 .1 .1 .1 .1 .0)) (record {
         rows = now (lent .0);
         counts = now (lent .1 .0);
         kinds = now (lent .1 .1 .0);
@@ -153,6 +172,8 @@ module _ (κs : Lfts 1) (lent : ArgsD CramTake.signature κs) where
 pub record RoleSays : Type 0 where
   pub compiles : (κs : Lfts 7) (lent : ArgsD CompileRole.signature κs) (compiled : ResD CompileRole.signature κs) (left : AtExit CompileRole.ended κs)
       → CompileRoleReads.Learnt κs lent compiled left → roleTo κs lent compiled left ≡ roleOf κs lent
+  pub cram-compiles : (κs : Lfts 7) (lent : ArgsD CramRole.signature κs) (answer : ResD CramRole.signature κs) (left : AtExit CramRole.ended κs)
+      → CramRoleReads.Learnt κs lent answer left → cramRoleTo κs lent answer left ≡ cramRoleOf κs lent
   pub parts : (κs : Lfts 2) (lent : ArgsD RoundPart.signature κs) (part : ResD RoundPart.signature κs) (left : AtExit RoundPart.ended κs)
       → RoundPartReads.Learnt κs lent part left → (now part ≡ partOf κs lent) × (part .ptr ≡ addressOf κs lent)
   pub plays : (κs : Lfts 6) (lent : ArgsD RoundOf.signature κs) (ended : ResD RoundOf.signature κs) (left : AtExit RoundOf.ended κs)
@@ -176,6 +197,8 @@ module _ {M : Type 1} (𝓤 : URA M) (H : Heap 𝓤) (A : Atoms 𝓤) (memory : 
 pub record RoleOnce : Type 0 where
   pub compiles : (κs : Lfts 7) (lent : ArgsD CompileRole.signature κs) (one other : ResD CompileRole.signature κs) (left also : AtExit CompileRole.ended κs)
       → CompileRoleReads.Learnt κs lent one left → CompileRoleReads.Learnt κs lent other also → roleTo κs lent one left ≡ roleTo κs lent other also
+  pub cram-compiles : (κs : Lfts 7) (lent : ArgsD CramRole.signature κs) (one other : ResD CramRole.signature κs) (left also : AtExit CramRole.ended κs)
+      → CramRoleReads.Learnt κs lent one left → CramRoleReads.Learnt κs lent other also → cramRoleTo κs lent one left ≡ cramRoleTo κs lent other also
   pub parts : (κs : Lfts 2) (lent : ArgsD RoundPart.signature κs) (one other : ResD RoundPart.signature κs) (left also : AtExit RoundPart.ended κs)
       → RoundPartReads.Learnt κs lent one left → RoundPartReads.Learnt κs lent other also → (now one ≡ now other) × (one .ptr ≡ other .ptr)
   pub plays : (κs : Lfts 6) (lent : ArgsD RoundOf.signature κs) (one other : ResD RoundOf.signature κs) (left also : AtExit RoundOf.ended κs)
@@ -190,6 +213,7 @@ pub record RoleOnce : Type 0 where
 -- each function meets its contract
 pub record RoleFunctions (M : Type 1) : Type 2 where
   pub compile-role : CompileRoleStatement.statement M
+  pub cram-compile-role : CramRoleStatement.statement M
   pub round-part : RoundPartStatement.statement M
   pub round-of : RoundOfStatement.statement M
   pub round : RoundStatement.statement M
