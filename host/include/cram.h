@@ -106,7 +106,7 @@ extern "C" {
 #define CRAM_SESSION_BYTES 20u   /* of the session record */
 #define CRAM_COMPILE_STACK_BYTES 16384u /* see above */
 #define CRAM_RUN_STACK_BYTES 65536u     /* see above */
-#define CRAM_ROLE_STACK_BYTES 16384u    /* see above */
+#define CRAM_ROLE_STACK_BYTES 24576u    /* see above */
 #define CRAM_ROUND_STACK_BYTES 65536u   /* see above */
 
 /* What a number says, in every call. Compile is a role's too, and run a round's. */
