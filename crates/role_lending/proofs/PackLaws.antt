@@ -1,27 +1,29 @@
 -- A role's rounds are packed one after another.
 use mathlib.Core.Path.{_≡_, refl, sym, _∙_, ap}
 use mathlib.Core.Bool.{Bool, true, false}
-use mathlib.Core.List.{List, [], _∷_, _++_}
+use mathlib.Core.List.{List, [], _∷_, _++_, append-assoc}
 use Prim.Native.Nat.{ℕ, _+_, _-_, _*_, _/_, _<_, _≤_}
-use native.Mathlib.Nat.{zero-add}
 use native.Mathlib.Omega.{arith}
 use lib.Dec.{T}
 use lib.ListN.{length, getD, set, take, drop, length-append, length-drop}
-use lib.Seq.{length-take-le, sets, sets-eq, length-sets, take-append-seam}
+use lib.Seq.{length-take-le, sets, length-sets, take-append-seam}
 use borrow.Rule.Slice.PartMut.{putMid}
 use Rattle.word.specs.Bytes.{whole, elements, spelled, bytesOf}
-use Rattle.word.proofs.ByteLaws.{Below, length-spelled, spelled-elements}
+use Rattle.word.proofs.ByteLaws.{Below, length-bytesOf, length-spelled, spelled-append, spelled-elements, sets-append}
 use Rattle.theory.specs.Machine.{Line}
-use Rattle.theory.specs.Emission.{Env, Emitted, ok}
+use Rattle.theory.specs.Emission.{Env, Emitted, ok, refuse}
 use Rattle.calls.specs.Compile.{codeWords}
-use Rattle.calls.specs.Frame.{outputWord, framed}
+use Rattle.calls.specs.Frame.{inputWord, outputWord, framed}
+use Rattle.calls.specs.Half.{half}
 use Rattle.calls.specs.Role.{compiled, again, roundsOf, inTurn, endsFrom, sum}
 use Rattle.calls.proofs.RoleLaws as RoleLaws
-use Rattle.calls.proofs.HalfLaws.{half-done, half-words}
-use Rattle.compiler.specs.CompileKnown.{fromKnown}
+use Rattle.calls.proofs.HalfLaws.{half-done}
+use Rattle.answers.specs.Numbers.{compiledPlace}
+use Rattle.answers.specs.declared.Compiled.{Compiled}
+use Rattle.compiler.specs.CompileKnown.{KnownOutcome, fromKnown, knownFinished}
 use Rattle.roles.specs.Written.{roundEmitted, CodeFits, CodeLeft, codeLeft, roundsIn}
 use Rattle.roles.proofs.RoundLaws.{words-append, round-ok}
-use Rattle.roles.proofs.WriteLaws.{part-written, BothHalves, Left, left-by, Writing, writing-none, ahead, round-fits, end-small, writing-more, writing-all}
+use Rattle.roles.proofs.WriteLaws.{part-written, BothHalves, Writing, writing-none, ahead, round-fits, end-small, writing-more, writing-all}
 use Rattle.role_lending.specs.Bytes.{bytesLeft}
 use Rattle.role_lending.proofs.BytesLaws.{bytes-sets, one-spelled}
 
@@ -42,63 +44,139 @@ part-packed place count buffer code enough fits =
           rw e (part-written (4 * place) (4 * (place + count) - 4 * place) code (spelled 4 (take count buffer)) (omega (arith, words, bytes)) (omega (arith, words, bytes)));
     }
 
--- a round's two halves have at most 96 rows each, and its words at most 1,536
-module _ (kinds matching creating : List ℕ) (e : Env) (fresh : e .next ≡ 0) {place room : ℕ} (b : BothHalves kinds matching creating e place room) where
-  pub matching-rows : length matching ≤ 96
-  matching-rows = half-done false matching kinds e fresh (b .first) (b .between) (b .matches) .passed .lengths .most
+-- a half that fits has at most 96 rows
+pub half-few : (create : Bool) (rows kinds : List ℕ) (e : Env) → e .next ≡ 0 → (place room : ℕ)
+    → CodeFits (λ words. words) place room (half create rows kinds e) → length rows ≤ 96
+half-few create rows kinds e fresh place room = by (half create rows kinds e) refl
+  where
+    by : (E : Emitted) → half create rows kinds e ≡ E → CodeFits (λ words. words) place room E → length rows ≤ 96
+    by (ok lines e′) q fits = half-done create rows kinds e fresh lines e′ q .passed .lengths .most
+    by (refuse answer) q fits = absurd fits
 
-  pub creating-rows : length creating ≤ 96
-  creating-rows = half-done true creating kinds (again (b .between)) refl (b .second) (b .env) (b .creates) .passed .lengths .most
+-- a half's words come from its buffer
+pub record HalfPacked (place : ℕ) (code : List ℕ) (answer : Compiled) (buffer : List ℕ) (o n : ℕ → Bool) (E : Emitted) : Type 0 where
+  pub fits : place + compiledPlace answer ≤ length code / 4
+  pub within : compiledPlace answer ≤ length buffer
+  pub left : record { end = place + compiledPlace answer; objects = o; named = n; code = sets code (4 * place) (spelled 4 (take (compiledPlace answer) buffer)) }
+      ≡ bytesLeft (λ words. words) place code E
 
-  frame-few : length (framed (codeWords (b .first ++ b .second))) ≤ 1536
-  frame-few =
+pub half-packed : (place : ℕ) (code : List ℕ) (objects named : ℕ → Bool) (blank : List ℕ) {o n : ℕ → Bool} {answer : Compiled} {buffer : List ℕ} (E : Emitted)
+    → record { answer = answer; words = buffer; objects = o; named = n } ≡ knownFinished objects named E blank → CodeFits (λ words. words) place (length code / 4) E
+    → HalfPacked place code answer buffer o n E
+half-packed place code objects named blank (refuse refusal) e fits = absurd fits
+half-packed place code objects named blank {o} {n} {answer} {buffer} (ok lines env) e fits =
+    let count : compiledPlace answer ≡ length (codeWords lines) = ap (λ (x : KnownOutcome). compiledPlace (x .answer)) e in
+    let words : buffer ≡ codeWords lines ++ drop (length (codeWords lines)) blank = ap (λ (x : KnownOutcome). x .words) e in
+    let same : take (compiledPlace answer) buffer ≡ codeWords lines = rw (count, words) (take-append-seam (codeWords lines) (drop (length (codeWords lines)) blank)) in
+    record {
+      fits = omega (arith, count, fits);
+      within = omega (arith, count, ap length words, length-append (codeWords lines) (drop (length (codeWords lines)) blank));
+      left = λ i. record { end = place + count i; objects = e i .objects; named = e i .named; code = sets code (4 * place) (spelled 4 (same i)) };
+    }
+
+-- four parts one behind another
+four-parts : (code : List ℕ) (p : ℕ) (a b c d : List ℕ) {q r t : ℕ} → q ≡ p + length a → r ≡ q + length b → t ≡ r + length c
+    → sets (sets (sets (sets code p a) q b) r c) t d ≡ sets code p (a ++ (b ++ (c ++ d)))
+four-parts code p a b c d e f g =
+    rw g (rw f (rw e (sym (
+    sets-append code p a (b ++ (c ++ d)) ∙ sets-append (sets code p a) (p + length a) b (c ++ d)
+    ∙ sets-append (sets (sets code p a) (p + length a) b) (p + length a + length b) c d
+    ))))
+
+-- packed code: where its words end, what is set after them, and the bytes
+record PackedLeft (place : ℕ) (code : List ℕ) (lines : List Line) (e : Env) (end : ℕ) (o n : ℕ → Bool) (after : List ℕ) : Type 0 where
+  ends : end ≡ place + length (codeWords lines)
+  env : fromKnown o n ≡ again e
+  slice : after ≡ sets code (4 * place) (spelled 4 (codeWords lines))
+
+packed-left : (place : ℕ) (code : List ℕ) (lines : List Line) (e : Env) {end : ℕ} {o n : ℕ → Bool} {after : List ℕ}
+    → record { end = end; objects = o; named = n; code = after } ≡ bytesLeft (λ words. words) place code (ok lines e) → PackedLeft place code lines e end o n after
+packed-left place code lines e h = record {
+  ends = ap (λ (x : CodeLeft). x .end) h;
+  env = ap (λ (x : CodeLeft). fromKnown (x .objects) (x .named)) h;
+  slice = ap (λ (x : CodeLeft). x .code) h;
+}
+
+-- INPUT is packed, then each half behind it, then OUTPUT
+module _ (kinds matching creating : List ℕ) (e : Env) (place : ℕ) (code : List ℕ) (b : BothHalves kinds matching creating e place (length code / 4)) where
+  abbrev m : List ℕ
+  m = codeWords (b .first)
+
+  abbrev c : List ℕ
+  c = codeWords (b .second)
+
+  abbrev opened : List ℕ
+  opened = sets code (4 * place) (bytesOf 4 inputWord)
+
+  room : place + 2 + length m + length c ≤ length code / 4
+  room =
       omega (
         arith,
-        half-words false matching kinds e fresh (b .first) (b .between) (b .matches),
-        half-words true creating kinds (again (b .between)) refl (b .second) (b .env) (b .creates),
+        b .fits,
         ap length (words-append (b .first) (b .second)),
-        length-append (codeWords (b .first)) (codeWords (b .second)),
+        length-append m c,
         length-append (codeWords (b .first ++ b .second)) (outputWord ∷ []),
       )
 
-  emits : roundEmitted kinds matching creating e ≡ ok (b .first ++ b .second) (b .env)
-  emits = round-ok kinds matching creating e (b .matches) (b .creates)
+  pub first-packs : CodeFits (λ words. words) (place + 1) (length opened / 4) (half false matching kinds e)
+  first-packs = rw (b .matches, length-sets code (4 * place) (bytesOf 4 inputWord)) (omega (arith, room))
 
-  pub round-room : (blank : List ℕ) → 1538 ≡ length blank → CodeFits framed 0 (length blank) (roundEmitted kinds matching creating e)
-  round-room blank long = rw emits (omega (arith, frame-few, long))
+  module _ {end : ℕ} {o n : ℕ → Bool} {after : List ℕ}
+      (h : record { end = end; objects = o; named = n; code = after } ≡ bytesLeft (λ words. words) (place + 1) opened (half false matching kinds e)) where
+    matched : PackedLeft (place + 1) opened (b .first) (b .between) end o n after
+    matched = packed-left (place + 1) opened (b .first) (b .between) (h ∙ ap (bytesLeft (λ words. words) (place + 1) opened) (b .matches))
 
-  -- the buffer's front is the round
-  module _ (blank : List ℕ) {end : ℕ} {o n : ℕ → Bool} {buffer : List ℕ} (long : 1538 ≡ length blank)
-      (h : record { end = end; objects = o; named = n; code = buffer } ≡ codeLeft framed 0 blank (roundEmitted kinds matching creating e)) where
-    left : Left framed 0 blank (b .first ++ b .second) (b .env) end o n buffer
-    left = left-by framed 0 blank (b .first ++ b .second) (b .env) (h ∙ ap (codeLeft framed 0 blank) emits)
+    matched-long : length after ≡ length code
+    matched-long = ap length (matched .slice) ∙ length-sets opened (4 * (place + 1)) (spelled 4 m) ∙ length-sets code (4 * place) (bytesOf 4 inputWord)
 
-    abbrev frame : List ℕ
-    frame = framed (codeWords (b .first ++ b .second))
+    creates : half true creating kinds (fromKnown o n) ≡ ok (b .second) (b .env)
+    creates = ap (half true creating kinds) (matched .env) ∙ b .creates
 
-    ends : end ≡ length frame
-    ends = left .ends ∙ zero-add (length frame)
+    pub second-packs : CodeFits (λ words. words) end (length after / 4) (half true creating kinds (fromKnown o n))
+    second-packs = rw (creates, matched .ends, matched-long) (omega (arith, room))
 
-    at-front : sets blank 0 frame ≡ frame ++ drop (length frame) blank
-    at-front = sets-eq frame blank 0 (omega (arith, frame-few, long)) ∙ ap (λ (n : ℕ). frame ++ drop n blank) (zero-add (length frame))
+    module _ {end′ : ℕ} {o′ n′ : ℕ → Bool} {after′ : List ℕ}
+        (h′ : record { end = end′; objects = o′; named = n′; code = after′ } ≡ bytesLeft (λ words. words) end after (half true creating kinds (fromKnown o n))) where
+      created : PackedLeft end after (b .second) (b .env) end′ o′ n′ after′
+      created = packed-left end after (b .second) (b .env) (h′ ∙ ap (bytesLeft (λ words. words) end after) creates)
 
-    pub front : take end buffer ≡ frame
-    front =
-        ap (λ (n : ℕ). take n buffer) ends
-        ∙ ap (λ (l : List ℕ). take (length frame) l) (left .slice ∙ at-front)
-        ∙ take-append-seam frame (drop (length frame) blank)
+      pub created-long : length after′ ≡ length code
+      created-long = ap length (created .slice) ∙ length-sets after (4 * end) (spelled 4 c) ∙ matched-long
 
-    pub within : end ≤ length buffer
-    within = omega (arith, ends, frame-few, ap length (left .slice), length-sets blank 0 frame, long)
+      pub output-packs : 4 * end′ + 4 ≤ length code
+      output-packs = omega (arith, created .ends, matched .ends, room)
 
-    pub fits : place + end ≤ room
-    fits = omega (arith, ends, b .fits)
+      in-parts : spelled 4 (framed (codeWords (b .first ++ b .second))) ≡ bytesOf 4 inputWord ++ (spelled 4 m ++ (spelled 4 c ++ bytesOf 4 outputWord))
+      unfolding spelled
+      in-parts = ap (bytesOf 4 inputWord ++_) (
+          spelled-append 4 (codeWords (b .first ++ b .second)) (outputWord ∷ [])
+          ∙ ap (_++ spelled 4 (outputWord ∷ [])) (ap (spelled 4) (words-append (b .first) (b .second)) ∙ spelled-append 4 m c)
+          ∙ append-assoc (spelled 4 m) (spelled 4 c) (spelled 4 (outputWord ∷ []))
+          ∙ ap (λ (l : List ℕ). spelled 4 m ++ (spelled 4 c ++ l)) (sym (one-spelled 4 outputWord))
+          )
 
-    pub bytes-left : (code : List ℕ) {after : List ℕ} → after ≡ sets code (4 * place) (spelled 4 (take end buffer))
-        → record { end = place + end; objects = o; named = n; code = after } ≡ bytesLeft place code (roundEmitted kinds matching creating e)
-    bytes-left code same =
-        (λ i. record { end = place + ends i; objects = left .env i .objects; named = left .env i .raws; code = (same ∙ ap (λ (l : List ℕ). sets code (4 * place) (spelled 4 l)) front) i })
-        ∙ ap (bytesLeft place code) (sym emits)
+      written : sets after′ (4 * end′) (bytesOf 4 outputWord) ≡ sets code (4 * place) (spelled 4 (framed (codeWords (b .first ++ b .second))))
+      written =
+          ap (λ (l : List ℕ). sets l (4 * end′) (bytesOf 4 outputWord))
+          (created .slice ∙ ap (λ (l : List ℕ). sets l (4 * end) (spelled 4 c)) (matched .slice))
+          ∙ four-parts code (4 * place) (bytesOf 4 inputWord) (spelled 4 m) (spelled 4 c) (bytesOf 4 outputWord)
+          (omega (arith, length-bytesOf 4 inputWord)) (omega (arith, length-spelled 4 m, matched .ends)) (omega (arith, length-spelled 4 c, created .ends))
+          ∙ ap (sets code (4 * place)) (sym in-parts)
+
+      pub bytes-left : {last : List ℕ} → last ≡ sets after′ (4 * end′) (bytesOf 4 outputWord)
+          → record { end = end′ + 1; objects = o′; named = n′; code = last } ≡ bytesLeft framed place code (roundEmitted kinds matching creating e)
+      bytes-left same =
+          let ends : end′ + 1 ≡ place + length (framed (codeWords (b .first ++ b .second))) =
+          omega (
+            arith,
+            created .ends,
+            matched .ends,
+            ap length (words-append (b .first) (b .second)),
+            length-append m c,
+            length-append (codeWords (b .first ++ b .second)) (outputWord ∷ []),
+          ) in
+          (λ i. record { end = ends i; objects = created .env i .objects; named = created .env i .raws; code = (same ∙ written) i })
+          ∙ ap (bytesLeft framed place code) (sym (round-ok kinds matching creating e (b .matches) (b .creates)))
 
 -- the rounds so far, as bytes
 pub record Packing (kinds counts rows : List ℕ) (start : Env) (ends₀ code₀ : List ℕ) (round row : ℕ) (e : Env) (words : ℕ) (ends code : List ℕ) : Type 0 where
@@ -137,7 +215,7 @@ module _ (kinds counts rows : List ℕ) (start : Env) (ends₀ code₀ : List �
         let four : length code / 4 ≡ length (p .coded) = omega (arith, ap length (p .code-bytes), length-spelled 4 (p .coded)) in
         rw four (round-fits kinds counts rows start (elements 2 ends₀) (elements 4 code₀) all room two (p .writing) inside)
 
-    module _ {end : ℕ} {o n : ℕ → Bool} {after : List ℕ} (h : record { end = end; objects = o; named = n; code = after } ≡ bytesLeft words code emitted) where
+    module _ {end : ℕ} {o n : ℕ → Bool} {after : List ℕ} (h : record { end = end; objects = o; named = n; code = after } ≡ bytesLeft framed words code emitted) where
       abbrev lines : List Line
       lines = ahead kinds counts rows start (elements 2 ends₀) (elements 4 code₀) all room two (p .writing) inside .lines
 
@@ -147,8 +225,8 @@ module _ (kinds counts rows : List ℕ) (start : Env) (ends₀ code₀ : List �
       emits-ahead : emitted ≡ ok lines env
       emits-ahead = ahead kinds counts rows start (elements 2 ends₀) (elements 4 code₀) all room two (p .writing) inside .emits
 
-      packed : record { end = end; objects = o; named = n; code = after } ≡ bytesLeft words code (ok lines env)
-      packed = h ∙ ap (bytesLeft words code) emits-ahead
+      packed : record { end = end; objects = o; named = n; code = after } ≡ bytesLeft framed words code (ok lines env)
+      packed = h ∙ ap (bytesLeft framed words code) emits-ahead
 
       in-words : record { end = end; objects = o; named = n; code = sets (p .coded) words (framed (codeWords lines)) } ≡ codeLeft framed words (p .coded) emitted
       in-words =

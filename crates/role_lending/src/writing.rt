@@ -5,25 +5,51 @@ ghost use mathlib.Core.List.{_++_};
 ghost use Prim.Native.Nat.{_/_, _%_, _≤_};
 ghost use lib.ListN.{length, drop};
 ghost use Rattle.word.specs.Bytes.{elements, spelled};
-ghost use Rattle.numbers.specs.Limits.{mostRounds, mostRoundWords};
+ghost use Rattle.numbers.specs.Limits.{mostRounds};
+ghost use Rattle.calls.specs.Half.{half};
 ghost use Rattle.calls.specs.Frame.{framed};
 ghost use Rattle.calls.specs.Role.{sum, endsFrom, inTurn, halvesFrom};
 ghost use Rattle.knowing.specs.Known.{known};
 ghost use Rattle.compiler.specs.CompileKnown.{fromKnown};
 ghost use Rattle.roles.specs.Written.{roundEmitted, CodeFits, RoundsFit, roundsIn};
 ghost use Rattle.role_lending.specs.Bytes.{bytesLeft};
+use code::frame::INPUT;
+use code::frame::OUTPUT;
 use lending::arrays;
-use numbers::limits::MOST_ROUND_WORDS;
 use roles::writing::Written;
 
-// Of a large array only the length is promised: a goal would spell every zero.
-fn no_round() -> [u32; MOST_ROUND_WORDS]
-    ensures { λ r. ⌜ mostRoundWords ≡ length r ⌝ }
+// A half's words from a place on.
+fn write_half(
+    create: bool,
+    bytes: &[u8],
+    kinds: &[u8],
+    objects: u64,
+    named: u64,
+    place: usize,
+    code: &mut [u8],
+) -> Written
+    requires { ⌜ CodeFits (λ words. words) place (length (now code) / 4) (half create (elements 8 (now bytes)) (now kinds) (fromKnown (known objects) (known named))) ⌝ }
+    ensures { λ r. ⌜ record { end = r .end; objects = known (r .objects); named = known (r .named); code = now (code .exit) }
+        ≡ bytesLeft (λ words. words) place (now (code .entry)) (half create (elements 8 (now (bytes .entry))) (now (kinds .entry)) (fromKnown (known objects) (known named))) ⌝ }
 {
-    [0u32; MOST_ROUND_WORDS]
+    let lent = bytes.len() / 8;
+    let rows = arrays::pattern_rows(bytes);
+    let mut buffer = compiler::no_words();
+    let left = compiler::compile_known(create, &rows[..lent], kinds, objects, named, &mut buffer);
+    let answer = left.answer;
+    let count = answer.place() as usize;
+    let end = place + count;
+    let start = 4 * place;
+    let past = 4 * end;
+    word::pack_quads(&buffer[..count], &mut code[start..past]);
+    Written {
+        end: end,
+        objects: left.objects,
+        named: left.named,
+    }
 }
 
-// A round's words from a place on.
+// A round's words from a place on: INPUT, both halves, OUTPUT.
 fn write_round(
     matching: &[u8],
     creating: &[u8],
@@ -35,32 +61,26 @@ fn write_round(
 ) -> Written
     requires { ⌜ CodeFits framed place (length (now code) / 4) (roundEmitted (now kinds) (elements 8 (now matching)) (elements 8 (now creating)) (fromKnown (known objects) (known named))) ⌝ }
     ensures { λ r. ⌜ record { end = r .end; objects = known (r .objects); named = known (r .named); code = now (code .exit) }
-        ≡ bytesLeft place (now (code .entry)) (roundEmitted (now (kinds .entry))
+        ≡ bytesLeft framed place (now (code .entry)) (roundEmitted (now (kinds .entry))
         (elements 8 (now (matching .entry))) (elements 8 (now (creating .entry))) (fromKnown (known objects) (known named))) ⌝ }
 {
-    let first = matching.len() / 8;
-    let second = creating.len() / 8;
-    let match_rows = arrays::pattern_rows(matching);
-    let create_rows = arrays::pattern_rows(creating);
-    let mut buffer = no_round();
-    let left = roles::writing::write_round(
-        &match_rows[..first],
-        &create_rows[..second],
+    word::put_quad(code, 4 * place, INPUT);
+    let matched = write_half(false, matching, kinds, objects, named, place + 1, code);
+    let created = write_half(
+        true,
+        creating,
         kinds,
-        objects,
-        named,
-        0,
-        &mut buffer,
+        matched.objects,
+        matched.named,
+        matched.end,
+        code,
     );
-    let count = left.end;
-    let end = place + count;
-    let start = 4 * place;
-    let past = 4 * end;
-    word::pack_quads(&buffer[..count], &mut code[start..past]);
+    let output = created.end;
+    word::put_quad(code, 4 * output, OUTPUT);
     Written {
-        end: end,
-        objects: left.objects,
-        named: left.named,
+        end: output + 1,
+        objects: created.objects,
+        named: created.named,
     }
 }
 

@@ -8,6 +8,7 @@ use Rattle.word.proofs.ByteLaws.{length-words}
 use Rattle.word.proofs.TestLaws.{equals}
 use Rattle.knowing.specs.Known.{known}
 use Rattle.compiler.specs.CompileKnown.{fromKnown}
+use Rattle.calls.specs.Frame.{framed}
 use Rattle.calls.specs.Role.{roundsOf, inTurn}
 use Rattle.calls.proofs.RoleLaws.{whole, rows-inside}
 use Rattle.roles.specs.Written.{roundEmitted}
@@ -156,7 +157,7 @@ module _ (c : tie.After-write-round Inv-loop μ-loop) where
     objects = known (c .write-round .result .objects);
     named = known (c .write-round .result .named);
     code = c .write-round .last .1 .1 .1 .1 .1 .1 .0;
-  } ≡ bytesLeft (loop .before .loop .words) (loop .before .loop .code) (roundEmitted (start loop .args .kinds .now)
+  } ≡ bytesLeft framed (loop .before .loop .words) (loop .before .loop .code) (roundEmitted (start loop .args .kinds .now)
       (take (first loop) (drop (row loop) (elements 8 (start loop .args .rows .now))))
       (take (second loop) (drop (row loop + first loop) (elements 8 (start loop .args .rows .now))))
       (fromKnown (known (loop .before .loop .set-objects)) (known (loop .before .loop .set-named))))
