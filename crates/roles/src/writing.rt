@@ -50,7 +50,7 @@ fn write_half(
 }
 
 // A round's words from a place on: INPUT, both halves, OUTPUT.
-pub fn write_round(
+fn write_round(
     matching: &[u64],
     creating: &[u64],
     kinds: &[u8],
