@@ -19,7 +19,7 @@ use Rattle.promises.specs.Halves.{RoundHalves, roundWords, RoundCode, Ro
 use Rattle.promises.specs.RolesForC.{partBytes}
 use Rattle.promises.proofs.ForC.{words-below}
 use Rattle.promises.proofs.HalvesLaws.{half-good}
-use Rattle.promises.proofs.RoundDecisionLaws.{carried-start}
+use Rattle.promises.proofs.RoundDecisionLaws.{carried-start, next-start}
 
 -- WORDS OF 32 BITS, ENDS OF 16
 
@@ -44,7 +44,7 @@ pub role-below : {kinds : List ℕ} {set : Env} {rounds : List RoundHalves} → 
     → Below (256 ^ 4) (getD (map roundWords rounds) i [])
 role-below start RoleCode.none i place = omega arith
 role-below start (RoleCode.more c rest) zero place = round-below c start place
-role-below start (RoleCode.more c rest) (suc i) place = role-below (ap (λ (e : Env). e .next) (sym (c .creates .carries))) rest i place
+role-below start (RoleCode.more c rest) (suc i) place = role-below (next-start c start) rest i place
 
 pub ends-below : (limit start : ℕ) (rounds : List (List ℕ)) → 0 < limit → start + length (inTurn rounds) < limit → Below limit (endsFrom start rounds)
 unfolding endsFrom inTurn

@@ -59,6 +59,9 @@ module _ {kinds : List ℕ} {set next : Env} {r : RoundHalves} (c : RoundCode ki
   pub carried-start : c .carried .next ≡ 0
   carried-start = ap (λ (e : Env). e .next) (sym (c .matches .carries))
 
+  pub next-start : next .next ≡ 0
+  next-start = ap (λ (e : Env). e .next) (sym (c .creates .carries))
+
   few-first : length (r .first) ≤ 767
   few-first = half-few (c .matches) start
 
