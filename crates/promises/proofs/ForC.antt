@@ -220,7 +220,7 @@ module _ (x : Lent) (code : List ℕ) where
         }
 
 -- good words have 32 bits
-words-below : {kind : ℕ → ℕ} (all : List ℕ) → AllGoodWords kind all → Below (256 ^ 4) all
+pub words-below : {kind : ℕ → ℕ} (all : List ℕ) → AllGoodWords kind all → Below (256 ^ 4) all
 words-below {kind} all good i = go (decLt i (length all))
   where
     go : Dec (i < length all) → getD all i 0 < 256 ^ 4

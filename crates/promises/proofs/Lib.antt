@@ -37,5 +37,6 @@ pub mod Printed
 pub mod Example
 pub mod ForC
 pub mod RoundsForC
+pub mod PartLaws
 pub mod RolesForC
 pub mod Promises

@@ -20,7 +20,7 @@ use Rattle.calls.proofs.RoleLaws.{halves-refused}
 use Rattle.promises.specs.Halves.{HalfCode, RoundHalves, roundWords, RoundCode, RoleCode, RoundPlays, RolePlays, ended, next, halfRows, roundPatterns, RoleRounds}
 use Rattle.promises.proofs.CompileLaws.{number-done}
 use Rattle.promises.proofs.TurnLaws.{role-within}
-use Rattle.promises.proofs.RoundDecisionLaws.{round-few, round-decided, cells-again}
+use Rattle.promises.proofs.RoundDecisionLaws.{next-start, round-few, round-decided, cells-again}
 
 halves-inj : {a b : List (List ℕ)} → compiled a ≡ compiled b → a ≡ b
 halves-inj {a} e = ap words e
@@ -105,14 +105,14 @@ round-plays {kinds} {set} {carried} {r} start c = record {
 
 role-plays : {kinds : List ℕ} {set : Env} {rounds : List RoundHalves} → set .next ≡ 0 → RoleCode kinds set rounds → RolePlays kinds set rounds
 role-plays start RoleCode.none = ended
-role-plays start (RoleCode.more c rest) = next (round-plays start c) (role-plays (ap (λ (e : Env). e .next) (sym (c .creates .carries))) rest)
+role-plays start (RoleCode.more c rest) = next (round-plays start c) (role-plays (next-start c start) rest)
 
 role-few : {kinds : List ℕ} {set : Env} {rounds : List RoundHalves} → set .next ≡ 0 → RoleCode kinds set rounds
     → length (inTurn (map roundWords rounds)) ≤ 1536 * length rounds
 unfolding inTurn
 role-few start RoleCode.none = omega arith
 role-few start (RoleCode.more {r = r} {rounds = rounds} c rest) =
-    omega (arith, length-append (roundWords r) (inTurn (map roundWords rounds)), round-few c start, role-few (ap (λ (e : Env). e .next) (sym (c .creates .carries))) rest)
+    omega (arith, length-append (roundWords r) (inTurn (map roundWords rounds)), round-few c start, role-few (next-start c start) rest)
 
 module _ (x : RoleLent) (ends slice : List ℕ) where
   counts-fit : T (roleFits ends slice x) → (length (x .counts) % 2 ≡ 0) × (length (x .counts) / 2 ≤ mostRounds)

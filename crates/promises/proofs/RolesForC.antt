@@ -1,23 +1,36 @@
 -- The entry of a role over bytes: what it leaves is what a role leaves of the elements, spelled.
-use Prim.Native.Nat.{ℕ}
-use mathlib.Core.Path.{_≡_, sym, _∙_, ap}
+use Prim.Native.Nat.{ℕ, _^_}
+use mathlib.Core.Path.{_≡_, refl, sym, _∙_, ap}
 use mathlib.Core.Logic.{_↔_, _≢_, _⊎_, inl, inr}
-use mathlib.Core.List.{List}
+use mathlib.Core.List.{List, [], _++_, map}
 use native.Mathlib.Omega.{arith}
 use lib.Dec.{T}
+use lib.ListN.{length, getD, drop}
 use Rattle.word.specs.Bytes.{elements, spelled}
 use Rattle.word.proofs.TestLaws.{both, equals, stable, is-true, is-false}
-use Rattle.calls.specs.Role.{RoleLent}
+use Rattle.word.proofs.ByteLaws.{Below, length-spelled, elements-spelled}
+use Rattle.calls.specs.Round.{round}
+use Rattle.calls.specs.Role.{RoleLent, inTurn, endsFrom}
+use Rattle.lending.specs.RoundEntry.{roundElements}
 use Rattle.role_lending.specs.RoleEntry.{roleSpelled, roleUntouched, roleWhole, roleElements, roleEntry}
 use Rattle.promises.specs.ForC.{Bytes}
 use Rattle.promises.specs.Roles.{RoleAnswers}
-use Rattle.promises.specs.RolesForC.{roleMeans, RoleWhole, RoleComes, RoleForC, RolesForC}
+use Rattle.promises.specs.Halves.{roundWords}
+use Rattle.promises.specs.RolesForC.{partBytes, SpellsWords, roleMeans, RoleWhole, RoleComes, RolePlaysForC, RoleForC, RolesForC}
 use Rattle.promises.proofs.ForC.{by-test, spells}
 use Rattle.promises.proofs.RoleTable.{role-table}
+use Rattle.promises.proofs.RoleLaws.{role-rounds}
+use Rattle.promises.proofs.PartLaws.{role-below, ends-below, round-bytes}
 
 apart : {number half : ℕ} → (number ≢ 1) ⊎ (half ≢ 0) → number ≡ 1 → half ≡ 0 → ⊥
 apart (inl n) p q = n p
 apart (inr n) p q = n q
+
+-- words of 32 bits are read as they were spelled
+spells-words : (bytes words : List ℕ) → bytes ≡ spelled 4 words → Below (256 ^ 4) words → SpellsWords bytes words
+spells-words bytes words is below =
+    let same : elements 4 bytes ≡ words = ap (elements 4) is ∙ elements-spelled 4 words (omega arith) below in
+    record { whole-bytes = omega (arith, ap length is, length-spelled 4 words); same-words = same; same-round = λ y. ap (round (roundElements y)) same }
 
 module _ (ends code : List ℕ) (x : RoleLent) where
   whole-says : T (roleWhole ends code x) ↔ RoleWhole ends code x
@@ -59,6 +72,23 @@ module _ (ends code : List ℕ) (x : RoleLent) where
     done-whole : roleEntry ends code x .answer .number ≡ 0 → T (roleWhole ends code x)
     done-whole e = stable (roleWhole ends code x) λ n. let z = sym e ∙ ap (λ o. o .answer .number) (entry-refused n) in omega arith
 
+    plays-so : roleEntry ends code x .answer .number ≡ 0 → RolePlaysForC ends code x
+    plays-so e =
+        let s = entry-whole (done-whole e) in
+        let r = role-rounds (roleElements x) (elements 2 ends) (elements 4 code) (sym (ap (λ o. o .answer .number) s) ∙ e) in
+        let rounds = map roundWords (r .rounds) in
+        let rest = drop (length (inTurn rounds)) (elements 4 code) in
+        let same : elements 2 (roleEntry ends code x .ends) ≡ endsFrom 0 rounds =
+        ap (λ o. elements 2 (o .ends)) s ∙ ap (λ l. elements 2 (spelled 2 l)) (r .ends)
+        ∙ elements-spelled 2 (endsFrom 0 rounds) (omega arith) (ends-below (256 ^ 2) 0 rounds (omega arith) (omega (arith, r .few-words))) in
+        let bytes : roleEntry ends code x .code ≡ spelled 4 (inTurn rounds ++ rest) = ap (λ o. o .code) s ∙ ap (spelled 4) (r .words) in
+        record {
+          role-rounds = r;
+          same-ends = same ∙ sym (r .ends);
+          parts = λ i inside.
+              spells-words _ (getD rounds i []) ((λ j. partBytes (bytes j) (same j) i) ∙ round-bytes (r .rounds) rest i inside) (role-below refl (r .compiled) i);
+        }
+
     role-for-c : RoleForC ends code x
     role-for-c = record {
       limit = (
@@ -76,6 +106,7 @@ module _ (ends code : List ℕ) (x : RoleLent) where
       );
       left = as-lent;
       done = λ e. let s = entry-whole (done-whole e) in (ap (λ o. o .ends) s, ap (λ o. o .code) s);
+      plays = plays-so;
     }
 
 pub roles-for-c : RolesForC

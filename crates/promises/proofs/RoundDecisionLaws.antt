@@ -56,8 +56,11 @@ unfolding held
 waits terms message row h e = let z : _≡_ {A = ℕ} 0 1 = cc in omega arith
 
 module _ {kinds : List ℕ} {set next : Env} {r : RoundHalves} (c : RoundCode kinds set r next) (start : set .next ≡ 0) where
-  carried-start : c .carried .next ≡ 0
+  pub carried-start : c .carried .next ≡ 0
   carried-start = ap (λ (e : Env). e .next) (sym (c .matches .carries))
+
+  pub next-start : next .next ≡ 0
+  next-start = ap (λ (e : Env). e .next) (sym (c .creates .carries))
 
   few-first : length (r .first) ≤ 767
   few-first = half-few (c .matches) start
