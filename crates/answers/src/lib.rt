@@ -1,6 +1,8 @@
 // What a call answers, one enum for each kind of call, and the numbers that it comes back as.
+mod direct;
 mod rounds;
 
+pub use direct::Direct;
 pub use rounds::NONE_WAITS;
 pub use rounds::Rounded;
 pub use rounds::Session;

@@ -3,6 +3,7 @@ pub mod Cases
 pub mod CompileLaws
 pub mod FrameLaws
 pub mod SetCells
+pub mod LookLaws
 pub mod CompiledWords
 pub mod HalfLaws
 pub mod RoleLaws

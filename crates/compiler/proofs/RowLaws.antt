@@ -14,7 +14,8 @@ use Rattle.patterns.specs.Tree.{patternOf}
 use Rattle.patterns.proofs.GoodRow.{good-row}
 use Rattle.patterns.proofs.RuleLaws.{all-good}
 use Rattle.patterns.proofs.TreeLaws.{formed, pattern-size}
-use Rattle.emission.specs.Budget.{mostWords, patternIn, Row}
+use Rattle.patterns.specs.Standing.{patternIn}
+use Rattle.emission.specs.Budget.{mostWords, Row}
 
 -- rows behind a row do not change its pattern
 module _ (rows behind : List ℕ) where
@@ -52,9 +53,11 @@ module _ (pattern : List ℕ) (some : 1 ≤ length pattern) (few : length patter
 
   pub root-row : (objects named : ℕ) → Row (pattern ++ behind) (length pattern - 1) (objects ∷ named ∷ 0 ∷ 0 ∷ 0 ∷ [])
   root-row objects named = record {
-    good = λ place least. good place (omega arith);
-    inside = rw (length-append pattern behind) (omega arith);
-    most = omega arith;
+    stands = record {
+      good = λ place least. good place (omega arith);
+      inside = rw (length-append pattern behind) (omega arith);
+      most = omega arith;
+    };
     room = record { long = refl; place = omega (arith, root-size); free = omega (arith, root-size) };
   }
     where

@@ -9,7 +9,8 @@ use Rattle.calls.specs.Compile.{tables}
 use Rattle.numbers.specs.Kinds.{kindIn}
 use Rattle.knowing.specs.Known.{known}
 use Rattle.knowing.specs.Meets.{writtenIn, refusalIn, refusal, Does}
-use Rattle.emission.specs.Budget.{patternIn, mostWords, mostScratches}
+use Rattle.patterns.specs.Standing.{patternIn}
+use Rattle.emission.specs.Budget.{mostWords, mostScratches}
 use Rattle.compiler.specs.CompileKnown.{KnownOutcome}
 use Rattle.compiler.specs.declared.Finding.{Finding}
 use Rattle.compiler.specs.declared.Finding.the-variants.{Refused, Accepted}

@@ -13,10 +13,11 @@ use Rattle.theory.specs.Machine.{named}
 use Rattle.theory.specs.Emission.{Env, Emitted, emit}
 use Rattle.theory.specs.Compilers.{keyVar}
 use Rattle.knowing.specs.Meets.{Does, RoomFor}
-use Rattle.emission.specs.Budget.{RowAt, Leaf}
+use Rattle.patterns.specs.Standing.{Leaf}
+use Rattle.emission.specs.Budget.{RowAt}
 use Rattle.knowing.proofs.MeetsLaws.{does-le, does-seq}
-use Rattle.emission.proofs.BudgetLaws.{as-leaf, leaf-room, variable-low, second-low, room-le, room-then}
-use Rattle.emission.proofs.PatternLaws.{good-row, object-row, raw-row, constant-row, opposite-row, key-of-row, signature-row, hash-row, above-four, seven-left}
+use Rattle.emission.proofs.BudgetLaws.{as-leaf, leaf-room, room-le, room-then}
+use Rattle.patterns.proofs.StandingLaws.{good-row, object-row, raw-row, constant-row, opposite-row, key-of-row, signature-row, hash-row, above-four, seven-left, variable-low, second-low}
 use Rattle.creating.specs.Creates.{keyCode, patternCode, Creates}
 use Rattle.creating.proofs.KeyLaws.{key-variable}
 use Rattle.creating.proofs.FormLaws.{raw-done, key-of-done}
@@ -25,30 +26,30 @@ module _ (rows kinds : List ℕ) (row word : ℕ) {e code e′ code′ : List �
   module _ (tag : ℕ) (read : tag ≡ patternFields word .tag) where
     module _ (v : ℕ) (variable : v ≡ patternFields word .v) where
       pub leaf-object : tag ≡ 0 → Does (patternCode kinds (object row v)) 7 1 e code e′ code′ → Creates rows kinds row e code e′ code′
-      leaf-object h k = as-leaf (patternCode kinds) rows row (object row v) (object-row asked (sym read ∙ h) ∙ rw variable) k
+      leaf-object h k = as-leaf (patternCode kinds) rows row (object row v) (object-row (asked .standing) (sym read ∙ h) ∙ rw variable) k
 
       pub leaf-constant : (x : ℕ) → x ≡ patternFields word .x → tag ≡ 2 → ((any : List ℕ) → Does (patternCode any (constant row v x)) 7 1 e code e′ code′) → Creates rows kinds row e code e′ code′
       leaf-constant x second h k =
-          as-leaf (patternCode kinds) rows row (constant row v x) (constant-row asked (sym read ∙ h) ∙ rw (variable, second)) (k kinds)
+          as-leaf (patternCode kinds) rows row (constant row v x) (constant-row (asked .standing) (sym read ∙ h) ∙ rw (variable, second)) (k kinds)
 
       pub leaf-opposite : (y : ℕ) → y ≡ patternFields word .y → tag ≡ 3 → Does (patternCode kinds (opposite row v y)) 7 1 e code e′ code′ → Creates rows kinds row e code e′ code′
       leaf-opposite y second h k =
-          as-leaf (patternCode kinds) rows row (opposite row v y) (opposite-row asked (sym read ∙ h) ∙ rw (variable, second)) k
+          as-leaf (patternCode kinds) rows row (opposite row v y) (opposite-row (asked .standing) (sym read ∙ h) ∙ rw (variable, second)) k
 
       pub leaf-key-of : (y : ℕ) → y ≡ patternFields word .y → tag ≡ 4 → ((any : List ℕ) → Does (keyCode any row (certifiedKey v y)) 3 0 e code e′ code′) → Creates rows kinds row e code e′ code′
       leaf-key-of y second h k =
-          as-leaf (patternCode kinds) rows row (keyOf row v y) (key-of-row asked (sym read ∙ h) ∙ rw (variable, second)) (key-of-done kinds row v y (k kinds))
+          as-leaf (patternCode kinds) rows row (keyOf row v y) (key-of-row (asked .standing) (sym read ∙ h) ∙ rw (variable, second)) (key-of-done kinds row v y (k kinds))
 
       pub leaf-hash : (r : ℕ) → r ≡ patternFields word .r → Leaf (patternFields word .tag) → (tag ≡ 0 → ⊥) → (tag ≡ 1 → ⊥) → (tag ≡ 2 → ⊥) → (tag ≡ 3 → ⊥) → (tag ≡ 4 → ⊥) → (tag ≡ 6 → ⊥)
           → ((any : List ℕ) → Does (patternCode any (hash row v r)) 7 1 e code e′ code′) → Creates rows kinds row e code e′ code′
       leaf-hash r second leaf n₀ n₁ n₂ n₃ n₄ n₆ k =
-          let low = good-row asked .tag in
+          let low = good-row (asked .standing) .tag in
           let high = above-four tag n₀ n₁ n₂ n₃ n₄ in
           let seven = seven-left (patternFields word .tag) (omega arith) low (leaf .encryption) (λ h. n₆ (read ∙ h)) (leaf .tuple) (leaf .letIn) in
-          as-leaf (patternCode kinds) rows row (hash row v r) (hash-row asked seven ∙ rw (variable, second)) (k kinds)
+          as-leaf (patternCode kinds) rows row (hash row v r) (hash-row (asked .standing) seven ∙ rw (variable, second)) (k kinds)
 
     pub leaf-raw : (r : ℕ) → r ≡ patternFields word .r → tag ≡ 1 → Does (emit row (Load (named r))) 1 0 e code e′ code′ → Creates rows kinds row e code e′ code′
-    leaf-raw r second h k = as-leaf (patternCode kinds) rows row (raw row r) (raw-row asked (sym read ∙ h) ∙ rw second) (raw-done kinds row r k)
+    leaf-raw r second h k = as-leaf (patternCode kinds) rows row (raw row r) (raw-row (asked .standing) (sym read ∙ h) ∙ rw second) (raw-done kinds row r k)
 
 -- s : S(key, r)
 module _ (rows : List ℕ) (row word : ℕ) {e : List ℕ} (asked : RowAt rows row word e) where
@@ -81,7 +82,7 @@ module _ (rows : List ℕ) (row word : ℕ) {e : List ℕ} (asked : RowAt rows r
       let same : x ≡ keyVar (keyBy (patternFields word)) = key ∙ sym (key-variable (patternFields word)) in
       let o : Does (emit row (Sign (asObject (keyVar (keyBy (patternFields word)))))) 1 0 e₂ code₂ e₃ code₃ = rw same at m in
       as-leaf (patternCode kinds) rows row (signature row v (keyBy (patternFields word)) r)
-      (signature-row asked six ∙ rw (variable, body))
+      (signature-row (asked .standing) six ∙ rw (variable, body))
       (does-le (lit≤ tt) (lit≤ tt) (does-seq k (does-seq l (does-seq o n))))
 
 pub ruleset leaf-asks = (variable-low, second-low, leaf-room, load-room, key-room)

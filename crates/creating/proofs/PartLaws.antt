@@ -18,7 +18,8 @@ use Rattle.theory.specs.Compilers.{STORE, CREATE-TUPLE, ENCODE, compile↑parts
 use Rattle.emission.specs.declared.Part.{Part}
 use Rattle.knowing.specs.Steps.{raise}
 use Rattle.knowing.specs.Meets.{nextIn, Does, Quiet, RoomFor}
-use Rattle.emission.specs.Budget.{patternIn, mostScratches, wordsOf, scratchesOf, Row, RowAt}
+use Rattle.patterns.specs.Standing.{patternIn}
+use Rattle.emission.specs.Budget.{mostScratches, wordsOf, scratchesOf, Row, RowAt}
 use Rattle.emission.specs.Parts.{partsFrom, partAt, partsIn, PartsAt}
 use Rattle.knowing.proofs.MeetsLaws.{then-assoc, does-le, does-seq, does-none, does-take}
 use Rattle.emission.proofs.BudgetLaws.{as-row, room-le, room-then}

@@ -7,7 +7,8 @@ use Rattle.numbers.specs.Kinds.{kindIn}
 use Rattle.theory.specs.Compilers.{creating, compile↑K, compile↑, compile↑parts}
 use Rattle.emission.specs.declared.Part.{Part}
 use Rattle.knowing.specs.Meets.{Does}
-use Rattle.emission.specs.Budget.{patternIn, mostWords, mostScratches}
+use Rattle.patterns.specs.Standing.{patternIn}
+use Rattle.emission.specs.Budget.{mostWords, mostScratches}
 use Rattle.emission.specs.Parts.{DoesParts}
 
 unfoldable pub variableCode : List ℕ → ℕ → ℕ → Env → Emitted

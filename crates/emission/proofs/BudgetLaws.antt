@@ -9,9 +9,10 @@ use Rattle.patterns.specs.Row.{patternFields}
 use Rattle.patterns.proofs.PatternLaws.{size-positive}
 use Rattle.theory.specs.Emission.{Env, Emitted}
 use Rattle.knowing.specs.Meets.{Does, RoomFor}
-use Rattle.emission.specs.Budget.{mostWords, mostScratches, patternIn, Row, RowAt}
+use Rattle.patterns.specs.Standing.{patternIn}
+use Rattle.emission.specs.Budget.{mostWords, mostScratches, Row, RowAt}
 use Rattle.knowing.proofs.MeetsLaws.{does-le}
-use Rattle.emission.proofs.PatternLaws.{encryption-row, let-row}
+use Rattle.patterns.proofs.StandingLaws.{encryption-row, let-row}
 
 -- less room, and what is left of it after a step
 pub room-le : {w m x n : ℕ} {e : List ℕ} → x ≤ w → n ≤ m → RoomFor w m e → RoomFor x n e
@@ -22,8 +23,9 @@ room-then h g room d =
     record { long = d .long ∙ room .long; place = omega (arith, room .place, d .place); free = omega (arith, room .free, d .free) }
 
 -- a row whose pattern is known
-pub room-as : (rows : List ℕ) (row : ℕ) {e : List ℕ} (p : Pattern) → patternIn rows row ≡ p → Row rows row e → RoomFor (mostWords p) (mostScratches p) e
-room-as rows row p h asked = rw h at (asked .room)
+pub room-as : (rows : List ℕ) (row : ℕ) {e : List ℕ} (p : Pattern) → patternIn rows row ≡ p
+    → RoomFor (mostWords (patternIn rows row)) (mostScratches (patternIn rows row)) e → RoomFor (mostWords p) (mostScratches p) e
+room-as rows row p h room = rw h at room
 
 -- the code of a row whose pattern is known, and of one with no part
 pub as-row : (f : Pattern → Env → Emitted) (rows : List ℕ) (row : ℕ) {e code e′ code′ : List ℕ} (p : Pattern) → patternIn rows row ≡ p → Does (f p) (mostWords p) (mostScratches p) e code e′ code′
@@ -38,34 +40,22 @@ as-leaf f rows row p h k = as-row f rows row p h (does-le (omega (arith, size-po
 pub leaf-room : (rows : List ℕ) (row word : ℕ) (e : List ℕ) → RowAt rows row word e → RoomFor 7 1 e
 leaf-room rows row word e m =
     let p = patternIn rows row in
-    let room = m .whole .room in
+    let room = m .room in
     record { long = room .long; place = omega (arith, room .place, size-positive p); free = omega (arith, room .free, size-positive p) }
 
 -- a child of a row
-pub row-below : (rows : List ℕ) (row child : ℕ) {e e′ : List ℕ} → Row rows row e → child < row → RoomFor (mostWords (patternIn rows child))
+pub row-below : (rows : List ℕ) (row child : ℕ) {e′ : List ℕ} → Stands rows row → child < row → RoomFor (mostWords (patternIn rows child))
     (mostScratches (patternIn rows child)) e′ → Row rows child e′
 row-below rows row child asked below room =
-    record { good = λ place h. asked .good place (omega arith); inside = omega (arith, asked .inside); most = omega (arith, asked .most); room = room }
+    record { stands = stands-below asked below; room = room }
 
 -- room for the child of an encryption, and for the two of a let
 module _ {rows : List ℕ} {row word : ℕ} {e : List ℕ} (asked : RowAt rows row word e) (child : ℕ) (first : child ≡ getD (patternFields word .slots) 0 0) where
   pub encryption-room : patternFields word .tag ≡ 5 → RoomFor (8 * size (patternIn rows child) + 7) (2 * size (patternIn rows child) + 1) e
   unfolding size
-  encryption-room five = room-le (omega arith) (omega arith) (room-as rows row _ (encryption-row asked child first five) (asked .whole))
+  encryption-room five = room-le (omega arith) (omega arith) (room-as rows row _ (encryption-row (asked .standing) child first five) (asked .room))
 
   pub let-room : (other : ℕ) → other ≡ getD (patternFields word .slots) 1 0 → patternFields word .tag ≡ 9
       → RoomFor (8 * (size (patternIn rows child) + size (patternIn rows other)) + 7) (2 * (size (patternIn rows child) + size (patternIn rows other)) + 1) e
   unfolding size
-  let-room other second nine = room-le (omega arith) (omega arith) (room-as rows row _ (let-row asked child first other second nine) (asked .whole))
-
--- V, a key's X and Y are of the 64 variables
-pub variable-low : (word v : ℕ) → v ≡ patternFields word .v → v < 64
-unfolding patternFields
-variable-low word v e = rw e (omega arith)
-
-pub key-low : (word : ℕ) → (patternFields word .f < 3) × (patternFields word .x < 64) → (x : ℕ) → x ≡ patternFields word .x → x < 64
-key-low word good x e = omega arith
-
-pub second-low : (word y : ℕ) → y ≡ patternFields word .y → y < 64
-unfolding patternFields
-second-low word y e = rw e (omega arith)
+  let-room other second nine = room-le (omega arith) (omega arith) (room-as rows row _ (let-row (asked .standing) child first other second nine) (asked .room))

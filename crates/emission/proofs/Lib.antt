@@ -1,5 +1,4 @@
 -- What the proofs of several functions use.
 pub mod InstructionLaws
-pub mod PatternLaws
 pub mod BudgetLaws
 pub mod PartLaws

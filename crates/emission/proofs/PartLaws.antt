@@ -17,11 +17,12 @@ use Rattle.theory.specs.Emission.{Env, Emitted, ok, _then_}
 use Rattle.emission.specs.declared.Part.{Part}
 use Rattle.knowing.specs.Steps.{raise}
 use Rattle.knowing.specs.Meets.{nextIn, Does, Quiet, RoomFor}
-use Rattle.emission.specs.Budget.{mostWords, mostScratches, wordsOf, scratchesOf, patternIn, Row, RowAt, RoomParts}
+use Rattle.patterns.specs.Standing.{patternIn}
+use Rattle.emission.specs.Budget.{mostWords, mostScratches, wordsOf, scratchesOf, Row, RowAt, RoomParts}
 use Rattle.emission.specs.Parts.{partsFrom, partAt, partsIn, PartsAt, DoesParts}
 use Rattle.knowing.proofs.MeetsLaws.{does-as, does-le, does-seq, does-none}
 use Rattle.emission.proofs.BudgetLaws.{room-as}
-use Rattle.emission.proofs.PatternLaws.{good-row, slot-low, tuple-row}
+use Rattle.patterns.proofs.StandingLaws.{good-row, slot-low, tuple-row}
 
 -- the parts of a tuple from the kth on
 module _ (rows : List ℕ) (parts : List Part) (n k : ℕ) (four : length parts ≡ 4) (few : n ≤ 4) where
@@ -82,7 +83,7 @@ module _ {one : Pattern → ℕ → ℕ → Env → Emitted} {all : Parts → �
       pub part-row : {e₁ : List ℕ} → RoomFor (mostWords this) (mostScratches this) e₁ → Row rows (partAt parts k .child) e₁
       part-row room =
           let below = asked .below k less in
-          record { good = λ place h. asked .good place (omega arith); inside = omega (arith, asked .inside); most = omega (arith, asked .most); room = room }
+          record { stands = stands-below (asked .stands) below; room = room }
 
       pub parts-next : {e₁ code₁ : List ℕ} → Does (one this row (partAt parts k .scratch)) (8 * size this) (mostScratches this) e code e₁ code₁ → Walked all rows row parts n e₀ code₀ (k + 1) e₁ code₁
       unfolding sizes count
@@ -122,7 +123,7 @@ children-slots word first = refl
 -- t : [p1 .. pn]
 module _ (rows : List ℕ) (row word : ℕ) {e : List ℕ} (asked : RowAt rows row word e) (eight : patternFields word .tag ≡ 8) (n : ℕ) (counted : n ≡ patternFields word .n) where
   tuple-few : n ≤ 4
-  tuple-few = omega (arith, good-row asked .tuple eight .0)
+  tuple-few = omega (arith, good-row (asked .standing) .tuple eight .0)
 
   module _ (slots : List ℕ) (got : slots ≡ patternFields word .slots) (first : ℕ) (parts : List Part) (made : parts ≡ partsFrom slots first) where
     parts-in : partsIn rows parts n 0 ≡ partsBy (patternIn rows) (childrenOf word)
@@ -131,7 +132,7 @@ module _ (rows : List ℕ) (row word : ℕ) {e : List ℕ} (asked : RowAt rows r
         ap (partsBy (patternIn rows)) same
 
     pub tuple-is : patternIn rows row ≡ tuple row (patternFields word .v) (partsIn rows parts n 0)
-    tuple-is = tuple-row asked eight ∙ rw (← parts-in)
+    tuple-is = tuple-row (asked .standing) eight ∙ rw (← parts-in)
 
     pub tuple-counts : count (partsIn rows parts n 0) ≡ n
     tuple-counts = rw parts-in (parts-count (patternIn rows) (childrenOf word) ∙ children-count word ∙ omega (arith, tuple-few))
@@ -139,7 +140,7 @@ module _ (rows : List ℕ) (row word : ℕ) {e : List ℕ} (asked : RowAt rows r
     pub tuple-room : RoomFor (8 * sizes (partsIn rows parts n 0) + 7) (2 * sizes (partsIn rows parts n 0) + 1) e
     unfolding size
     tuple-room =
-        let room = room-as rows row (tuple row (patternFields word .v) (partsIn rows parts n 0)) tuple-is (asked .whole) in
+        let room = room-as rows row (tuple row (patternFields word .v) (partsIn rows parts n 0)) tuple-is (asked .room) in
         record { long = room .long; place = omega (arith, room .place); free = omega (arith, room .free) }
 
     -- a word before the scratch numbers are taken and one after it leave room for the parts
@@ -151,12 +152,10 @@ module _ (rows : List ℕ) (row word : ℕ) {e : List ℕ} (asked : RowAt rows r
         let d = tuple-counts in
         let f = tuple-few in
         record {
-          good = asked .whole .good;
-          inside = asked .whole .inside;
-          most = asked .whole .most;
+          stands = asked .standing .stands;
           few = tuple-few;
           below = λ k l. rw (made, part-slot slots first k (omega arith) .0, got)
-              (slot-low asked n k (sym counted) l tuple-few);
+              (slot-low (asked .standing) n k (sym counted) l tuple-few);
           laid = λ k l. rw made (part-slot slots first k (omega arith) .1);
           cells = rw made (omega (arith, room .free, before .free));
           room = record {

@@ -2,17 +2,15 @@
 use Prim.Native.Nat.{ℕ, _+_, _≤_, _<_}
 use mathlib.Core.Path.{_≡_}
 use mathlib.Core.List.{List, [], _∷_, map}
-use lib.ListN.{length, getD, take, drop}
-use lib.Dec.{T}
-use Rattle.numbers.specs.Limits.{scratchCells, mostPatternRows, mostParts}
+use lib.ListN.{getD, take, drop}
+use Rattle.numbers.specs.Limits.{scratchCells, mostParts}
 use Rattle.patterns.specs.Pattern.{Parts}
-use Rattle.patterns.specs.Row.{patternFields}
-use Rattle.patterns.specs.Rules.{rowFits}
+use Rattle.patterns.specs.Standing.{patternIn, Stands}
 use Rattle.patterns.specs.Tree.{partsBy}
 use Rattle.theory.specs.Emission.{Env, Emitted}
 use Rattle.emission.specs.declared.Part.{Part}
 use Rattle.knowing.specs.Meets.{Does}
-use Rattle.emission.specs.Budget.{patternIn, wordsOf, scratchesOf, RoomParts}
+use Rattle.emission.specs.Budget.{wordsOf, scratchesOf, RoomParts}
 
 -- the four slots, with scratch numbers from the first on
 abbrev pub partsFrom : List ℕ → ℕ → List Part
@@ -32,9 +30,7 @@ partsIn rows parts n k = partsBy (patternIn rows) (map (λ p. p .child) (drop k 
 
 -- parts below their row, with scratch numbers that follow each other, and room for them
 pub record PartsAt (rows : List ℕ) (row : ℕ) (parts : List Part) (n : ℕ) (e : List ℕ) : Type 0 where
-  pub good : (place : ℕ) → place ≤ row → T (rowFits place (patternFields (getD rows place 0)))
-  pub inside : row < length rows
-  pub most : row < mostPatternRows
+  pub stands : Stands rows row
   pub few : n ≤ mostParts
   pub below : (k : ℕ) → k < n → partAt parts k .child < row
   pub laid : (k : ℕ) → k < n → partAt parts k .scratch ≡ partAt parts 0 .scratch + k

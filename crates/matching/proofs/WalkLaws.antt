@@ -17,11 +17,12 @@ use Rattle.theory.specs.Compilers.{LOAD, DECODE, ANALYZE-TUPLE, compile↓, com
 use Rattle.emission.specs.declared.Part.{Part}
 use Rattle.knowing.specs.Steps.{freeRaw, raise}
 use Rattle.knowing.specs.Meets.{nextIn, Does, Quiet, RoomFor}
-use Rattle.emission.specs.Budget.{mostWords, mostScratches, wordsOf, scratchesOf, patternIn, Row, RowAt}
+use Rattle.patterns.specs.Standing.{patternIn}
+use Rattle.emission.specs.Budget.{mostWords, mostScratches, wordsOf, scratchesOf, Row, RowAt}
 use Rattle.emission.specs.Parts.{partsFrom, partAt, partsIn, PartsAt}
 use Rattle.knowing.proofs.MeetsLaws.{then-assoc, does-le, does-seq, does-take, does-free}
 use Rattle.emission.proofs.BudgetLaws.{as-row, room-le, room-then, row-below, encryption-room, let-room}
-use Rattle.emission.proofs.PatternLaws.{encryption-key, encryption-child, encryption-row, let-children, let-row}
+use Rattle.patterns.proofs.StandingLaws.{encryption-key, encryption-child, encryption-row, let-children, let-row}
 use Rattle.emission.proofs.PartLaws.{InTurn, Walked, part-room, part-row, parts-next, tuple-is, tuple-counts, tuple-room}
 use Rattle.matching.specs.Matches.{Matches, MatchesParts}
 
@@ -29,7 +30,7 @@ use Rattle.matching.specs.Matches.{Matches, MatchesParts}
 module _ (rows : List ℕ) (row word : ℕ) {e : List ℕ} (asked : RowAt rows row word e) (five : patternFields word .tag ≡ 5) (child : ℕ) (first : child ≡ getD (patternFields word .slots) 0 0) where
   pub encryption-asks : {f g : Env → Emitted} {code e₁ code₁ e₂ code₂ : List ℕ} → Does f 1 0 e code e₁ code₁ → Does g 1 0 e₁ code₁ e₂ code₂ → Row rows child e₂
   encryption-asks k l =
-      row-below rows row child (asked .whole) (encryption-child asked child first five) (room-then (omega arith) (omega arith) (encryption-room asked child first five) (does-seq k l))
+      row-below rows row child (asked .standing .stands) (encryption-child (asked .standing) child first five) (room-then (omega arith) (omega arith) (encryption-room asked child first five) (does-seq k l))
 
   module _ {code e′ : List ℕ} (form : ℕ) (read : form ≡ patternFields word .f) where
     pub encryption-done : {e₁ code₁ e₂ code₂ code′ : List ℕ} (v x : ℕ) → v ≡ patternFields word .v → x ≡ patternFields word .x → form ≡ 0 → Does (emit row (Decode (asObject v))) 1 0 e code e₁ code₁
@@ -37,7 +38,7 @@ module _ (rows : List ℕ) (row word : ℕ) {e : List ℕ} (asked : RowAt rows r
     unfolding size
     encryption-done v x variable key plain k l m =
         let s = size-positive (patternIn rows child) in
-        as-row compile↓ rows row (encryption row v (plainKey x) (patternIn rows child)) (encryption-row asked child first five ∙ rw (variable, key, sym read ∙ plain))
+        as-row compile↓ rows row (encryption row v (plainKey x) (patternIn rows child)) (encryption-row (asked .standing) child first five ∙ rw (variable, key, sym read ∙ plain))
         (does-le (omega arith) (omega arith) (does-seq k (does-seq l m)))
 
     -- only a plain key opens
@@ -47,11 +48,11 @@ module _ (rows : List ℕ) (row word : ℕ) {e : List ℕ} (asked : RowAt rows r
         by : (f : ℕ) → patternFields word .f ≡ f → Matches rows row e code e′ code
         by zero h = absurd (other (read ∙ h))
         by (suc zero) h = as-row compile↓ rows row (encryption row (patternFields word .v) (opKey (patternFields word .x) (patternFields word .y))
-            (patternIn rows child)) (encryption-row asked child first five ∙ rw h) (does-le (omega arith) (omega arith) (k .does code))
+            (patternIn rows child)) (encryption-row (asked .standing) child first five ∙ rw h) (does-le (omega arith) (omega arith) (k .does code))
         by (suc (suc zero)) h = as-row compile↓ rows row (encryption row (patternFields word .v)
-            (certifiedKey (patternFields word .x) (patternFields word .y)) (patternIn rows child)) (encryption-row asked child first five ∙ rw h)
+            (certifiedKey (patternFields word .x) (patternFields word .y)) (patternIn rows child)) (encryption-row (asked .standing) child first five ∙ rw h)
             (does-le (omega arith) (omega arith) (k .does code))
-        by (suc (suc (suc f))) h = absurd (omega (arith, encryption-key asked five))
+        by (suc (suc (suc f))) h = absurd (omega (arith, encryption-key (asked .standing) five))
 
 -- let r = p1 in p2
 module _ (rows : List ℕ) (row word : ℕ) {e : List ℕ} (asked : RowAt rows row word e) (nine : patternFields word .tag ≡ 9)
@@ -60,7 +61,7 @@ module _ (rows : List ℕ) (row word : ℕ) {e : List ℕ} (asked : RowAt rows r
   module _ {e₁ : List ℕ} {r : ℕ} (freed : Quiet (freeRaw row r) 0 e e₁) where
     pub let-second : Row rows other e₁
     let-second =
-        row-below rows row other (asked .whole) (let-children asked child first other second nine .1)
+        row-below rows row other (asked .standing .stands) (let-children (asked .standing) child first other second nine .1)
         (room-then (omega arith) (omega arith) (let-room asked child first other second nine) (freed .does []))
 
     module _ {code e₂ code₂ : List ℕ} (walked : Matches rows other e₁ code e₂ code₂) where
@@ -70,7 +71,7 @@ module _ (rows : List ℕ) (row word : ℕ) {e : List ℕ} (asked : RowAt rows r
       module _ {e₃ code₃ : List ℕ} (loaded : Does (emit row (Load (named r))) 1 0 e₂ code₂ e₃ code₃) where
         pub let-first : Row rows child e₃
         let-first =
-            row-below rows row child (asked .whole) (let-children asked child first other second nine .0)
+            row-below rows row child (asked .standing .stands) (let-children (asked .standing) child first other second nine .0)
             (room-then (omega arith) (omega arith) (let-room asked child first other second nine) (does-seq (freed .does code) (does-seq walked loaded)))
 
         pub let-done : r ≡ patternFields word .r → {e′ code′ : List ℕ} → Matches rows child e₃ code₃ e′ code′ → Matches rows row e code e′ code′
@@ -78,7 +79,7 @@ module _ (rows : List ℕ) (row word : ℕ) {e : List ℕ} (asked : RowAt rows r
         let-done h m =
             let s = size-positive (patternIn rows child) in
             let t = size-positive (patternIn rows other) in
-            as-row compile↓ rows row (letIn row r (patternIn rows child) (patternIn rows other)) (let-row asked child first other second nine ∙ rw h)
+            as-row compile↓ rows row (letIn row r (patternIn rows child) (patternIn rows other)) (let-row (asked .standing) child first other second nine ∙ rw h)
             (does-le (omega arith) (omega arith) (does-free freed (does-seq walked (does-seq loaded m))))
 
 -- the parts of a tuple: LOAD, and then the part's code

@@ -4,7 +4,8 @@ use mathlib.Core.List.{List}
 use Rattle.theory.specs.Compilers.{compile↓, compile↓parts}
 use Rattle.emission.specs.declared.Part.{Part}
 use Rattle.knowing.specs.Meets.{Does}
-use Rattle.emission.specs.Budget.{patternIn, mostWords, mostScratches}
+use Rattle.patterns.specs.Standing.{patternIn}
+use Rattle.emission.specs.Budget.{mostWords, mostScratches}
 use Rattle.emission.specs.Parts.{DoesParts}
 
 abbrev pub Matches : List ℕ → ℕ → List ℕ → List ℕ → List ℕ → List ℕ → Type 0

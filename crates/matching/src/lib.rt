@@ -16,7 +16,8 @@ use patterns::forms as form;
 ghost use mathlib.Core.Path.{_≡_};
 ghost use Rattle.patterns.specs.Forms.{encryptionForm, signatureForm, tupleForm, letForm};
 ghost use Rattle.patterns.specs.Row.{patternFields};
-ghost use Rattle.emission.specs.Budget.{Row, RowAt, Leaf};
+ghost use Rattle.patterns.specs.Standing.{Leaf};
+ghost use Rattle.emission.specs.Budget.{Row, RowAt};
 ghost use Rattle.emission.specs.Parts.{PartsAt};
 ghost use Rattle.matching.specs.Matches.{Matches, MatchesParts};
 

@@ -14,3 +14,4 @@ pub mod SumLaws
 pub mod TreeLaws
 pub mod EveryLaws
 pub mod PassLaws
+pub mod StandingLaws

@@ -10,3 +10,4 @@ pub mod Marks
 pub mod RowKinds
 pub mod RightRow
 pub mod Laid
+pub mod Standing

@@ -19,7 +19,6 @@ pub mod Demand2
 pub mod NumberLaws
 pub mod ReasonTable
 pub mod VocabularyLaws
-pub mod LookLaws
 pub mod MeaningLaws
 pub mod Demand1
 pub mod RoundLaws

@@ -7,7 +7,7 @@ use Rattle.patterns.proofs.EveryLaws.{every-pattern-bare}
 use Rattle.patterns.proofs.PassLaws.{every-pattern-passes}
 use Rattle.theory.proofs.Meaning.{meaning-of, meaning-once}
 use Rattle.promises.specs.Meanings.{Meanings}
-use Rattle.promises.proofs.LookLaws.{looks}
+use Rattle.calls.proofs.LookLaws.{looks-emitted}
 
 pub meanings : Meanings
 meanings = record {
@@ -15,5 +15,5 @@ meanings = record {
   once = λ valid row other used also e. meaning-once valid row other used also e;
   whole = λ rows some good. pattern-size rows (bad-pattern-none rows .1 good) some;
   every = λ p fits. (bad-pattern-none (laid 0 p) .0 (every-pattern-passes p fits), every-pattern-bare p fits);
-  looks = λ create kind rows e. looks .looks create kind (patternOf rows) e (raws-below rows);
+  looks = λ create kind rows e. looks-emitted create kind (patternOf rows) e (raws-below rows);
 }

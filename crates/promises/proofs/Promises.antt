@@ -5,7 +5,7 @@ use Rattle.promises.proofs.WordLaws.{words}
 use Rattle.promises.proofs.RowLaws.{rows}
 use Rattle.promises.proofs.ReasonTable.{reason-table}
 use Rattle.promises.proofs.VocabularyLaws.{vocabulary}
-use Rattle.promises.proofs.LookLaws.{looks}
+use Rattle.calls.proofs.LookLaws.{looks-emitted}
 use Rattle.promises.proofs.MeaningLaws.{meanings}
 use Rattle.promises.proofs.Demand1.{demand-1}
 use Rattle.promises.proofs.Demand2.{demand-2}
@@ -43,7 +43,7 @@ promises = record {
   listings = listing-table;
   program = record { fits = listing-short; cut = cut; printed = λ bytes wrote long. Listed.printed bytes wrote long };
   printed = printed;
-  looks = looks;
+  looks = record { looks = looks-emitted };
   meanings = meanings;
   cases = worked .0;
   orders = worked .1;

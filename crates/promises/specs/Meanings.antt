@@ -15,7 +15,7 @@ use Rattle.theory.specs.Meaning.{reshaped, meaning}
 use Rattle.theory.specs.Emission.{Env}
 use Rattle.calls.specs.Compile.{tables}
 use Rattle.promises.specs.Conditions.{GoodPattern}
-use Rattle.promises.specs.Looks.{judged, looksOf, knownIn, verdictOf}
+use Rattle.calls.specs.Looks.{judged, looksOf, knownIn, verdictOf}
 
 pub record Meanings : Type 0 where
   -- a used row means what its shape makes of what its parts mean

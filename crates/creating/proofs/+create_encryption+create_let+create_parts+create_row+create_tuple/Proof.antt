@@ -1,8 +1,8 @@
 use mathlib.Core.Path.{_≡_, refl, sym, _∙_}
 use native.Mathlib.Omega.{arith}
 use lib.ListN.{length}
-use Rattle.emission.proofs.BudgetLaws.{leaf-room, variable-low}
-use Rattle.emission.proofs.PatternLaws.{slot, encryption-key, encryption-child, let-children}
+use Rattle.emission.proofs.BudgetLaws.{leaf-room}
+use Rattle.patterns.proofs.StandingLaws.{slot, encryption-key, encryption-child, let-children, variable-low}
 use Rattle.emission.proofs.PartLaws.{Walked, parts-begin, parts-end}
 use Rattle.creating.specs.Creates.{partsCode}
 use Rattle.creating.proofs.LeafLaws.{key-room}
@@ -336,23 +336,26 @@ module _ (t : ℕ) where
   create-row-create-encryption-requires : create-row-lts.Need-create-encryption-requires create-row-callees (create-row-at t) create-row.Post
   create-row-create-encryption-requires c κs =
       let s = c .before .before .before .before .before in
-      (omega (arith, s .pre .0), (record { here = refl; whole = s .pre .1 }, sym (c .before .before .before .tag .ensures) ∙ c .before .before .match .keys1))
+      (omega (arith, s .pre .0), (record { standing = record { here = refl; stands = s .pre .1 .stands }; room = s .pre .1 .room }, sym (c .before .before .before .tag .ensures) ∙ c .before .before .match .keys1))
 
   create-row-create-tuple-requires : create-row-lts.Need-create-tuple-requires create-row-callees (create-row-at t) create-row.Post
   create-row-create-tuple-requires c κs =
       let s = c .before .before .before .before .before in
-      (omega (arith, s .pre .0), (record { here = refl; whole = s .pre .1 }, sym (c .before .before .before .tag .ensures) ∙ c .before .before .match .keys2))
+      (omega (arith, s .pre .0), (record { standing = record { here = refl; stands = s .pre .1 .stands }; room = s .pre .1 .room }, sym (c .before .before .before .tag .ensures) ∙ c .before .before .match .keys2))
 
   create-row-create-let-requires : create-row-lts.Need-create-let-requires create-row-callees (create-row-at t) create-row.Post
   create-row-create-let-requires c κs =
       let s = c .before .before .before .before .before in
-      (omega (arith, s .pre .0), (record { here = refl; whole = s .pre .1 }, sym (c .before .before .before .tag .ensures) ∙ c .before .before .match .keys3))
+      (omega (arith, s .pre .0), (record { standing = record { here = refl; stands = s .pre .1 .stands }; room = s .pre .1 .room }, sym (c .before .before .before .tag .ensures) ∙ c .before .before .match .keys3))
 
   create-row-create-leaf-requires : create-row-lts.Need-create-leaf-requires create-row-callees (create-row-at t) create-row.Post
   create-row-create-leaf-requires c κs =
       let tag = c .before .before .before .tag .ensures in
       let other = c .before .before .match .rest in (
-        record { here = refl; whole = c .before .before .before .before .before .pre .1 },
+        record {
+          standing = record { here = refl; stands = c .before .before .before .before .before .pre .1 .stands };
+          room = c .before .before .before .before .before .pre .1 .room;
+        },
         record
             { encryption = λ h. other .0 .0 .1 (tag ∙ h); tuple = λ h. other .0 .1 (tag ∙ h); letIn = λ h. other .1 (tag ∙ h) },
       )

@@ -1,5 +1,4 @@
-use Rattle.emission.proofs.BudgetLaws.{variable-low}
-use Rattle.emission.proofs.PatternLaws.{signature-key}
+use Rattle.patterns.proofs.StandingLaws.{signature-key, variable-low}
 use Rattle.creating.proofs.LeafLaws.{key-room, body-room, sign-room, decode-room, signed}
 use borrow.Author.Needs.{needs}
 use Rattle.creating.proofs.create_signature.Statement.{statement}

@@ -4,9 +4,9 @@ use native.Mathlib.Omega.{arith}
 use lib.Dec.{lit≤}
 use lib.ListN.{length}
 use borrow.Author.Needs.{needs}
-use Rattle.emission.proofs.BudgetLaws.{room-le, room-then, leaf-room, variable-low}
+use Rattle.emission.proofs.BudgetLaws.{room-le, room-then, leaf-room}
 use Rattle.theory.specs.Compilers.{compile↓parts}
-use Rattle.emission.proofs.PatternLaws.{slot, encryption-child, let-children}
+use Rattle.patterns.proofs.StandingLaws.{slot, encryption-child, let-children, variable-low}
 use Rattle.emission.proofs.PartLaws.{Walked, parts-begin, parts-end, tuple-parts}
 use Rattle.matching.proofs.WalkLaws.{encryption-asks, encryption-done, encryption-wrong, let-second, let-loads, let-first, let-done, in-turn, part-loads, part-asks, part-done, tuple-analyzes, tuple-done}
 use borrow.Fn.Kinds.{In}
@@ -164,13 +164,13 @@ module _ (t : ℕ) where
   match-encryption-match-row-requires c κs =
       let s = c .before .before .before .before .before .before .before .before .before .before .before .before .before in
       let child = slot _ _ 0 (c .before .before .slots .ensures) in (
-        omega (arith, s .pre .0, encryption-child (s .pre .1 .0) _ child (s .pre .1 .1)),
+        omega (arith, s .pre .0, encryption-child (s .pre .1 .0 .standing) _ child (s .pre .1 .1)),
         encryption-asks _ _ _ (s .pre .1 .0) (s .pre .1 .1) _ child
             (c .before .before .before .before .before .before .before .decode .ensures) (c .before .before .before .decrypt .ensures),
       )
 
   match-encryption-wrong-kind-requires : match-encryption-lts.Need-wrong-kind-requires match-encryption-callees (match-encryption-at t) match-encryption.Post
-  match-encryption-wrong-kind-requires c κs = c .before .before .before .pre .1 .0 .whole .room .long
+  match-encryption-wrong-kind-requires c κs = c .before .before .before .pre .1 .0 .room .long
 
   match-encryption-returns : match-encryption-lts.Need-returns match-encryption-callees (match-encryption-at t) match-encryption.Post
   match-encryption-returns c =
@@ -199,7 +199,7 @@ module _ (t : ℕ) where
   match-let-slots-requires c κs = search needs
 
   match-let-free-raw-requires : match-let-lts.Need-free-raw-requires match-let-callees (match-let-at t) match-let.Post
-  match-let-free-raw-requires c κs = c .before .before .before .pre .1 .0 .whole .room .long
+  match-let-free-raw-requires c κs = c .before .before .before .pre .1 .0 .room .long
 
   match-let-array-read-match-row : match-let-lts.Need-array-read-match-row match-let-callees (match-let-at t) match-let.Post
   match-let-array-read-match-row c = search needs
@@ -209,7 +209,7 @@ module _ (t : ℕ) where
       let s = c .before .before .before .before .before .before in
       let first = slot _ _ 0 (c .before .before .before .before .slots .ensures) in
       let second = slot _ _ 1 (c .before .before .before .before .slots .ensures) in
-      (omega (arith, s .pre .0, let-children (s .pre .1 .0) _ first _ second (s .pre .1 .1) .1), let-second _ _ _ (s .pre .1 .0) (s .pre .1 .1) _ first _ second (c .before .before .free-raw .ensures))
+      (omega (arith, s .pre .0, let-children (s .pre .1 .0 .standing) _ first _ second (s .pre .1 .1) .1), let-second _ _ _ (s .pre .1 .0) (s .pre .1 .1) _ first _ second (c .before .before .free-raw .ensures))
 
   match-let-load-requires : match-let-lts.Need-load-requires match-let-callees (match-let-at t) match-let.Post
   match-let-load-requires c κs =
@@ -226,7 +226,7 @@ module _ (t : ℕ) where
       let s = c .before .before .before .before .before .before .before .before .before .before .before .before in
       let first = slot _ _ 0 (c .before .before .before .before .before .before .before .before .before .before .slots .ensures) in
       let second = slot _ _ 1 (c .before .before .before .before .before .before .before .before .before .before .slots .ensures) in (
-        omega (arith, s .pre .0, let-children (s .pre .1 .0) _ first _ second (s .pre .1 .1) .0),
+        omega (arith, s .pre .0, let-children (s .pre .1 .0 .standing) _ first _ second (s .pre .1 .1) .0),
         let-first _ _ _ (s .pre .1 .0) (s .pre .1 .1) _ first
             _ second (c .before .before .before .before .before .before .before .before .free-raw .ensures)
             (c .before .before .before .before .before .match-row .ensures) (c .before .before .load .ensures),
@@ -325,24 +325,24 @@ module _ (t : ℕ) where
   match-row-match-encryption-requires : match-row-lts.Need-match-encryption-requires match-row-callees (match-row-at t) match-row.Post
   match-row-match-encryption-requires c κs =
       let s = c .before .before .before .before .before in
-      (omega (arith, s .pre .0), (record { here = refl; whole = s .pre .1 }, sym (c .before .before .before .tag .ensures) ∙ c .before .before .match .keys1))
+      (omega (arith, s .pre .0), (record { standing = record { here = refl; stands = s .pre .1 .stands }; room = s .pre .1 .room }, sym (c .before .before .before .tag .ensures) ∙ c .before .before .match .keys1))
 
   match-row-match-tuple-requires : match-row-lts.Need-match-tuple-requires match-row-callees (match-row-at t) match-row.Post
   match-row-match-tuple-requires c κs =
       let s = c .before .before .before .before .before in
-      (omega (arith, s .pre .0), (record { here = refl; whole = s .pre .1 }, sym (c .before .before .before .tag .ensures) ∙ c .before .before .match .keys2))
+      (omega (arith, s .pre .0), (record { standing = record { here = refl; stands = s .pre .1 .stands }; room = s .pre .1 .room }, sym (c .before .before .before .tag .ensures) ∙ c .before .before .match .keys2))
 
   match-row-match-let-requires : match-row-lts.Need-match-let-requires match-row-callees (match-row-at t) match-row.Post
   match-row-match-let-requires c κs =
       let s = c .before .before .before .before .before in
-      (omega (arith, s .pre .0), (record { here = refl; whole = s .pre .1 }, sym (c .before .before .before .tag .ensures) ∙ c .before .before .match .keys3))
+      (omega (arith, s .pre .0), (record { standing = record { here = refl; stands = s .pre .1 .stands }; room = s .pre .1 .room }, sym (c .before .before .before .tag .ensures) ∙ c .before .before .match .keys3))
 
   match-row-match-leaf-requires : match-row-lts.Need-match-leaf-requires match-row-callees (match-row-at t) match-row.Post
   match-row-match-leaf-requires c κs =
       let s = c .before .before .before .before .before in
       let n = c .before .before .match .rest in
       let tag = c .before .before .before .tag .ensures in
-      (record { here = refl; whole = s .pre .1 }, record { encryption = λ h. n .0 .0 .1 (tag ∙ h); tuple = λ h. n .0 .1 (tag ∙ h); letIn = λ h. n .1 (tag ∙ h) })
+      (record { standing = record { here = refl; stands = s .pre .1 .stands }; room = s .pre .1 .room }, record { encryption = λ h. n .0 .0 .1 (tag ∙ h); tuple = λ h. n .0 .1 (tag ∙ h); letIn = λ h. n .1 (tag ∙ h) })
 
   match-row-returns : match-row-lts.Need-returns match-row-callees (match-row-at t) match-row.Post
   match-row-returns c = c .match-encryption .ensures

@@ -1,6 +1,6 @@
 use lib.Dec.{lit≤}
-use Rattle.emission.proofs.BudgetLaws.{room-le, room-then, leaf-room, variable-low, key-low}
-use Rattle.emission.proofs.PatternLaws.{signature-key}
+use Rattle.emission.proofs.BudgetLaws.{room-le, room-then, leaf-room}
+use Rattle.patterns.proofs.StandingLaws.{signature-key, variable-low, key-low}
 use Rattle.matching.proofs.LeafLaws.{signed-plain, signed-opposite, signed-certified}
 use borrow.Author.Needs.{needs}
 use Rattle.matching.proofs.match_signature.Statement.{statement}

@@ -1,5 +1,5 @@
 use borrow.Author.Needs.{needs}
-use Rattle.emission.specs.Budget.{patternIn}
+use Rattle.patterns.specs.Standing.{patternIn}
 use Rattle.compiler.proofs.WalkLaws.{creates-emits, matches-emits}
 use Rattle.compiler.proofs.walking.emit_row.Statement.{statement}
 use Rattle.compiler.proofs.walking.emit_row.Tie as tie

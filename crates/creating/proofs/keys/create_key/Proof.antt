@@ -1,5 +1,5 @@
-use Rattle.emission.proofs.BudgetLaws.{key-low, second-low}
 use Rattle.creating.proofs.KeyLaws.{key-plain, key-opposite, key-certified}
+use Rattle.patterns.proofs.StandingLaws.{key-low, second-low}
 use borrow.Author.Needs.{needs}
 use Rattle.creating.proofs.keys.create_key.Statement.{statement}
 use Rattle.creating.proofs.keys.create_key.Tie as tie

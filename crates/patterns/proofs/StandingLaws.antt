@@ -5,26 +5,30 @@ use mathlib.Core.List.{List}
 use native.Mathlib.Omega.{arith}
 use lib.ListN.{length, getD}
 use Rattle.word.proofs.All.{All, all-at, all-map}
 use Rattle.patterns.specs.Pattern.{object, raw, constant, opposite, keyOf, encryption, signature, hash, tuple, letIn}
 use Rattle.patterns.specs.Row.{patternFields, children, childrenOf}
 use Rattle.patterns.specs.Tree.{keyBy, partsBy, patternsOf}
 use Rattle.patterns.proofs.RowLaws.{children-count, child-slot}
 use Rattle.patterns.specs.GoodRow.{GoodKey, GoodRow}
 use Rattle.patterns.proofs.GoodRow as fits
 use Rattle.patterns.proofs.FormLaws.{Formed, formed}
 use Rattle.patterns.proofs.TreeLaws.{parts-same}
-use Rattle.emission.specs.Budget.{patternIn, RowAt}
+use Rattle.patterns.specs.Standing.{patternIn, Stands, StandsAt}
 
 -- a child as the code holds it
 pub slot : (children : List ℕ) (word i : ℕ) → children ≡ patternFields word .slots → getD children i 0 ≡ getD (patternFields word .slots) i 0
 slot children word i h = ap (λ (l : List ℕ). getD l i 0) h
 
-module _ {rows : List ℕ} {row word : ℕ} {e : List ℕ} (asked : RowAt rows row word e) where
+-- a child of a row
+pub stands-below : {rows : List ℕ} {row child : ℕ} → Stands rows row → child < row → Stands rows child
+stands-below asked below = record { good = λ place h. asked .good place (omega arith); inside = omega (arith, asked .inside); most = omega (arith, asked .most) }
+
+module _ {rows : List ℕ} {row word : ℕ} (asked : StandsAt rows row word) where
   pub good-row : GoodRow row (patternFields word)
-  good-row = rw (asked .here) (fits.good-row row (patternFields (getD rows row 0)) .0 (asked .whole .good row (omega arith)))
+  good-row = rw (asked .here) (fits.good-row row (patternFields (getD rows row 0)) .0 (asked .stands .good row (omega arith)))
 
   by-form : Formed (patternsOf rows) row word
-  by-form = rw (asked .here) (formed rows row (asked .whole .inside))
+  by-form = rw (asked .here) (formed rows row (asked .stands .inside))
 
   -- the children of a row are below it
   children-below : All (λ child. child < row) (children (patternFields word))
@@ -96,3 +100,15 @@ above-four tag n₀ n₁ n₂ n₃ n₄ = omega arith
 
 pub seven-left : (tag : ℕ) → 5 ≤ tag → tag < 10 → (tag ≡ 5 → ⊥) → (tag ≡ 6 → ⊥) → (tag ≡ 8 → ⊥) → (tag ≡ 9 → ⊥) → tag ≡ 7
 seven-left tag high low n₅ n₆ n₈ n₉ = omega arith
+
+-- V, a key's X and Y are of the 64 variables
+pub variable-low : (word v : ℕ) → v ≡ patternFields word .v → v < 64
+unfolding patternFields
+variable-low word v e = rw e (omega arith)
+
+pub key-low : (word : ℕ) → (patternFields word .f < 3) × (patternFields word .x < 64) → (x : ℕ) → x ≡ patternFields word .x → x < 64
+key-low word good x e = omega arith
+
+pub second-low : (word y : ℕ) → y ≡ patternFields word .y → y < 64
+unfolding patternFields
+second-low word y e = rw e (omega arith)

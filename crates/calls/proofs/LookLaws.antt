@@ -19,8 +19,8 @@ use Rattle.theory.specs.Compilers as Compilers
 use Rattle.theory.proofs.StoreLaws.{put-same}
 use Rattle.theory.proofs.CellLaws.{readable-named, readable-scratch, occupied-named, occupied-scratch, addRaw-named, addRaw-scratch}
 use Rattle.theory.proofs.CellLaws as Cells
 use Rattle.calls.specs.Compile.{tables}
-use Rattle.promises.specs.Looks.{Known, Look, writes, writes-raw, unset-on-entry, reads, reads-raw, reads-or-creates, sets, sets-raw, wrong-kind, Verdict, passed, stopped, onward, withObject, withRaw, looked, judged, matching, matchingParts, creatingKey, creating, creatingParts, looksOf, knownIn, verdictOf, Looks}
+use Rattle.calls.specs.Looks.{Known, Look, writes, writes-raw, unset-on-entry, reads, reads-raw, reads-or-creates, sets, sets-raw, wrong-kind, Verdict, passed, stopped, onward, withObject, withRaw, looked, judged, matchingLooks, matchingPartsLooks, creatingKeyLooks, creatingLooks, creatingPartsLooks, looksOf, knownIn, verdictOf}
 
 after-verdict : (c : List Line) (E : Emitted) → verdictOf (behind c E) ≡ verdictOf E
 unfolding behind
@@ -348,7 +348,7 @@ module _ (kind : ℕ → ℕ) where
   mutual
     unfolding RawsBelow PartsBelow
 
-    match-looks : (p : Pattern) → RawsBelow namedCells p → Looked Any (compile↓ p) (matching p)
+    match-looks : (p : Pattern) → RawsBelow namedCells p → Looked Any (compile↓ p) (matchingLooks p)
     match-looks (object row v) b = record { at = λ e p. object-case row v e (e .objects v) refl ∙ sym (judged-one (sets v) (knownIn e)) }
     match-looks (raw row r) b = record { at = λ e p. raw-match row r e (e .raws r) b refl ∙ sym (judged-one (sets-raw r) (knownIn e)) }
     match-looks (constant row c x) b = takes 1 λ i. plain (store-scratch row i) (seq (store-const row c x) (λ k k′ p q. wrote row c k k′ q) (plain (encode-set row c) (match-scratch row i)))
@@ -369,16 +369,16 @@ module _ (kind : ℕ → ℕ) where
         seq (decode row t) (λ j j′ p q. wrote row t j j′ q) (takes (count ps) λ i. plain (analyze-set row t i (count ps)) (match-parts ps row i b))
     match-looks (letIn row r p₁ p₂) (below, first, second) = entered row r (plain (match-looks p₂ second) (plain (load-named row r below) (match-looks p₁ first)))
 
-    match-parts : (ps : Parts) (row i : ℕ) → PartsBelow namedCells ps → Looked Any (compile↓parts ps row i) (matchingParts ps)
+    match-parts : (ps : Parts) (row i : ℕ) → PartsBelow namedCells ps → Looked Any (compile↓parts ps row i) (matchingPartsLooks ps)
     match-parts end row i b = nothing
     match-parts (part p ps) row i (here, there) = plain (load-scratch row i) (plain (match-looks p here) (match-parts ps row (suc i) there))
 
-  key-looks : (row : ℕ) (key : Key) → Looked Any (compile↑K kind row key) (creatingKey row key)
+  key-looks : (row : ℕ) (key : Key) → Looked Any (compile↑K kind row key) (creatingKeyLooks row key)
   key-looks row (plainKey v) = creates row v
   key-looks row (opKey k K) = seq (creates row K) (λ j j′ p q. created-sets row K j j′ q) (opposite-set row K k)
   key-looks row (certifiedKey k a) = plain (encode row a) (plain (key-of row) (decode row k))
 
-  key-sets : (row : ℕ) (key : Key) (k k′ : Known) → judged kind (creatingKey row key) k ≡ passed k′ → k′ .objects (keyVar key) ≡ true
+  key-sets : (row : ℕ) (key : Key) (k k′ : Known) → judged kind (creatingKeyLooks row key) k ≡ passed k′ → k′ .objects (keyVar key) ≡ true
   key-sets row (plainKey v) j j′ q = created-sets row v j j′ q
   key-sets row (opKey k K) j j′ q = last-sets (reads-or-creates row K ∷ []) row k j j′ q
   key-sets row (certifiedKey k a) j j′ q = last-sets (reads row a ∷ []) row k j j′ q
@@ -386,7 +386,7 @@ module _ (kind : ℕ → ℕ) where
   mutual
     unfolding RawsBelow PartsBelow
 
-    create-looks : (p : Pattern) → RawsBelow namedCells p → Looked Any (compile↑ kind p) (creating p)
+    create-looks : (p : Pattern) → RawsBelow namedCells p → Looked Any (compile↑ kind p) (creatingLooks p)
     create-looks (object row v) b = seq (creates row v) (λ j j′ p q. created-sets row v j j′ q) (encode-set row v)
     create-looks (raw row r) b = load-named row r b
     create-looks (constant row c x) b = seq (store-const row c x) (λ j j′ p q. wrote row c j j′ q) (encode-set row c)
@@ -394,7 +394,7 @@ module _ (kind : ℕ → ℕ) where
     create-looks (keyOf row k a) b = key-looks row (certifiedKey k a)
     create-looks (encryption row e key p) b =
         seq (key-looks row key) (λ j j′ h q. key-sets row key j j′ q)
-        (seq (any (create-looks p b)) (λ j j′ h q. keeps (creating p) (keyVar key) j j′ h q) (plain (encrypt-set row (keyVar key)) (decode row e)))
+        (seq (any (create-looks p b)) (λ j j′ h q. keeps (creatingLooks p) (keyVar key) j j′ h q) (plain (encrypt-set row (keyVar key)) (decode row e)))
     create-looks (signature row s key r) b =
         seq (key-looks row key) (λ j j′ h q. key-sets row key j j′ q)
         (seq (any (load-named row r b)) (λ j j′ h q. keeps (reads-raw row r ∷ []) (keyVar key) j j′ h q) (plain (sign-set row (keyVar key)) (decode row s)))
@@ -403,13 +403,11 @@ module _ (kind : ℕ → ℕ) where
         takes (count ps) λ i. plain (create-parts ps row i b) (seq (create-tuple row t i (count ps)) (λ j j′ p q. wrote row t j j′ q) (encode-set row t))
     create-looks (letIn row r p₁ p₂) (below, first, second) = plain (create-looks p₁ first) (plain (store-named row r below) (create-looks p₂ second))
 
-    create-parts : (ps : Parts) (row i : ℕ) → PartsBelow namedCells ps → Looked Any (compile↑parts kind ps row i) (creatingParts ps)
+    create-parts : (ps : Parts) (row i : ℕ) → PartsBelow namedCells ps → Looked Any (compile↑parts kind ps row i) (creatingPartsLooks ps)
     create-parts end row i b = nothing
     create-parts (part p ps) row i (here, there) = plain (create-looks p here) (plain (store-scratch row i) (create-parts ps row (suc i) there))
 
-pub looks : Looks
-looks = record { looks = by }
-  where
-    by : (create : Bool) (kind : ℕ → ℕ) (p : Pattern) (e : Env) → RawsBelow namedCells p → verdictOf (tables create kind p e) ≡ judged kind (looksOf create p) (knownIn e)
-    by true kind p e b = create-looks kind p b .at e tt
-    by false kind p e b = match-looks kind p b .at e tt
+-- emission stops exactly where the looks do, with the same answer, and leaves set what they leave set
+pub looks-emitted : (create : Bool) (kind : ℕ → ℕ) (p : Pattern) (e : Env) → RawsBelow namedCells p → verdictOf (tables create kind p e) ≡ judged kind (looksOf create p) (knownIn e)
+looks-emitted true kind p e b = create-looks kind p b .at e tt
+looks-emitted false kind p e b = match-looks kind p b .at e tt
