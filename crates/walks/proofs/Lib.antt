@@ -1,0 +1,4 @@
+-- Laws of the walk.
+pub mod ComesLaws
+pub mod StoreLaws
+pub mod MakingLaws
