@@ -10,6 +10,7 @@ pub use damage::flip_bit;
 pub use random::Random;
 
 use crate::case::Case;
+use crate::direct::DirectInput;
 use crate::input::{CompileInput, RunInput};
 use crate::limits::{CODE_WORDS, PATTERN_ROWS, TERM_ROWS};
 use crate::plain;
@@ -90,6 +91,23 @@ pub fn direct_run(random: &mut Random) -> RunInput {
     }
     if random.one_in(4) {
         damage::run(random, &mut lent);
+    }
+    lent
+}
+
+/// The engine: on a pattern that mostly compiles, with values that mostly fit; in a quarter of the calls damaged.
+pub fn direct(random: &mut Random) -> DirectInput {
+    let case = if random.one_in(4) { any_case(random) } else { compiled(random).0 };
+    let rows = table_length(random, case.terms.len());
+    let case = match random.below(12) {
+        0 => stores::other_terms(random, &case),
+        1 => stores::other_cells(random, &case),
+        2..=7 => stores::other_value(random, &case),
+        _ => case,
+    };
+    let mut lent = case.lend_direct(rows);
+    if random.one_in(4) {
+        damage::direct(random, &mut lent);
     }
     lent
 }

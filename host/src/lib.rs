@@ -4,6 +4,7 @@
 pub mod by_halves;
 pub mod case;
 pub mod compare;
+pub mod direct;
 pub mod every;
 pub mod examples;
 pub mod game;

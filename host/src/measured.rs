@@ -1,10 +1,12 @@
 //! The inputs that the benchmark times and whose stack it measures.
 use crate::case::figure1::{bound, encrypted, object, raw, tuple, Key};
 use crate::case::Case;
+use crate::direct::DirectInput;
 use crate::game::Role;
 use crate::input::{CompileInput, RoleInput, RoundInput, RunInput};
 use crate::limits::{CODE_WORDS, NAMED, PATTERN_ROWS, ROLE_WORDS, ROUNDS, ROUND_WORDS, TERM_ROWS};
 use crate::plain;
+use crate::plain::bytes::row;
 use crate::plain::code::{framed, Word, HASHING, STORE_CONST};
 use crate::plain::patterns::Form;
 use crate::plain::terms::{atom, AGENT, BYTE, ENCRYPTION, HASH, NONCE, SHARED, TUPLE};
@@ -35,6 +37,28 @@ pub fn runs() -> Vec<(&'static str, RunInput)> {
         (FULL_TABLE, full_table(&[])),
         (SEARCHES, full_table(&[STORE_CONST; CODE_WORDS])),
     ]
+}
+
+/// The engine, straight from the pattern, by what it is called.
+pub fn directs() -> Vec<(&'static str, DirectInput)> {
+    let most = PATTERN_ROWS as u8;
+    let named = [
+        ("straight from the listing's pattern", worked::greeting()),
+        ("straight from 96 rows, matching", matching(worked::nested_pairs(true, most))),
+        ("straight from 96 rows, creating", worked::nested_pairs(true, most)),
+        ("straight from rows as deep as they go, matching", matching(deep(true))),
+        ("straight from rows as deep as they go, creating", deep(true)),
+        ("refuse 95 tuples in each other, straight", one_variable()),
+    ];
+    named.map(|(name, case)| (name, case.lend_direct(256))).to_vec()
+}
+
+/// The case in which the message that a case creates is matched.
+fn matching(create: Case) -> Case {
+    let mut lent = create.lend_direct(256);
+    let made = lent.call(plain::direct);
+    let terms = (0..made.used as usize).map(|at| row(&lent.terms, at)).collect();
+    Case { create: false, terms, accumulator: made.accumulator as u16, counter: made.counter, ..create }
 }
 
 /// Compiles of roles by what they are called.

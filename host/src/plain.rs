@@ -5,6 +5,7 @@ mod bundle;
 pub mod bytes;
 pub mod code;
 mod compiler;
+mod direct;
 mod machine;
 pub mod patterns;
 mod role;
@@ -14,6 +15,7 @@ pub mod terms;
 
 pub use bundle::listing;
 pub use compiler::compile;
+pub use direct::direct;
 pub use machine::run;
 pub use role::compile_role;
 pub use round::{round, take};

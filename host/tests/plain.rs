@@ -1,4 +1,5 @@
 //! The second implementation alone, against document 01's worked cases and the kept examples.
+use cram_host::generator::{self, Random};
 use cram_host::{examples, plain, worked};
 
 #[test]
@@ -27,5 +28,18 @@ fn examples_end_as_they_are_named() {
         if words[0] == "stuck" {
             assert_eq!(last.split(' ').nth(3), Some(words[1]), "{}", name);
         }
+    }
+}
+
+/// The walk by the rules ends as compile and then run; where it ends early, rows for words apart.
+#[test]
+fn walk_is_compile_then_run() {
+    let mut random = Random::new(15);
+    for _ in 0..20_000 {
+        let lent = generator::direct(&mut random);
+        let (mut walked, mut ran) = (lent.clone(), lent.clone());
+        let (ours, theirs) = (walked.call(plain::direct), ran.by_compile_and_run(&plain::ENGINE));
+        assert_eq!((ours.number, ours.reason), (theirs.number, theirs.reason), "{:?}", lent);
+        assert_eq!(walked, ran, "{:?}", lent);
     }
 }

@@ -1,4 +1,6 @@
 //! Times the archive against the second implementation, in one run, and measures the archive's stack.
+use cram_host::direct::{self, Direct, DirectInput};
+use cram_host::input::RunInput;
 use cram_host::roles::ARCHIVE as ROLES;
 use cram_host::{measured, plain, stack, ARCHIVE};
 
@@ -40,6 +42,14 @@ fn main() {
             print("  of which one search over 4,096 rows", [0, 1].map(|i| (times[i] - base[i]) / words));
         }
     }
+    let walks: [&Direct; 2] = [&(direct::archive as Direct), &(plain::direct as Direct)];
+    for (name, lent) in measured::directs() {
+        print(name, medians(&lent, walks, |lent, walk| lent.call(*walk).counter));
+    }
+    println!("{:<45}{:>12}{:>12}{:>8}", "", "engine", "both calls", "ratio");
+    for (name, lent) in measured::directs() {
+        print(name, against_both_calls(&lent));
+    }
     let engines = [&ROLES, &plain::ROLES];
     for (name, lent) in measured::role_compiles() {
         print(name, medians(&lent, engines, |lent, engine| lent.call(engine).place));
@@ -54,6 +64,9 @@ fn main() {
     for (name, mut lent) in measured::runs() {
         println!("{:<45}{:>12}", name, stack::taken_by(|| lent.call(&ARCHIVE)));
     }
+    for (name, mut lent) in measured::directs() {
+        println!("{:<45}{:>12}", name, stack::taken_by(|| lent.call(direct::archive)));
+    }
     for (name, mut lent) in measured::role_compiles() {
         println!("{:<45}{:>12}", name, stack::taken_by(|| lent.call(&ROLES)));
     }
@@ -64,6 +77,20 @@ fn main() {
 
 fn print(name: &str, [ours, theirs]: [f64; 2]) {
     println!("{:<45}{:>12.0}{:>12.0}{:>8.2}", name, ours, theirs, ours / theirs);
+}
+
+/// The archive's engine, and its compile and then run into buffers that are ready.
+fn against_both_calls(lent: &DirectInput) -> [f64; 2] {
+    let ready = (lent.clone(), lent.lend_compile(), lent.lend_run(Vec::new()));
+    medians(&ready, [&true, &false], |(direct, compile, run), &straight| {
+        if straight {
+            return direct.call(direct::archive).counter;
+        }
+        let compiled = compile.call(&ARCHIVE);
+        let code = &compile.code[..if compiled.number == 0 { 4 * compiled.place as usize } else { 0 }];
+        let RunInput { kinds, objects, messages, certificates, accumulator, terms, counter, .. } = run;
+        (ARCHIVE.run)(kinds, objects, messages, certificates, *accumulator, terms, *counter, code).counter
+    })
 }
 
 /// The time of a call by the archive and by plain Rust.

@@ -1,6 +1,7 @@
 //! One thing wrong, or nearly wrong, in bytes that are otherwise good.
 use super::code;
 use super::random::Random;
+use crate::direct::DirectInput;
 use crate::input::{CompileInput, RunInput};
 use crate::limits::{CERTIFICATES, CODE_WORDS, NAMED, NAMES, PATTERN_ROWS, TERM_ROWS};
 
@@ -46,6 +47,24 @@ pub fn run(random: &mut Random, lent: &mut RunInput) {
         }
         18 => lent.terms.truncate(8 * random.below(lent.terms.len() / 8 + 1)),
         _ => change_length(random, lent.slices()),
+    }
+}
+
+/// What spoils a compile or a run, in what the engine is lent of it.
+pub fn direct(random: &mut Random, lent: &mut DirectInput) {
+    let DirectInput { create, pattern, kinds, objects, named, certificates, accumulator, terms, counter } =
+        lent.clone();
+    if random.one_in(2) {
+        let mut compile = CompileInput { create, pattern, kinds, objects, named, code: Vec::new() };
+        self::compile(random, &mut compile);
+        let CompileInput { create, pattern, kinds, objects, named, .. } = compile;
+        *lent = DirectInput { create, pattern, kinds, objects, named, ..lent.clone() };
+    } else {
+        let mut run =
+            RunInput { kinds, objects, messages: named, certificates, accumulator, terms, counter, code: vec![0; 4] };
+        self::run(random, &mut run);
+        let RunInput { kinds, objects, messages: named, certificates, accumulator, terms, counter, .. } = run;
+        *lent = DirectInput { kinds, objects, named, certificates, accumulator, terms, counter, ..lent.clone() };
     }
 }
 

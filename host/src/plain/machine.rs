@@ -23,12 +23,12 @@ impl Stop {
 }
 
 const READ_UNSET: Stop = Stop::Stuck(1);
-const OTHER_KIND: Stop = Stop::Stuck(2);
-const DIFFERS: Stop = Stop::Stuck(3);
-const PART_COUNT: Stop = Stop::Stuck(4);
-const NO_CERTIFICATE: Stop = Stop::Stuck(5);
-const NOT_OPENED: Stop = Stop::Stuck(6);
-const NOT_VERIFIED: Stop = Stop::Stuck(7);
+pub const OTHER_KIND: Stop = Stop::Stuck(2);
+pub const DIFFERS: Stop = Stop::Stuck(3);
+pub const PART_COUNT: Stop = Stop::Stuck(4);
+pub const NO_CERTIFICATE: Stop = Stop::Stuck(5);
+pub const NOT_OPENED: Stop = Stop::Stuck(6);
+pub const NOT_VERIFIED: Stop = Stop::Stuck(7);
 
 #[allow(clippy::too_many_arguments)]
 pub fn run(
@@ -222,10 +222,7 @@ impl<'a> Machine<'a> {
     }
 
     fn certified(&self) -> Result<u16, Stop> {
-        let agent = self.held()?;
-        let certificates = (0..self.certificates.len() / 8).map(|i| row(self.certificates, i));
-        let mut own = certificates.filter(|&certificate| stores::agent(certificate) == agent);
-        own.next().map(stores::key).ok_or(NO_CERTIFICATE)
+        certified(self.certificates, self.held()?).ok_or(NO_CERTIFICATE)
     }
 
     fn compare(&self, r: u8) -> Result<(), Stop> {
@@ -244,7 +241,7 @@ impl<'a> Machine<'a> {
     fn opened(&self, v: u8) -> Result<u16, Stop> {
         let key = self.table.row(self.object(v)?);
         let sealed = self.table.row(self.held()?);
-        if terms::tag(sealed) != ENCRYPTION || !opposite(self.table.row(terms::part(sealed, 0)), key) {
+        if terms::tag(sealed) != ENCRYPTION || !belong(self.table.row(terms::part(sealed, 0)), key) {
             return Err(NOT_OPENED);
         }
         Ok(terms::part(sealed, 1))
@@ -255,22 +252,29 @@ impl<'a> Machine<'a> {
         let body = self.message(r)?;
         let signed = self.table.row(self.held()?);
         let own = terms::tag(signed) == SIGNATURE && terms::part(signed, 1) == body;
-        if !own || !opposite(key, self.table.row(terms::part(signed, 0))) {
+        if !own || !belong(key, self.table.row(terms::part(signed, 0))) {
             return Err(NOT_VERIFIED);
         }
         Ok(())
     }
 }
 
-fn set(cell: u16) -> Result<u16, Stop> {
+pub fn set(cell: u16) -> Result<u16, Stop> {
     if cell == UNSET {
         return Err(READ_UNSET);
     }
     Ok(cell)
 }
 
+/// The key of an agent's certificate.
+pub fn certified(certificates: &[u8], agent: u16) -> Option<u16> {
+    let certificates = (0..certificates.len() / 8).map(|i| row(certificates, i));
+    let mut own = certificates.filter(|&certificate| stores::agent(certificate) == agent);
+    own.next().map(stores::key)
+}
+
 /// Whether two keys belong together: a public and its private one, or a shared one and itself.
-fn opposite(public: u64, private: u64) -> bool {
+pub fn belong(public: u64, private: u64) -> bool {
     let tags = (terms::tag(public), terms::tag(private));
     (tags == (PUBLIC, PRIVATE) || tags == (SHARED, SHARED)) && terms::number(public) == terms::number(private)
 }
