@@ -67,13 +67,7 @@ directEnds x (done r) = record {
 directEnds x (stuck row why) = untouched (Stuck row (reasonOf why)) x
 directEnds x (room row) = untouched (NoRoom row) x
 
-module _ (creates : Bool) (pattern : List ℕ) (x : Lent) where
-  -- 1, 3, 4, 5 of compile, then 6 and 7 over the whole pattern
-  abbrev pub patternRefusals : List (Option Compiled)
-  patternRefusals =
-      Compile.refusals creates pattern (x .kinds) (x .objects) (x .messages)
-      ++ (refusedBy (Compile.emitted creates pattern (x .kinds) (x .objects) (x .messages)) ∷ [])
-
+module _ (x : Lent) where
   -- 1, 2, 3 of run
   abbrev pub tableFits : Bool
   tableFits = leb (length (x .certificates)) mostCertificates && leb (length (x .terms)) mostTermRows && leb (x .counter) mostNames
@@ -87,6 +81,13 @@ module _ (creates : Bool) (pattern : List ℕ) (x : Lent) where
       BadStore
       ∷ []
 
+module _ (creates : Bool) (pattern : List ℕ) (x : Lent) where
+  -- 1, 3, 4, 5 of compile, then 6 and 7 over the whole pattern
+  abbrev pub patternRefusals : List (Option Compiled)
+  patternRefusals =
+      Compile.refusals creates pattern (x .kinds) (x .objects) (x .messages)
+      ++ (refusedBy (Compile.emitted creates pattern (x .kinds) (x .objects) (x .messages)) ∷ [])
+
   -- a creation gives its message; a match leaves the accumulator
   abbrev pub ruled : Bool → Outcome (ℕ × Stores rowWorld)
   ruled true = create rowWorld (kindIn (x .kinds)) (patternOf pattern) (stateOf x .stores)
@@ -97,4 +98,4 @@ module _ (creates : Bool) (pattern : List ℕ) (x : Lent) where
   directBy none = directEnds x (ruled creates)
 
   unfoldable pub direct : DirectOutcome
-  direct = directBy (first (Option·map refusedAs (first patternRefusals) ∷ storeRefusals))
+  direct = directBy (first (Option·map refusedAs (first patternRefusals) ∷ storeRefusals x))
