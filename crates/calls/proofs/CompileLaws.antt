@@ -75,6 +75,19 @@ module _ {A : Type 0} where
   first-some P none rest h g answer e = g answer e
   first-some P (some other) rest h g answer e = h answer e
 
+  -- of two lists of checks, the first refusal of the one, else that of the other
+  pub first-before : (checks more : List (Option A)) (answer : A) → first checks ≡ some answer → first (checks ++ more) ≡ some answer
+  unfolding first
+  first-before [] more answer e = absurd (let z : _≡_ {A = ℕ} 0 1 = cc in omega arith)
+  first-before (none ∷ checks) more answer e = first-before checks more answer e
+  first-before (some other ∷ checks) more answer e = e
+
+  pub first-behind : (checks more : List (Option A)) → first checks ≡ none → first (checks ++ more) ≡ first more
+  unfolding first
+  first-behind [] more e = refl
+  first-behind (none ∷ checks) more e = first-behind checks more e
+  first-behind (some other ∷ checks) more e = absurd (let z : _≡_ {A = ℕ} 0 1 = cc in omega arith)
+
   pub when-none : (b : Bool) (answer : A) → when b answer ≡ none → T (not b)
   when-none true answer e = absurd (let z : _≡_ {A = ℕ} 0 1 = cc in omega arith)
   when-none false answer e = tt

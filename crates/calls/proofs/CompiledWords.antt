@@ -31,7 +31,7 @@ module _ (kind : ℕ → ℕ) where
       (low t (10 ∷ []) k, omega (arith, cells-below b n c))
 
   -- an instruction in range has room in a word's fields
-  fields-fit : (i : Instruction) → InRange kind i → FieldsFit i
+  pub fields-fit : (i : Instruction) → InRange kind i → FieldsFit i
   fields-fit (Load r) f = record { a = omega (arith, f .cells); b = omega arith; n = omega arith }
   fields-fit (Store r) f = record { a = omega (arith, f .cells); b = omega arith; n = omega arith }
   fields-fit (StoreConst c b) f = record { a = low c _ (f .operands); b = f .cells; n = omega arith }

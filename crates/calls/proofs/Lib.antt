@@ -16,4 +16,6 @@ pub mod FinishLaws
 pub mod StateBack
 pub mod CarryLaws
 pub mod Demand3
+pub mod PlaceLaws
+pub mod StraightLaws
 pub mod Theorems

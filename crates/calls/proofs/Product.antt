@@ -80,6 +80,11 @@ module _ (create : Bool) (pattern kinds objects named : List ℕ) (kinds-length 
   pub checked-refuses : Checked create pattern kinds objects named → (answer : Compiled) → tables create (kindIn kinds) (patternOf pattern) (entry objects named) ≡ refuse answer → Refusal answer
   checked-refuses c = given-refuses create pattern kinds kinds-length (checked-given c) (entry objects named) refl
 
+  -- and what it emits is within limits
+  pub checked-limits : Checked create pattern kinds objects named → (lines : List Line) (e′ : Env) → tables create (kindIn kinds) (patternOf pattern) (entry objects named) ≡ ok lines e′
+      → InLimits (kindIn kinds) lines e′
+  checked-limits c = given-limits create pattern kinds kinds-length (checked-given c) (entry objects named) refl
+
   -- a done compile: the checks have passed, and its words are those of lines within limits
   pub record Written (words : ℕ) (after : List ℕ) : Type 0 where
     pub compiles : Compiles create pattern kinds objects named words after
@@ -89,9 +94,4 @@ module _ (create : Bool) (pattern kinds objects named : List ℕ) (kinds-length 
   pub compile-writes : (slice : List ℕ) (words : ℕ) → compile create pattern kinds objects named slice .answer ≡ Done words → Written words (compile create pattern kinds objects named slice .code)
   compile-writes slice words e =
       let c = done-compiles create pattern kinds objects named slice words checked-refuses e in
-      let g = checked-given (c .checks) in
-      record {
-        compiles = c;
-        right = g .right;
-        limits = given-limits create pattern kinds kinds-length g (entry objects named) refl (c .lines) (c .env) (c .emits);
-      }
+      record { compiles = c; right = checked-right (c .checks); limits = checked-limits (c .checks) (c .lines) (c .env) (c .emits) }

@@ -8,5 +8,6 @@ pub mod Frame
 pub mod Round
 pub mod Role
 pub mod Direct
+pub mod CompileThenRun
 pub mod Cases
 pub mod Orders

@@ -21,6 +21,9 @@ pub mod ReasonTable
 pub mod VocabularyLaws
 pub mod MeaningLaws
 pub mod Demand1
+pub mod StraightLaws
+pub mod StraightDecision
+pub mod StraightTable
 pub mod RoundLaws
 pub mod HalvesLaws
 pub mod RoundDecisionLaws

@@ -98,7 +98,7 @@ module _ (create : Bool) (pattern kinds objects named slice : List ℕ) where
   no-bad : CompileWithin pattern kinds objects named → T (declared kinds objects) ↔ (BadVariable kinds objects → ⊥)
   no-bad w = no-bad-variable kinds objects (w .kinds-length) (w .objects-length)
 
-  checked : Checked create pattern kinds objects named ↔ CompileChecked create pattern kinds objects named
+  pub checked : Checked create pattern kinds objects named ↔ CompileChecked create pattern kinds objects named
   checked = (
     λ c.
         let w = compile-within create pattern kinds objects named .0 (c .lengths) in

@@ -10,6 +10,7 @@ use Rattle.promises.proofs.MeaningLaws.{meanings}
 use Rattle.promises.proofs.Demand1.{demand-1}
 use Rattle.promises.proofs.Demand2.{demand-2}
 use Rattle.promises.proofs.Demand3.{demand-3}
+use Rattle.promises.proofs.StraightTable.{straight-page}
 use Rattle.promises.proofs.Example.{example}
 use Rattle.promises.proofs.ForC.{for-c}
 use Rattle.promises.proofs.RoundLaws.{round-table}
@@ -34,6 +35,7 @@ promises = record {
   demand-3 = demand-3;
   for-c = for-c;
   example = example;
+  straight = straight-page;
   rounds = round-table;
   roles = role-table;
   halves = halves-in-turn;

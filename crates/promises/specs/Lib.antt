@@ -12,6 +12,7 @@ pub mod Meanings
 pub mod Demand3
 pub mod Demand2
 pub mod Demand1
+pub mod Straight
 pub mod Rounds
 pub mod Halves
 pub mod Roles

@@ -1,4 +1,4 @@
--- All that is promised of compile, run, a round, the bundle and the listing. That the functions give it is the crate `product`.
+-- All that is promised of compile, run, the engine straight from the pattern, a round, the bundle and the listing. That the functions give it is the crate `product`.
 use Prim.Native.Nat.{ℕ}
 use mathlib.Core.List.{List}
 use Rattle.calls.specs.Cases.{Cases}
@@ -14,6 +14,7 @@ use Rattle.promises.specs.Meanings.{Meanings}
 use Rattle.promises.specs.Demand1.{Demand1}
 use Rattle.promises.specs.Demand2.{Demand2}
 use Rattle.promises.specs.Demand3.{Demand3}
+use Rattle.promises.specs.Straight.{Straight}
 use Rattle.promises.specs.Example.{Example}
 use Rattle.promises.specs.ForC.{ForC}
 use Rattle.calls.specs.Round.{RoundLent}
@@ -43,6 +44,8 @@ pub record Promises : Type 0 where
   pub for-c : ForC
   -- its premises met by P1, P2 and P9
   pub example : Example
+  -- straight from the pattern is compile, then run; every number exactly where its condition holds
+  pub straight : Straight
   -- every number of a round exactly where its condition holds, and nothing changed by any answer but 0
   pub rounds : (x : RoundLent) (code : List ℕ) → RoundTable x code
   -- every number of compiling a role exactly where its condition holds, half after half
