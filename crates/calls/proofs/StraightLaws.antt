@@ -117,9 +117,9 @@ module _ (creates : Bool) (pattern : List ℕ) (x : Lent) where
     pub cells-length : length (x .messages ++ replicate scratchCells unset) ≡ messageCells
     cells-length = length-append (x .messages) (replicate scratchCells unset) ∙ omega (arith, within .named-length, length-replicate scratchCells unset)
 
-    pub lengths-same : (code : List ℕ) → length code ≤ mostCodeWords → lengthsFit (lentToRun x) code ≡ tableFits creates pattern x
+    pub lengths-same : (code : List ℕ) → length code ≤ mostCodeWords → lengthsFit (lentToRun x) code ≡ tableFits x
     lengths-same code few =
-        rw (within .kinds-length, within .objects-length, cells-length, le-leb (length code) mostCodeWords few) (and-true (tableFits creates pattern x))
+        rw (within .kinds-length, within .objects-length, cells-length, le-leb (length code) mostCodeWords few) (and-true (tableFits x))
 
     -- where emission does not refuse
     module _ (lines : List Line) (e : Env) (emits : emitted creates pattern (x .kinds) (x .objects) (x .messages) ≡ ok lines e) where
@@ -191,15 +191,15 @@ module _ (creates : Bool) (pattern : List ℕ) (x : Lent) where
       few-words : length (codeWords lines) ≤ 767
       few-words = omega (arith, length-map lines (λ l. wordOf (l .instruction)), limits .words)
 
-      run-straight : directBy creates pattern x (first (storeRefusals creates pattern x)) ≡ ranOutcome creates pattern x (run (lentToRun x) (codeWords lines))
+      run-straight : directBy creates pattern x (first (storeRefusals x)) ≡ ranOutcome creates pattern x (run (lentToRun x) (codeWords lines))
       unfolding run
       run-straight =
           rw (lengths-same (codeWords lines) (omega (arith, few-words)), scratch-fits x, compiled-words-good kind lines (limits .lines))
-          (by-looks (tableFits creates pattern x) (storesFit x) (badTerm (x .terms) (x .counter)))
+          (by-looks (tableFits x) (storesFit x) (badTerm (x .terms) (x .counter)))
 
       -- the words fit, and the code is theirs
       code-straight : (slice : List ℕ) → length slice ≡ mostCodeWords
-          → directBy creates pattern x (first (storeRefusals creates pattern x))
+          → directBy creates pattern x (first (storeRefusals x))
           ≡ thenRun creates pattern x (finished (ok lines e) slice .answer) (compiledCode (finished (ok lines e) slice))
       code-straight slice long =
           rw (le-leb (length (codeWords lines)) (length slice) (omega (arith, few-words)))
@@ -210,7 +210,7 @@ module _ (creates : Bool) (pattern : List ℕ) (x : Lent) where
     afterCompile o = thenRun creates pattern x (o .answer) (compiledCode o)
 
     by-emission : Checked creates pattern (x .kinds) (x .objects) (x .messages) → (E : Emitted) → emitted creates pattern (x .kinds) (x .objects) (x .messages) ≡ E
-        → directBy creates pattern x (first (Option·map refusedAs (first (refusedBy E ∷ [])) ∷ storeRefusals creates pattern x)) ≡ afterCompile (finished E slice)
+        → directBy creates pattern x (first (Option·map refusedAs (first (refusedBy E ∷ [])) ∷ storeRefusals x)) ≡ afterCompile (finished E slice)
     unfolding first
     by-emission c (ok lines e) q = code-straight c lines e q slice long
     by-emission c (refuse answer) q =
@@ -218,7 +218,7 @@ module _ (creates : Bool) (pattern : List ℕ) (x : Lent) where
         (refusal-not-done (checked-refuses creates pattern (x .kinds) (x .objects) (x .messages) (within c .kinds-length) c answer q)) _
 
     by-refusal : (o : Option Compiled) → first (refusals creates pattern (x .kinds) (x .objects) (x .messages)) ≡ o
-        → directBy creates pattern x (first (Option·map refusedAs (first (patternRefusals creates pattern x)) ∷ storeRefusals creates pattern x))
+        → directBy creates pattern x (first (Option·map refusedAs (first (patternRefusals creates pattern x)) ∷ storeRefusals x))
         ≡ afterCompile (compileBy creates pattern (x .kinds) (x .objects) (x .messages) o slice)
     unfolding first
     by-refusal (some answer) q =

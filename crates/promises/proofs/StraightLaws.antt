@@ -80,15 +80,15 @@ module _ (creates : Bool) (pattern : List ℕ) (x : Lent) where
   -- and run's
   pub record Tried : Type 0 where
     pub accepts : Accepts
-    pub lengths : T (tableFits creates pattern x)
+    pub lengths : T (tableFits x)
     pub rows : bad ≡ none
     pub stores : T (storesFit x)
 
   -- what each answer says
   abbrev pub DirectGives : Direct → Type 0
-  DirectGives Limit = (T fit → ⊥) ⊎ (Accepts × (T (tableFits creates pattern x) → ⊥))
-  DirectGives (BadTerm row) = Accepts × T (tableFits creates pattern x) × (bad ≡ some row)
-  DirectGives BadStore = (T fit × (T declares → ⊥)) ⊎ (Accepts × T (tableFits creates pattern x) × (bad ≡ none) × (T (storesFit x) → ⊥))
+  DirectGives Limit = (T fit → ⊥) ⊎ (Accepts × (T (tableFits x) → ⊥))
+  DirectGives (BadTerm row) = Accepts × T (tableFits x) × (bad ≡ some row)
+  DirectGives BadStore = (T fit × (T declares → ⊥)) ⊎ (Accepts × T (tableFits x) × (bad ≡ none) × (T (storesFit x) → ⊥))
   DirectGives (BadPattern row) = T fit × T declares × (badPattern pattern ≡ some row)
   DirectGives (WrongKind row) = T fit × T declares × (badPattern pattern ≡ none) × (wrong ≡ some row)
   DirectGives (WrittenWhileSet row) = Checked creates pattern (x .kinds) (x .objects) (x .messages) × (emits ≡ refuse (Compiled.WrittenWhileSet row))
@@ -118,7 +118,7 @@ module _ (creates : Bool) (pattern : List ℕ) (x : Lent) where
   by-rules t (room row) e = refused (NoRoom row) (λ z. omega arith) (t, e)
 
   -- one look after another: run's
-  by-stores : Accepts → (f g : Bool) (terms : Option ℕ) → tableFits creates pattern x ≡ f → bad ≡ terms → storesFit x ≡ g
+  by-stores : Accepts → (f g : Bool) (terms : Option ℕ) → tableFits x ≡ f → bad ≡ terms → storesFit x ≡ g
       → DirectLeaves (directBy creates pattern x (first (when (not f) Limit ∷ Option·map BadTerm terms ∷ when (not g) BadStore ∷ [])))
   unfolding first
   by-stores a false g terms e h s = refused Limit (λ z. omega arith) (inr (a, rw e λ n. n))
@@ -132,10 +132,10 @@ module _ (creates : Bool) (pattern : List ℕ) (x : Lent) where
   by-refusal answer c (read {row = row}) q = refused (ReadWhileUnset row) (λ z. omega arith) (c, q)
 
   by-emission : Checked creates pattern (x .kinds) (x .objects) (x .messages) → (E : Emitted) → emits ≡ E
-      → DirectLeaves (directBy creates pattern x (first (Option·map refusedAs (first (refusedBy E ∷ [])) ∷ storeRefusals creates pattern x)))
+      → DirectLeaves (directBy creates pattern x (first (Option·map refusedAs (first (refusedBy E ∷ [])) ∷ storeRefusals x)))
   unfolding first
   by-emission c (ok lines env) q =
-      by-stores (record { checks = c; lines = lines; env = env; emitting = q }) (tableFits creates pattern x) (storesFit x) bad refl refl refl
+      by-stores (record { checks = c; lines = lines; env = env; emitting = q }) (tableFits x) (storesFit x) bad refl refl refl
   by-emission c (refuse answer) q =
       by-refusal answer c
       (checked-refuses creates pattern (x .kinds) (x .objects) (x .messages)
@@ -146,7 +146,7 @@ module _ (creates : Bool) (pattern : List ℕ) (x : Lent) where
       → DirectLeaves (directBy creates pattern x
       (first (Option·map refusedAs
       (first (when (not a) Compiled.Limit ∷ when (not b) Compiled.BadStore ∷ Option·map Compiled.BadPattern rows ∷ Option·map Compiled.WrongKind right ∷ refusedBy emits ∷ []))
-      ∷ storeRefusals creates pattern x)))
+      ∷ storeRefusals x)))
   unfolding first
   by-looks false b rows right e f g h = refused Limit (λ z. omega arith) (inl (rw e λ n. n))
   by-looks true false rows right e f g h = refused BadStore (λ z. omega arith) (inl (rw e tt, rw f λ n. n))
@@ -169,11 +169,11 @@ module _ (creates : Bool) (pattern : List ℕ) (x : Lent) where
 
   -- what is said is answered
   emission-asked : Checked creates pattern (x .kinds) (x .objects) (x .messages)
-      → outcome ≡ directBy creates pattern x (first (Option·map refusedAs (first (refusedBy emits ∷ [])) ∷ storeRefusals creates pattern x))
+      → outcome ≡ directBy creates pattern x (first (Option·map refusedAs (first (refusedBy emits ∷ [])) ∷ storeRefusals x))
   unfolding direct first
   emission-asked c = rw (passes-when fit Compiled.Limit (c .lengths), passes-when declares Compiled.BadStore (c .cells), c .rows, c .right)
 
-  stores-asked : Accepts → outcome ≡ directBy creates pattern x (first (storeRefusals creates pattern x))
+  stores-asked : Accepts → outcome ≡ directBy creates pattern x (first (storeRefusals x))
   unfolding first
   stores-asked a = emission-asked (a .checks) ∙ rw (a .emitting)
 
@@ -181,16 +181,16 @@ module _ (creates : Bool) (pattern : List ℕ) (x : Lent) where
   unfolding first
   rule-asked t =
       stores-asked (t .accepts)
-      ∙ rw (passes-when (tableFits creates pattern x) Limit (t .lengths), t .rows, passes-when (storesFit x) BadStore (t .stores))
+      ∙ rw (passes-when (tableFits x) Limit (t .lengths), t .rows, passes-when (storesFit x) BadStore (t .stores))
 
   pub gives-direct : (answer : Direct) → DirectGives answer → outcome .answer ≡ answer
   unfolding direct first
   gives-direct Limit (inl n) = rw (fails-when fit Compiled.Limit n)
-  gives-direct Limit (inr (a, n)) = ap (λ o. o .answer) (stores-asked a) ∙ rw (fails-when (tableFits creates pattern x) Limit n)
-  gives-direct (BadTerm row) (a, f, q) = ap (λ o. o .answer) (stores-asked a) ∙ rw (passes-when (tableFits creates pattern x) Limit f, q)
+  gives-direct Limit (inr (a, n)) = ap (λ o. o .answer) (stores-asked a) ∙ rw (fails-when (tableFits x) Limit n)
+  gives-direct (BadTerm row) (a, f, q) = ap (λ o. o .answer) (stores-asked a) ∙ rw (passes-when (tableFits x) Limit f, q)
   gives-direct BadStore (inl (f, n)) = rw (passes-when fit Compiled.Limit f, fails-when declares Compiled.BadStore n)
   gives-direct BadStore (inr (a, f, q, n)) =
-      ap (λ o. o .answer) (stores-asked a) ∙ rw (passes-when (tableFits creates pattern x) Limit f, q, fails-when (storesFit x) BadStore n)
+      ap (λ o. o .answer) (stores-asked a) ∙ rw (passes-when (tableFits x) Limit f, q, fails-when (storesFit x) BadStore n)
   gives-direct (BadPattern row) (f, d, q) = rw (passes-when fit Compiled.Limit f, passes-when declares Compiled.BadStore d, q)
   gives-direct (WrongKind row) (f, d, p, q) = rw (passes-when fit Compiled.Limit f, passes-when declares Compiled.BadStore d, p, q)
   gives-direct (WrittenWhileSet row) (c, q) = ap (λ o. o .answer) (emission-asked c) ∙ rw q
@@ -242,7 +242,7 @@ module _ (creates : Bool) (pattern : List ℕ) (x : Lent) where
         λ c. record { checks = all .1 (c .checked); lines = c .emits .lines; env = c .emits .env; emitting = c .emits .emits },
       )
 
-  pub lengths-within : Accepts creates pattern x → T (tableFits creates pattern x) ↔ LentWithin (lentToRun x)
+  pub lengths-within : Accepts creates pattern x → T (tableFits x) ↔ LentWithin (lentToRun x)
   lengths-within a =
       let same = lengths-same creates pattern x (a .checks) [] (omega arith) in (
         λ t. run-within (lentToRun x) [] .0 (subst T (sym same) t) .0,
