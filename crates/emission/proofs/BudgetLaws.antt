@@ -9,10 +9,10 @@ use Rattle.patterns.specs.Row.{patternFields}
 use Rattle.patterns.proofs.PatternLaws.{size-positive}
 use Rattle.theory.specs.Emission.{Env, Emitted}
 use Rattle.knowing.specs.Meets.{Does, RoomFor}
-use Rattle.patterns.specs.Standing.{patternIn}
+use Rattle.patterns.specs.Standing.{patternIn, Stands}
 use Rattle.emission.specs.Budget.{mostWords, mostScratches, Row, RowAt}
 use Rattle.knowing.proofs.MeetsLaws.{does-le}
-use Rattle.patterns.proofs.StandingLaws.{encryption-row, let-row}
+use Rattle.patterns.proofs.StandingLaws.{stands-below, encryption-row, let-row}
 
 -- less room, and what is left of it after a step
 pub room-le : {w m x n : ℕ} {e : List ℕ} → x ≤ w → n ≤ m → RoomFor w m e → RoomFor x n e

@@ -22,7 +22,7 @@ use Rattle.emission.specs.Budget.{mostWords, mostScratches, wordsOf, scr
 use Rattle.emission.specs.Parts.{partsFrom, partAt, partsIn, PartsAt, DoesParts}
 use Rattle.knowing.proofs.MeetsLaws.{does-as, does-le, does-seq, does-none}
 use Rattle.emission.proofs.BudgetLaws.{room-as}
-use Rattle.patterns.proofs.StandingLaws.{good-row, slot-low, tuple-row}
+use Rattle.patterns.proofs.StandingLaws.{stands-below, good-row, slot-low, tuple-row}
 
 -- the parts of a tuple from the kth on
 module _ (rows : List ℕ) (parts : List Part) (n k : ℕ) (four : length parts ≡ 4) (few : n ≤ 4) where

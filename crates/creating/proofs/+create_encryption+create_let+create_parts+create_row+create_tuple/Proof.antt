@@ -161,13 +161,13 @@ module _ (t : ℕ) where
   create-encryption-create-key-requires : create-encryption-lts.Need-create-key-requires create-encryption-callees (create-encryption-at t) create-encryption.Post
   create-encryption-create-key-requires c κs =
       let asked = c .before .before .before .before .before .pre .1 in
-      (encryption-key (asked .0) (asked .1), key-room _ _ _ (asked .0))
+      (encryption-key (asked .0 .standing) (asked .1), key-room _ _ _ (asked .0))
 
   create-encryption-create-row-requires : create-encryption-lts.Need-create-row-requires create-encryption-callees (create-encryption-at t) create-encryption.Post
   create-encryption-create-row-requires c κs =
       let asked = c .before .before .before .before .before .before .before .before .pre .1 in
       let first = slot _ _ 0 (c .before .before .before .before .before .slots .ensures) in (
-        omega (arith, c .before .before .before .before .before .before .before .before .pre .0, encryption-child (asked .0) _ first (asked .1)),
+        omega (arith, c .before .before .before .before .before .before .before .before .pre .0, encryption-child (asked .0 .standing) _ first (asked .1)),
         encryption-inside _ _ _ (asked .0) (asked .1) _ first (c .before .before .create-key .ensures),
       )
 
@@ -216,7 +216,7 @@ module _ (t : ℕ) where
       let asked = c .before .before .before .before .pre .1 in
       let first = slot _ _ 0 (c .before .before .slots .ensures) in
       let second = slot _ _ 1 (c .before .before .slots .ensures) in
-      (omega (arith, c .before .before .before .before .pre .0, let-children (asked .0) _ first _ second (asked .1) .0), let-first _ _ _ (asked .0) (asked .1) _ first _ second)
+      (omega (arith, c .before .before .before .before .pre .0, let-children (asked .0 .standing) _ first _ second (asked .1) .0), let-first _ _ _ (asked .0) (asked .1) _ first _ second)
 
   create-let-store-requires : create-let-lts.Need-store-requires create-let-callees (create-let-at t) create-let.Post
   create-let-store-requires c κs =
@@ -236,7 +236,7 @@ module _ (t : ℕ) where
         omega (
           arith,
           c .before .before .before .before .before .before .before .before .before .before .pre .0,
-          let-children (asked .0) _ first _
+          let-children (asked .0 .standing) _ first _
               second (asked .1) .1,
         ),
         let-second _ _ _ (asked .0) (asked .1) _ first _ second

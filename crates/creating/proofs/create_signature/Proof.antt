@@ -14,7 +14,7 @@ raw-requires : tie.Need-raw-requires
 raw-requires c κs = search needs
 
 create-key-requires : tie.Need-create-key-requires
-create-key-requires c κs = let s = c .before .before .before .before .before in (signature-key (s .pre .0) (s .pre .1), key-room _ _ _ (s .pre .0))
+create-key-requires c κs = let s = c .before .before .before .before .before in (signature-key (s .pre .0 .standing) (s .pre .1), key-room _ _ _ (s .pre .0))
 
 load-requires : tie.Need-load-requires
 load-requires c κs = body-room _ _ _ (c .before .before .before .before .before .before .before .before .pre .0) (c .before .before .create-key .ensures)

@@ -32,7 +32,7 @@ y-requires c κs = search needs
 verify-opposite-requires : tie.Need-verify-opposite-requires
 verify-opposite-requires c κs =
     let s = c .before .before .before .before .before .before .before .before .before .before .before in (
-      key-low _ (signature-key (s .pre .0) (s .pre .1)) _ (c .before .before .before .before .before .before .key .ensures),
+      key-low _ (signature-key (s .pre .0 .standing) (s .pre .1)) _ (c .before .before .before .before .before .before .key .ensures),
       room-then (lit≤ tt)
           (lit≤ tt) (leaf-room _ _ _ _ (s .pre .0)) (c .before .before .before .before .before .before .before .decode .ensures),
     )
@@ -43,7 +43,7 @@ y-requires-2 c κs = search needs
 verify-certified-requires : tie.Need-verify-certified-requires
 verify-certified-requires c κs =
     let s = c .before .before .before .before .before .before .before .before .before .before .before in (
-      key-low _ (signature-key (s .pre .0) (s .pre .1)) _ (c .before .before .before .before .before .before .key .ensures),
+      key-low _ (signature-key (s .pre .0 .standing) (s .pre .1)) _ (c .before .before .before .before .before .before .key .ensures),
       room-then (lit≤ tt)
           (lit≤ tt) (leaf-room _ _ _ _ (s .pre .0)) (c .before .before .before .before .before .before .before .decode .ensures),
     )
