@@ -49,12 +49,12 @@ put-kept f k v e = go (eqb k v)
     go true = refl
     go false = e
 
-write-case : (row : ℕ) (e : Env) (c : List Line) (v : ℕ) (b : Bool)
+pub write-case : (row : ℕ) (e : Env) (c : List Line) (v : ℕ) (b : Bool)
     → verdictOf (cond b (refuse (WrittenWhileSet row)) (ok c (addObject e v))) ≡ cond b (stopped (WrittenWhileSet row)) (passed (withObject (knownIn e) v))
 write-case row e c v true = refl
 write-case row e c v false = refl
 
-read-case : (row : ℕ) (e : Env) (c : List Line) (b : Bool) → verdictOf (cond b (ok c e) (refuse (ReadWhileUnset row))) ≡ cond b (passed (knownIn e)) (stopped (ReadWhileUnset row))
+pub read-case : (row : ℕ) (e : Env) (c : List Line) (b : Bool) → verdictOf (cond b (ok c e) (refuse (ReadWhileUnset row))) ≡ cond b (passed (knownIn e)) (stopped (ReadWhileUnset row))
 read-case row e c true = refl
 read-case row e c false = refl
 
@@ -67,19 +67,19 @@ module _ (kind : ℕ → ℕ) where
   onward-end (passed k) = refl
   onward-end (stopped answer) = refl
 
-  judged-one : (l : Look) (k : Known) → judged kind (l ∷ []) k ≡ looked kind l k
+  pub judged-one : (l : Look) (k : Known) → judged kind (l ∷ []) k ≡ looked kind l k
   unfolding judged
   judged-one l k = onward-end (looked kind l k)
 
-  judged-none : (k : Known) → judged kind [] k ≡ passed k
+  pub judged-none : (k : Known) → judged kind [] k ≡ passed k
   unfolding judged
   judged-none k = refl
 
-  onward-twice : (v : Verdict) (f g : Known → Verdict) (h : Known → Verdict) → ((k : Known) → h k ≡ onward (f k) g) → onward v h ≡ onward (onward v f) g
+  pub onward-twice : (v : Verdict) (f g : Known → Verdict) (h : Known → Verdict) → ((k : Known) → h k ≡ onward (f k) g) → onward v h ≡ onward (onward v f) g
   onward-twice (passed k) f g h e = e k
   onward-twice (stopped answer) f g h e = refl
 
-  judged-append : (l m : List Look) (k : Known) → judged kind (l ++ m) k ≡ onward (judged kind l k) (judged kind m)
+  pub judged-append : (l m : List Look) (k : Known) → judged kind (l ++ m) k ≡ onward (judged kind l k) (judged kind m)
   unfolding judged
   judged-append [] m k = refl
   judged-append (a ∷ l) m k = onward-twice (looked kind a k) (judged kind l) (judged kind m) (judged kind (l ++ m)) (λ k′. judged-append l m k′)
@@ -190,7 +190,7 @@ module _ (kind : ℕ → ℕ) where
         ∙ read-case row e (lineAt row (LOAD (named r)) ∷ []) (e .raws r) ∙ sym (judged-one (reads-raw row r) (knownIn e));
   }
 
-  raw-case : (row r : ℕ) (e : Env) (c : List Line) (b : Bool)
+  pub raw-case : (row r : ℕ) (e : Env) (c : List Line) (b : Bool)
       → verdictOf (cond b (refuse (WrittenWhileSet row)) (ok c (Cells.withRaw e r))) ≡ cond b (stopped (WrittenWhileSet row)) (passed (withRaw (knownIn e) r))
   raw-case row r e c true = refl
   raw-case row r e c false = refl

@@ -1,15 +1,13 @@
 -- What compile finds before the walk, in the checks' order.
 use Prim.Native.Nat.{ℕ, suc, zero, _+_, _<_, _≤_}
-use mathlib.Core.Path.{_≡_, refl, sym, _∙_}
+use mathlib.Core.Path.{_≡_, sym, _∙_}
 use mathlib.Core.Bool.{Bool, true, false, not, _&&_, _||_, and-assoc, and-true}
-use mathlib.Core.Option.{Option, none, some}
+use mathlib.Core.Option.{none, some}
 use mathlib.Core.List.{List}
 use native.Mathlib.Numerals.{add-one}
-use native.Mathlib.Omega.{arith}
 use lib.Dec.{eqb}
 use lib.ListN.{length, getD, drop, drop-of-length-le}
 use lib.Seq.{drop-cons}
-use Rattle.answers.specs.declared.Compiled.{Compiled}
 use Rattle.answers.specs.declared.Compiled.the-variants.{Limit, BadStore, BadPattern, WrongKind}
 use Rattle.answers.specs.First.{first}
 use Rattle.numbers.specs.Kinds.{kindIn}
@@ -17,17 +15,9 @@ use Rattle.patterns.specs.Rules.{badPattern}
 use Rattle.patterns.specs.Kinds.{wrongKind}
 use Rattle.calls.proofs.HalfLaws.{KnownWithin, known-within}
 use Rattle.calls.specs.Half.{undeclaredUnknown, declaredKnown, knownFit, knownRefusals}
-use Rattle.compiler.specs.Buffer.{findingOf}
-use Rattle.compiler.specs.declared.Finding.{Finding}
-use Rattle.compiler.specs.declared.Finding.the-variants.{Refused, Accepted}
-
-pub found-some : (o : Option Compiled) {answer : Compiled} → Refused answer ≡ findingOf o → o ≡ some answer
-found-some (some other) e = cc
-found-some none e = absurd (let z : _≡_ {A = ℕ} 0 1 = cc in omega arith)
-
-pub found-none : (o : Option Compiled) → Accepted ≡ findingOf o → o ≡ none
-found-none none e = refl
-found-none (some other) e = absurd (let z : _≡_ {A = ℕ} 0 1 = cc in omega arith)
+use Rattle.knowing.specs.Findings.{findingOf}
+use Rattle.knowing.specs.declared.Finding.{Finding}
+use Rattle.knowing.specs.declared.Finding.the-variants.{Refused, Accepted}
 
 -- the variables from v on: this one, and those behind it
 module _ (kinds : List ℕ) (set : ℕ → Bool) (v : ℕ) (gathered : Bool) (left : undeclaredUnknown zero kinds set ≡ (gathered && undeclaredUnknown v (drop v kinds) set)) where

@@ -1,5 +1,5 @@
 -- What the walk leaves is compile's outcome from what is known.
-use Prim.Native.Nat.{ℕ, zero, suc, _+_, _/_, _%_, _≤_}
+use Prim.Native.Nat.{ℕ, _+_, _≤_}
 use mathlib.Core.Path.{_≡_, refl, sym, _∙_}
 use mathlib.Core.Bool.{Bool, true, false}
 use mathlib.Core.Option.{none, some}
@@ -19,36 +19,25 @@ use Rattle.theory.specs.Emission.{Env, Emitted, ok, refuse, andThen}
 use Rattle.theory.specs.Compilers.{compile↓}
 use Rattle.calls.specs.Compile.{tables, codeWords}
 use Rattle.calls.specs.Half.{knownRefusals, knownEmitted, half}
+use Rattle.knowing.specs.Findings.{findingOf}
 use Rattle.knowing.specs.Known.{known}
-use Rattle.knowing.specs.Meets.{objectsIn, rawsIn, writtenIn, refusalIn, envOf, refusalBy, refusal, MeetsBy, Meets, Does}
+use Rattle.knowing.specs.declared.Finding.{Finding}
+use Rattle.knowing.specs.declared.Finding.the-variants.{Refused, Accepted}
+use Rattle.knowing.proofs.FindingLaws.{found-some, found-none}
+use Rattle.knowing.specs.Meets.{objectsIn, rawsIn, writtenIn, refusalIn, envOf, refusal, MeetsBy, Meets, Does}
 use Rattle.knowing.proofs.MeetsLaws.{after-nil, does-as}
+use Rattle.knowing.proofs.StepLaws.{refusal-none}
 use Rattle.creating.specs.Creates.{patternCode}
 use Rattle.compiler.specs.CompileKnown.{noWords, fromKnown, compileKnown}
-use Rattle.compiler.specs.Buffer.{answerBy, answerIn}
+use Rattle.compiler.specs.Buffer.{answerIn}
 
--- emission's answer by the number of its refusal
-pub answer-at : (e : List ℕ) (number : ℕ) → refusalIn e / 256 ≡ number → answerIn e ≡ answerBy (refusalBy number (refusalIn e % 256)) (writtenIn e)
-unfolding refusal
-answer-at e number same = rw same
+-- emission's answer by what is found
+module _ (e : List ℕ) (f : Finding) (learnt : f ≡ findingOf (refusal (refusalIn e))) where
+  pub answer-refused : (answer : Compiled) → f ≡ Refused answer → answer ≡ answerIn e
+  answer-refused answer is = rw (found-some (refusal (refusalIn e)) (sym is ∙ learnt))
 
-other-number : (number row : ℕ) → (number ≡ 5 → ⊥) → (number ≡ 6 → ⊥) → (number ≡ 7 → ⊥) → refusalBy number row ≡ none
-other-number zero row f g h = refl
-other-number (suc zero) row f g h = refl
-other-number (suc (suc zero)) row f g h = refl
-other-number (suc (suc (suc zero))) row f g h = refl
-other-number (suc (suc (suc (suc zero)))) row f g h = refl
-other-number (suc (suc (suc (suc (suc zero))))) row f g h = absurd (f refl)
-other-number (suc (suc (suc (suc (suc (suc zero)))))) row f g h = absurd (g refl)
-other-number (suc (suc (suc (suc (suc (suc (suc zero))))))) row f g h = absurd (h refl)
-other-number (suc (suc (suc (suc (suc (suc (suc (suc n)))))))) row f g h = refl
-
-pub answer-done : (e : List ℕ) → (refusalIn e / 256 ≡ 5 → ⊥) → (refusalIn e / 256 ≡ 6 → ⊥) → (refusalIn e / 256 ≡ 7 → ⊥) → answerIn e ≡ Done (writtenIn e)
-unfolding refusal
-answer-done e f g h = rw (other-number (refusalIn e / 256) (refusalIn e % 256) f g h)
-
-refusal-none : refusal 0 ≡ none
-unfolding refusal
-refusal-none = refl
+  pub answer-done : f ≡ Accepted → Done (writtenIn e) ≡ answerIn e
+  answer-done is = rw (found-none (refusal (refusalIn e)) (sym is ∙ learnt))
 
 module _ (create : Bool) (pattern kinds : List ℕ) (objects named : ℕ → Bool) where
   pub refused-known : {answer : Compiled} {buffer : List ℕ} (blank : List ℕ) → first (knownRefusals create pattern kinds objects) ≡ some answer → buffer ≡ noWords

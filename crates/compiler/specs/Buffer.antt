@@ -1,4 +1,4 @@
--- What is found before the walk, and what the walk leaves in a buffer.
+-- What the walk leaves in a buffer.
 use Prim.Native.Nat.{ℕ}
 use mathlib.Core.Bool.{Bool}
 use mathlib.Core.Option.{Option, none, some}
@@ -12,14 +12,7 @@ use Rattle.knowing.specs.Meets.{writtenIn, refusalIn, refusal, Does}
 use Rattle.patterns.specs.Standing.{patternIn}
 use Rattle.emission.specs.Budget.{mostWords, mostScratches}
 use Rattle.compiler.specs.CompileKnown.{KnownOutcome}
-use Rattle.compiler.specs.declared.Finding.{Finding}
-use Rattle.compiler.specs.declared.Finding.the-variants.{Refused, Accepted}
 use Rattle.compiler.specs.declared.KnownAnswer.{KnownAnswer}
-
--- what is found before the walk
-abbrev pub findingOf : Option Compiled → Finding
-findingOf (some answer) = Refused answer
-findingOf none = Accepted
 
 -- the code of a row's pattern, within its budget
 abbrev pub EmitsRow : Bool → List ℕ → List ℕ → ℕ → List ℕ → List ℕ → List ℕ → List ℕ → Type 0

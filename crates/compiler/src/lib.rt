@@ -10,6 +10,7 @@ use answers::Compiled;
 use delivery::deliver;
 pub use delivery::used;
 use knowing::Code;
+use knowing::Finding;
 pub use knowing::set_cells;
 use looking::look;
 use numbers::limits::VARIABLES;
@@ -19,12 +20,6 @@ use walking::walk;
 
 mod looking;
 mod walking;
-
-// What is found before the walk: a refusal, or nothing.
-pub enum Finding {
-    Refused(Compiled),
-    Accepted,
-}
 
 // An answer, and which object and named cells are set afterwards: cell 0 at the most significant bit.
 pub struct KnownAnswer {

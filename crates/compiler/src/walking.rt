@@ -1,10 +1,9 @@
 // The walk over a pattern that passed the checks.
 ghost use mathlib.Core.Path.{_≡_};
 ghost use mathlib.Core.Option.{none};
-ghost use mathlib.Core.List.{_++_};
 ghost use Prim.Native.Nat.{_≤_};
-ghost use lib.ListN.{length, drop, replicate};
-ghost use Rattle.numbers.specs.Limits.{variables, mostPatternRows, mostCodeWords};
+ghost use lib.ListN.{length};
+ghost use Rattle.numbers.specs.Limits.{mostCodeWords};
 ghost use Rattle.answers.specs.First.{first};
 ghost use Rattle.knowing.specs.Known.{known};
 ghost use Rattle.knowing.specs.Meets.{writtenIn};
@@ -14,61 +13,30 @@ ghost use Rattle.compiler.specs.CompileKnown.{noWords, compileKnown};
 ghost use Rattle.compiler.specs.Buffer.{answerIn, outcomeOf, EmitsRow};
 use super::KnownAnswer;
 use answers::Compiled;
-use emission::Kinds;
-use emission::Rows;
 use knowing::Code;
 use knowing::Emission;
+use knowing::Finding;
 use knowing::OBJECTS;
 use knowing::RAWS;
 use knowing::REFUSAL;
 use knowing::WRITTEN;
+use knowing::found;
+use layout::Kinds;
+use layout::Rows;
+use layout::all_kinds;
+use layout::lay_rows;
+use layout::no_rows;
 use numbers::limits::MOST_CODE_WORDS;
-use numbers::limits::MOST_PATTERN_ROWS;
-use numbers::limits::VARIABLES;
-
-// Zero rows, of which the pattern's take the front.
-fn no_rows() -> Rows
-    ensures { λ r. ⌜ r ≡ replicate mostPatternRows 0 ⌝ }
-{
-    [0u64; MOST_PATTERN_ROWS]
-}
-
-// The pattern's rows in front, where they are walked: returned, they would stand on the stack twice.
-fn lay_rows(pattern: &[u64], rows: &mut Rows)
-    requires { ⌜ length (now pattern) ≤ mostPatternRows ⌝ }
-    requires { ⌜ length (now rows) ≡ mostPatternRows ⌝ }
-    ensures { λ _. ⌜ now (rows .exit) ≡ now (pattern .entry) ++ drop (length (now (pattern .entry))) (now (rows .entry)) ⌝ }
-{
-    for row in 0..pattern.len() {
-        rows[row] = pattern[row];
-    }
-}
-
-// The kinds as an array: each step of the walk then hands on one word for them.
-fn all_kinds(kinds: &[u8]) -> Kinds
-    requires { ⌜ length (now kinds) ≡ variables ⌝ }
-    ensures { λ r. ⌜ r ≡ now (kinds .entry) ⌝ }
-{
-    let mut all = [0u8; VARIABLES];
-    for v in 0..kinds.len() {
-        all[v] = kinds[v];
-    }
-    all
-}
 
 // What emission answers.
 fn answer_of(emission: Emission) -> Compiled
     requires { ⌜ writtenIn emission ≤ mostCodeWords ⌝ }
     ensures { λ r. ⌜ r ≡ answerIn emission ⌝ }
 {
-    let refusal = emission[REFUSAL];
-    let row = (refusal % 256) as u32;
-    let number = refusal / 256;
-    match number {
-        5 => Compiled::WrongKind(row),
-        6 => Compiled::WrittenWhileSet(row),
-        7 => Compiled::ReadWhileUnset(row),
-        _ => Compiled::Done(emission[WRITTEN] as u32),
+    let refused = found(emission);
+    match refused {
+        Finding::Refused(answer) => answer,
+        Finding::Accepted => Compiled::Done(emission[WRITTEN] as u32),
     }
 }
 

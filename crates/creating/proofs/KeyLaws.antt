@@ -1,13 +1,11 @@
 -- Variables and keys, instruction after instruction.
 use Prim.Native.Nat.{ℕ, zero, suc, _+_, _*_, _≤_, _<_}
 use mathlib.Core.Path.{_≡_, refl, sym, subst, _∙_}
-use mathlib.Core.Bool.{Bool, true, false, cond, _||_, or-assoc, or-false}
+use mathlib.Core.Bool.{Bool, true, false, cond}
 use mathlib.Core.List.{List, []}
 use native.Mathlib.Omega.{arith}
 use lib.ListN.{length, getD}
-use lib.Dec.{eqb, lit≤}
-use Rattle.word.specs.Lowest.{oneOf}
-use Rattle.word.proofs.TestLaws.{eqb-swap}
+use lib.Dec.{lit≤}
 use Rattle.answers.specs.declared.Compiled.the-variants.{ReadWhileUnset}
 use Rattle.numbers.specs.Sorts.{asObject}
 use Rattle.code.specs.declared.Instruction.the-variants.{Decode, Encode, Create, Opposite, KeyOf}
@@ -24,10 +22,6 @@ use Rattle.knowing.proofs.MeetsLaws.{does-le, does-none, does-seq, does-yes, do
 use Rattle.knowing.proofs.StepLaws.{read-unset}
 use Rattle.numbers.specs.Kinds.{kindIn}
 use Rattle.creating.specs.Creates.{variableCode, keyCode}
-
-pub creatable-is : (kind : ℕ) → ((eqb kind 2 || eqb kind 5) || eqb kind 6) ≡ creatable kind
-unfolding creatable oneOf
-creatable-is kind = rw (eqb-swap kind 2, eqb-swap kind 5, eqb-swap kind 6, or-assoc, or-false)
 
 -- t is what was seen of the variable, s of its kind
 module _ (kinds : List ℕ) (row v : ℕ) (e code : List ℕ) (t : Bool) (seen : t ≡ known (getD e 0 0) v) where

@@ -1,9 +1,9 @@
 // The forms with no part: at most seven words each.
 use crate::keys;
-use emission::Kinds;
 use emission::instructions;
 use knowing::Code;
 use knowing::Emission;
+use layout::Kinds;
 use numbers::Object;
 use numbers::Raw;
 ghost use mathlib.Core.List.{List};

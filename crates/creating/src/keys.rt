@@ -1,33 +1,21 @@
 // Variables and keys, each with at most three words.
-use emission::Kinds;
 use emission::instructions;
 use knowing::Code;
 use knowing::Emission;
 use knowing::object_known;
 use knowing::refuse;
+use layout::Kinds;
+use layout::creatable;
 use numbers::Object;
-use numbers::kinds as kind;
 use patterns::forms as form;
-ghost use mathlib.Core.Path.{_≡_};
 ghost use mathlib.Core.List.{List};
 ghost use Prim.Native.Nat.{ℕ, _<_};
-ghost use Rattle.numbers.specs.Kinds.{kindIn};
 ghost use Rattle.numbers.specs.Limits.{variables};
 ghost use Rattle.patterns.specs.Pattern.{opKey, certifiedKey};
 ghost use Rattle.patterns.specs.Row.{patternFields};
 ghost use Rattle.patterns.specs.Tree.{keyBy};
-ghost use Rattle.theory.specs.World.{creatable};
 ghost use Rattle.knowing.specs.Meets.{Does, RoomFor};
 ghost use Rattle.creating.specs.Creates.{variableCode, keyCode};
-
-// Whether a variable's kind is one that CREATE makes a new object of.
-fn creatable(kinds: &Kinds, v: Object) -> bool
-    requires { ⌜ v .0 < variables ⌝ }
-    ensures { λ r. ⌜ r ≡ creatable (kindIn (now (kinds .entry)) (v .0)) ⌝ }
-{
-    let own = kinds[v.0 as usize];
-    (own == kind::NONCE) | (own == kind::PRIVATE_KEY) | (own == kind::SHARED_KEY)
-}
 
 // Nothing for a variable that is set; a creatable one gets its CREATE, any other is 7.
 pub fn get_variable(kinds: &Kinds, code: &mut Code, emission: &mut Emission, row: u8, v: Object)

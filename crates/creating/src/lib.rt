@@ -2,15 +2,15 @@
 pub mod forms;
 pub mod keys;
 
-use emission::Kinds;
 use emission::Part;
-use emission::Rows;
 use emission::instructions;
 use emission::parts_of;
 use emission::scratch;
 use knowing::Code;
 use knowing::Emission;
 use knowing::take;
+use layout::Kinds;
+use layout::Rows;
 use numbers::limits::MOST_PARTS;
 use patterns::forms as form;
 ghost use mathlib.Core.Path.{_≡_};

@@ -3,19 +3,12 @@ pub mod instructions;
 
 use numbers::Raw;
 use numbers::limits::MOST_PARTS;
-use numbers::limits::MOST_PATTERN_ROWS;
 use numbers::limits::VARIABLES;
 ghost use mathlib.Core.Path.{_≡_};
 ghost use Prim.Native.Nat.{_<_};
 ghost use Rattle.numbers.specs.Limits.{scratchCells};
 ghost use Rattle.theory.specs.Machine.{scratch};
 ghost use Rattle.emission.specs.Parts.{partsFrom};
-
-// The pattern's rows, and zero rows behind them.
-pub type Rows = [u64; MOST_PATTERN_ROWS];
-
-// The kinds of the object variables.
-pub type Kinds = [u8; VARIABLES];
 
 // The message cell of a scratch number.
 pub fn scratch(number: u8) -> Raw

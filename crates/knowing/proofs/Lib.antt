@@ -3,3 +3,4 @@ pub mod KnownLaws
 pub mod CellLaws
 pub mod MeetsLaws
 pub mod StepLaws
+pub mod FindingLaws

@@ -42,7 +42,7 @@ nothing h = quiet h refl refl (omega arith) refl
 other : (e : List ℕ) (i j x : ℕ) → eqb j i ≡ false → getD (set e i x) j 0 ≡ getD e j 0
 other e i j x h = getD-set-other e i j x 0 (eqb-false j i h)
 
-refusal-none : refusal 0 ≡ none
+pub refusal-none : refusal 0 ≡ none
 unfolding refusal
 refusal-none = refl
 

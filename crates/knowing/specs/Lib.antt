@@ -2,3 +2,4 @@
 pub mod Known
 pub mod Steps
 pub mod Meets
+pub mod Findings

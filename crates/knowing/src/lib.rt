@@ -1,4 +1,5 @@
 // What the compiler knows while it emits: which cells are set, the next scratch number, the words written, the first refusal.
+use answers::Compiled;
 pub use cells::set_cells;
 use numbers::Object;
 use numbers::Raw;
@@ -17,7 +18,8 @@ ghost use Rattle.theory.specs.Machine.{Line};
 ghost use Rattle.theory.specs.Emission.{ok, refuse};
 ghost use Rattle.knowing.specs.Known.{known};
 ghost use Rattle.knowing.specs.Steps.{readObject, writeObject, readRaw, writeRaw, freeRaw, raise};
-ghost use Rattle.knowing.specs.Meets.{objectsIn, rawsIn, nextIn, refusing, Does, Quiet, RoomFor};
+ghost use Rattle.knowing.specs.Meets.{objectsIn, rawsIn, nextIn, refusalIn, refusal, refusing, Does, Quiet, RoomFor};
+ghost use Rattle.knowing.specs.Findings.{findingOf};
 
 mod cells;
 
@@ -79,6 +81,27 @@ pub fn refuse(emission: &mut Emission, number: u8, row: u8)
 {
     if emission[REFUSAL] == 0 {
         emission[REFUSAL] = (number as u64) * 256 + (row as u64);
+    }
+}
+
+// What is found of a pattern: a refusal, or nothing.
+pub enum Finding {
+    Refused(Compiled),
+    Accepted,
+}
+
+// What emission is refused with.
+pub fn found(emission: Emission) -> Finding
+    ensures { λ r. ⌜ r ≡ findingOf (refusal (refusalIn emission)) ⌝ }
+{
+    let refusal = emission[REFUSAL];
+    let row = (refusal % 256) as u32;
+    let number = refusal / 256;
+    match number {
+        5 => Finding::Refused(Compiled::WrongKind(row)),
+        6 => Finding::Refused(Compiled::WrittenWhileSet(row)),
+        7 => Finding::Refused(Compiled::ReadWhileUnset(row)),
+        _ => Finding::Accepted,
     }
 }
 

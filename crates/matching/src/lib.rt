@@ -2,7 +2,6 @@
 pub mod forms;
 
 use emission::Part;
-use emission::Rows;
 use emission::instructions;
 use emission::parts_of;
 use emission::scratch;
@@ -11,6 +10,7 @@ use knowing::Emission;
 use knowing::free_raw;
 use knowing::take;
 use knowing::wrong_kind;
+use layout::Rows;
 use numbers::limits::MOST_PARTS;
 use patterns::forms as form;
 ghost use mathlib.Core.Path.{_≡_};

@@ -1,7 +1,7 @@
 -- A refusal clears the buffer; otherwise the walk says what its words are.
 use mathlib.Core.Path.{sym, _∙_}
 use borrow.Author.Needs.{needs}
-use Rattle.compiler.proofs.LookLaws.{found-some, found-none}
+use Rattle.knowing.proofs.FindingLaws.{found-some, found-none}
 use Rattle.compiler.proofs.WalkLaws.{refused-known}
 use Rattle.compiler.proofs.compile_known.Statement.{statement}
 use Rattle.compiler.proofs.compile_known.Tie as tie

@@ -9,7 +9,8 @@ use borrow.Author.Needs.{needs}
 use Rattle.word.proofs.CopyLaws.{laid}
 use Rattle.knowing.specs.Known.{known}
 use Rattle.calls.proofs.HalfLaws.{KnownPassed, known-passed}
-use Rattle.compiler.proofs.RowLaws.{root-pattern, root-row, root-words}
+use Rattle.layout.proofs.RowLaws.{root-pattern}
+use Rattle.compiler.proofs.RowLaws.{root-row, root-words}
 use Rattle.compiler.proofs.WalkLaws.{walked-done, walked-refused}
 use Rattle.compiler.proofs.walking.walk.Statement.{statement}
 use Rattle.compiler.proofs.walking.walk.Tie as tie
@@ -78,7 +79,7 @@ returns c =
       c .before .before .before .before .before .before .before .all-kinds .ensures,
     ) at (c .before .before .emit-row .ensures) in
     rw (c .before .answer-of .ensures)
-    (walked-done (create s) (pattern s) (kinds s) (s .pre .0) (root-pattern (pattern s) (passes s .lengths .least) (passes s .lengths .most) (passes s .rows-good)) d
+    (walked-done (create s) (pattern s) (kinds s) (s .pre .0) (root-pattern (pattern s) (passes s .lengths .least) (passes s .lengths .most)) d
     (omega (arith, root-words (pattern s) (passes s .lengths .least) (passes s .lengths .most) (passes s .rows-good), s .pre .1)) (c .if1 .taken))
 
 returns-2 : tie.Need-returns-2
@@ -92,8 +93,7 @@ returns-2 c =
     ) at
     (c .before .before .before .before .emit-row .ensures) in
     rw (c .before .before .before .answer-of .ensures)
-    (walked-refused (create s) (pattern s) (kinds s) (s .pre .0) (root-pattern (pattern s) (passes s .lengths .least) (passes s .lengths .most)
-    (passes s .rows-good)) d (c .before .before .if1 .left) (c .clear .ensures))
+    (walked-refused (create s) (pattern s) (kinds s) (s .pre .0) (root-pattern (pattern s) (passes s .lengths .least) (passes s .lengths .most)) d (c .before .before .if1 .left) (c .clear .ensures))
 
 pub walk-spec : {M : Type 1} → statement M
 walk-spec =

@@ -2,8 +2,8 @@
 use Prim.Native.Nat.{_-_}
 use native.Mathlib.Omega.{arith}
 use Rattle.word.proofs.CopyLaws.{Copied, copied-none, copied-more, copied-whole}
-use Rattle.compiler.proofs.walking.all_kinds.Statement.{statement}
-use Rattle.compiler.proofs.walking.all_kinds.Tie as tie
+use Rattle.layout.proofs.all_kinds.Statement.{statement}
+use Rattle.layout.proofs.all_kinds.Tie as tie
 
 abbrev Inv-loop : tie.InvT-loop
 Inv-loop kinds all₀ v₀ v-end all v = Copied kinds all₀ all v

@@ -1,7 +1,7 @@
-use Rattle.creating.proofs.KeyLaws.{creatable-is}
+use Rattle.layout.proofs.KindLaws.{creatable-is}
 use borrow.Author.Needs.{needs}
-use Rattle.creating.proofs.keys.creatable.Statement.{statement}
-use Rattle.creating.proofs.keys.creatable.Tie as tie
+use Rattle.layout.proofs.creatable.Statement.{statement}
+use Rattle.layout.proofs.creatable.Tie as tie
 
 cast-own : tie.Need-cast-own
 cast-own c = search needs

@@ -3,8 +3,8 @@ use Prim.Native.Nat.{_-_}
 use native.Mathlib.Omega.{arith}
 use borrow.Author.Needs.{needs, scaled-fits}
 use Rattle.word.proofs.CopyLaws.{Copied, copied-none, copied-more, copied-all}
-use Rattle.compiler.proofs.walking.lay_rows.Statement.{statement}
-use Rattle.compiler.proofs.walking.lay_rows.Tie as tie
+use Rattle.layout.proofs.lay_rows.Statement.{statement}
+use Rattle.layout.proofs.lay_rows.Tie as tie
 
 abbrev Inv-loop : tie.InvT-loop
 Inv-loop pattern rows₀ row₀ row-end rows row = Copied pattern rows₀ rows row

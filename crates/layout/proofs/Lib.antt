@@ -1,0 +1,3 @@
+-- Laws of laid rows and of kinds.
+pub mod KindLaws
+pub mod RowLaws

@@ -1,0 +1,2 @@
+-- What is promised of looks over a pattern.
+pub mod Surveys
