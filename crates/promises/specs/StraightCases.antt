@@ -2,7 +2,7 @@
 use Prim.Native.Nat.{ℕ}
 use mathlib.Core.Path.{_≡_}
 use mathlib.Core.Bool.{true, false}
-use mathlib.Core.List.{List, [], _∷_, _++_}
+use mathlib.Core.List.{List, [], _∷_}
 use lib.ListN.{replicate}
 use Rattle.answers.specs.declared.Reason.the-variants.{Unset, Differs, PartCount, NoCertificate}
 use Rattle.answers.specs.declared.direct.Direct.the-variants.{Done, WrittenWhileSet, Stuck, NoRoom}
