@@ -37,6 +37,7 @@ pub mod Echo
 pub mod ListingLaws
 pub mod Printed
 pub mod Example
+pub mod StraightCases
 pub mod ForC
 pub mod RoundsForC
 pub mod PartLaws

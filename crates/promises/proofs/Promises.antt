@@ -12,6 +12,7 @@ use Rattle.promises.proofs.Demand2.{demand-2}
 use Rattle.promises.proofs.Demand3.{demand-3}
 use Rattle.promises.proofs.StraightTable.{straight-page}
 use Rattle.promises.proofs.Example.{example}
+use Rattle.promises.proofs.StraightCases.{straight-cases}
 use Rattle.promises.proofs.ForC.{for-c}
 use Rattle.promises.proofs.RoundLaws.{round-table}
 use Rattle.promises.proofs.RoleTable.{role-table}
@@ -36,6 +37,7 @@ promises = record {
   for-c = for-c;
   example = example;
   straight = straight-page;
+  straight-cases = straight-cases;
   rounds = round-table;
   roles = role-table;
   halves = halves-in-turn;

@@ -19,6 +19,7 @@ pub mod Roles
 pub mod Echo
 pub mod Listing
 pub mod Example
+pub mod StraightCases
 pub mod ForC
 pub mod RoundsForC
 pub mod RolesForC

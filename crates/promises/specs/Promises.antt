@@ -16,6 +16,7 @@ use Rattle.promises.specs.Demand2.{Demand2}
 use Rattle.promises.specs.Demand3.{Demand3}
 use Rattle.promises.specs.Straight.{Straight}
 use Rattle.promises.specs.Example.{Example}
+use Rattle.promises.specs.StraightCases.{StraightCases}
 use Rattle.promises.specs.ForC.{ForC}
 use Rattle.calls.specs.Round.{RoundLent}
 use Rattle.promises.specs.Rounds.{RoundTable}
@@ -46,6 +47,7 @@ pub record Promises : Type 0 where
   pub example : Example
   -- straight from the pattern is compile, then run; every number exactly where its condition holds
   pub straight : Straight
+  pub straight-cases : StraightCases
   -- every number of a round exactly where its condition holds, and nothing changed by any answer but 0
   pub rounds : (x : RoundLent) (code : List ℕ) → RoundTable x code
   -- every number of compiling a role exactly where its condition holds, half after half
