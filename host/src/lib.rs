@@ -4,8 +4,10 @@
 pub mod by_halves;
 pub mod case;
 pub mod compare;
+pub mod edges;
 pub mod every;
 pub mod examples;
+pub mod forms;
 pub mod game;
 pub mod generator;
 pub mod input;
