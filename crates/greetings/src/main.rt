@@ -6,46 +6,51 @@ mod player;
 mod written;
 
 use lines::rows;
-use player::Sent;
+use player::Player;
 use player::Turn;
 use player::compile;
+use player::left;
 use player::play;
 
-// A greets B with A and a nonce, B answers with that nonce and its own, and A with B's.
-fn greet() -> Turn {
-    let a = compile(
+fn initiator() -> Player {
+    let halves = written::initiator_halves();
+    compile(
         b"a",
-        written::initiator_halves(),
+        &halves,
         &[1, 4, 4, 2, 1, 1],
         written::initiator(),
         written::initiator_cells(),
-    );
-    let b = compile(
+    )
+}
+
+fn responder() -> Player {
+    let halves = written::responder_halves();
+    compile(
         b"b",
-        written::responder_halves(),
+        &halves,
         &[4, 4, 2, 1, 1, 1],
         written::responder(),
         written::responder_cells(),
-    );
-    let start = Sent {
-        rows: written::terms(),
-        used: 6,
-        counter: 2,
-        message: 1,
-    };
-    let first = play(b"a greets", a, start);
+    )
+}
+
+// A greets B with A and a nonce, B answers with that nonce and its own, and A with B's.
+fn greet() -> Turn {
+    let a = initiator();
+    let b = responder();
+    let first = play(b"a greets", a, written::start());
     let second = play(b"b answers", b, first.sent);
     let third = play(b"a answers", first.player, second.sent);
     let fourth = play(b"b is greeted", second.player, third.sent);
     let fifth = play(b"a ends", third.player, fourth.sent);
-    player::left(fifth.player);
+    left(fifth.player);
     play(b"b ends", fourth.player, fifth.sent)
 }
 
 // A round that there is not has no code, and that is 1.
 fn main() {
     let last = greet();
-    player::left(last.player);
+    left(last.player);
     let over = play(b"no round left", last.player, last.sent);
     let sent = over.sent;
     let table = sent.rows;

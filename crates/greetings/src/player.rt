@@ -2,7 +2,6 @@
 use crate::lines::cells;
 use crate::lines::end;
 use crate::lines::number;
-use crate::written::HALF_ROWS;
 use crate::written::ROOM;
 use crate::written::certificates;
 use answers::Rounded;
@@ -10,6 +9,7 @@ use answers::Session;
 use libc::STDOUT_FILENO;
 use numbers::limits::MESSAGE_CELLS;
 use numbers::limits::VARIABLES;
+use roles::RoleCompiled;
 
 // Each of the two roles has so many rounds, and so many words.
 const ROUNDS: usize = 3;
@@ -48,10 +48,19 @@ struct Ended {
     rows: [u64; ROOM],
 }
 
+fn compiled_line(name: &[u8], compiled: RoleCompiled) {
+    let answer = compiled.answer;
+    io::write_all(STDOUT_FILENO, name);
+    number(answer.number());
+    number(answer.place());
+    number(compiled.half);
+    end();
+}
+
 // The halves with the rows of each; no message cell is set, and no message waits yet.
 pub fn compile(
     name: &[u8],
-    halves: [u64; HALF_ROWS],
+    halves: &[u64],
     counts: &[u8],
     kinds: [u8; VARIABLES],
     objects: [u16; VARIABLES],
@@ -60,7 +69,7 @@ pub fn compile(
     let mut ends = [0u16; ROUNDS];
     let mut code = [0u32; WORDS];
     let compiled = roles::compile_role(
-        &halves,
+        halves,
         counts,
         &kinds,
         &objects,
@@ -68,12 +77,7 @@ pub fn compile(
         &mut ends,
         &mut code,
     );
-    let answer = compiled.answer;
-    io::write_all(STDOUT_FILENO, name);
-    number(answer.number());
-    number(answer.place());
-    number(compiled.half);
-    end();
+    compiled_line(name, compiled);
     let messages = [65535u16; MESSAGE_CELLS];
     Player {
         ends: ends,

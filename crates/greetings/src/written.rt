@@ -1,4 +1,5 @@
 // The two roles as they are written.
+use crate::player::Sent;
 use numbers::kinds::AGENT;
 use numbers::kinds::BYTE;
 use numbers::kinds::ENCRYPTION;
@@ -12,7 +13,7 @@ use numbers::limits::VARIABLES;
 pub const ROOM: usize = 14;
 
 // Agents 1 and 2, and the keys of each, private and public; room for eight more.
-pub fn terms() -> [u64; ROOM] {
+fn terms() -> [u64; ROOM] {
     [
         0x3000_0000_0000_0001,
         0x3000_0000_0000_0002,
@@ -29,6 +30,16 @@ pub fn terms() -> [u64; ROOM] {
         0,
         0,
     ]
+}
+
+// The initiator is told to greet agent 2.
+pub fn start() -> Sent {
+    Sent {
+        rows: terms(),
+        used: 6,
+        counter: 2,
+        message: 1,
+    }
 }
 
 // An agent's row and its public key's.
