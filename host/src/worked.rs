@@ -106,7 +106,7 @@ pub fn no_certificate() -> Case {
     case
 }
 
-fn word(operation: u8, a: u8, b: u8, n: u8) -> [u8; 4] {
+pub(crate) fn word(operation: u8, a: u8, b: u8, n: u8) -> [u8; 4] {
     Word { operation, a, b, n }.pack().to_be_bytes()
 }
 
@@ -124,16 +124,20 @@ fn runs(engine: &Engine, case: &Case) -> Ran {
     case.lend_run(TERM_ROWS, &code).call(engine)
 }
 
-fn p1(engine: &Engine) {
-    let words = [
+/// The code of `greeting`.
+pub(crate) fn greeting_words() -> [[u8; 4]; 6] {
+    [
         word(DECODE, 1, 0, 0),
         word(ANALYZE_TUPLE, 1, 64, 2),
         word(LOAD, 64, 0, 0),
         word(DECODE, 0, 0, 0),
         word(LOAD, 65, 0, 0),
         word(STORE, 0, 0, 0),
-    ];
-    compiles_to(engine, &greeting(), &words);
+    ]
+}
+
+fn p1(engine: &Engine) {
+    compiles_to(engine, &greeting(), &greeting_words());
 }
 
 fn p2(engine: &Engine) {

@@ -5,11 +5,21 @@ use cram_host::every::every_form;
 use cram_host::generator::{self, flip_bit, Random};
 use cram_host::limits::CODE_WORDS;
 use cram_host::plain::patterns::{ENCRYPTED, LET, OBJECT, SIGNED};
-use cram_host::{examples, plain, worked, ARCHIVE};
+use cram_host::{edges, examples, forms, plain, worked, ARCHIVE};
 
 #[test]
 fn worked_cases() {
     worked::hold(&ARCHIVE);
+}
+
+#[test]
+fn each_form() {
+    forms::hold(&ARCHIVE);
+}
+
+#[test]
+fn runs_at_the_edges() {
+    edges::hold(&ARCHIVE);
 }
 
 #[test]

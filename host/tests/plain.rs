@@ -1,10 +1,20 @@
 //! The second implementation alone, against document 01's worked cases and the kept examples.
 use cram_host::generator::{self, Random};
-use cram_host::{examples, plain, worked};
+use cram_host::{edges, examples, forms, plain, worked};
 
 #[test]
 fn worked_cases() {
     worked::hold(&plain::ENGINE);
+}
+
+#[test]
+fn each_form() {
+    forms::hold(&plain::ENGINE);
+}
+
+#[test]
+fn runs_at_the_edges() {
+    edges::hold(&plain::ENGINE);
 }
 
 #[test]

@@ -1,15 +1,15 @@
 // A role that is compiled, and its rounds, each with its line.
-use crate::written::HALF_ROWS;
+use crate::lines::cells;
+use crate::lines::end;
+use crate::lines::number;
 use crate::written::ROOM;
 use crate::written::certificates;
 use answers::Rounded;
 use answers::Session;
-use compile_trials::report::named;
 use libc::STDOUT_FILENO;
-use trials::Stores;
-use trials::number;
-use trials::same_cells;
-use trials::verdict;
+use numbers::limits::MESSAGE_CELLS;
+use numbers::limits::VARIABLES;
+use roles::RoleCompiled;
 
 // Each of the two roles has so many rounds, and so many words.
 const ROUNDS: usize = 3;
@@ -21,7 +21,9 @@ pub struct Player {
     pub ends: [u16; ROUNDS],
     pub code: [u32; WORDS],
     pub session: Session,
-    pub stores: Stores,
+    pub kinds: [u8; VARIABLES],
+    pub objects: [u16; VARIABLES],
+    pub messages: [u16; MESSAGE_CELLS],
 }
 
 // The table that both share, and the message that one sends the other.
@@ -37,40 +39,53 @@ pub struct Turn {
     pub sent: Sent,
 }
 
-// What a round leaves of a record and stores.
+// What a round leaves.
 struct Ended {
     answer: Rounded,
     session: Session,
-    stores: Stores,
+    objects: [u16; VARIABLES],
+    messages: [u16; MESSAGE_CELLS],
+    rows: [u64; ROOM],
 }
 
-// The halves with the rows of each; no message waits yet.
-pub fn compile(name: &[u8], halves: [u64; HALF_ROWS], counts: &[u8], stores: Stores) -> Player {
-    let kinds = stores.kinds;
-    let objects = stores.objects;
-    let messages = stores.messages;
-    let mut ends = [0u16; ROUNDS];
-    let mut code = [0u32; WORDS];
-    let compiled = roles::compile_role(
-        &halves,
-        counts,
-        &kinds,
-        &objects,
-        named(&messages),
-        &mut ends,
-        &mut code,
-    );
+fn compiled_line(name: &[u8], compiled: RoleCompiled) {
     let answer = compiled.answer;
     io::write_all(STDOUT_FILENO, name);
     number(answer.number());
     number(answer.place());
     number(compiled.half);
-    io::write_all(STDOUT_FILENO, b"\n");
+    end();
+}
+
+// The halves with the rows of each; no message cell is set, and no message waits yet.
+pub fn compile(
+    name: &[u8],
+    halves: &[u64],
+    counts: &[u8],
+    kinds: [u8; VARIABLES],
+    objects: [u16; VARIABLES],
+) -> Player {
+    let named = [65535u16; VARIABLES];
+    let mut ends = [0u16; ROUNDS];
+    let mut code = [0u32; WORDS];
+    let compiled = roles::compile_role(
+        halves,
+        counts,
+        &kinds,
+        &objects,
+        &named,
+        &mut ends,
+        &mut code,
+    );
+    compiled_line(name, compiled);
+    let messages = [65535u16; MESSAGE_CELLS];
     Player {
         ends: ends,
         code: code,
         session: no_session(),
-        stores: stores,
+        kinds: kinds,
+        objects: objects,
+        messages: messages,
     }
 }
 
@@ -95,40 +110,6 @@ fn told(session: Session, sent: Sent) -> Session {
     }
 }
 
-fn round(
-    session: Session,
-    stores: Stores,
-    certificates: &[u64],
-    terms: &mut [u64],
-    code: &[u32],
-) -> Ended {
-    let kinds = stores.kinds;
-    let mut objects = stores.objects;
-    let mut messages = stores.messages;
-    let ended = rounds::round_of(
-        session,
-        ROUNDS as u32,
-        &kinds,
-        &mut objects,
-        &mut messages,
-        certificates,
-        terms,
-        code,
-    );
-    let answer = ended.answer;
-    let after = ended.session;
-    let left = Stores {
-        kinds: kinds,
-        objects: objects,
-        messages: messages,
-    };
-    Ended {
-        answer: answer,
-        session: after,
-        stores: left,
-    }
-}
-
 fn line(name: &[u8], answer: Rounded, sent: Sent) {
     io::write_all(STDOUT_FILENO, name);
     number(answer.number());
@@ -137,35 +118,66 @@ fn line(name: &[u8], answer: Rounded, sent: Sent) {
     number(sent.used);
     number(sent.counter);
     number(sent.message);
-    io::write_all(STDOUT_FILENO, b"\n");
+    end();
+}
+
+// The round that comes next, of some code, on a record that is up to date.
+fn round(player: Player, sent: Sent, session: Session, code: &[u32]) -> Ended {
+    let kinds = player.kinds;
+    let mut objects = player.objects;
+    let mut messages = player.messages;
+    let mut rows = sent.rows;
+    let pairs = certificates();
+    let ended = rounds::round_of(
+        session,
+        ROUNDS as u32,
+        &kinds,
+        &mut objects,
+        &mut messages,
+        &pairs,
+        &mut rows,
+        code,
+    );
+    let answer = ended.answer;
+    let after = ended.session;
+    Ended {
+        answer: answer,
+        session: after,
+        objects: objects,
+        messages: messages,
+        rows: rows,
+    }
 }
 
 // The player's next round, and the answer taken from it.
 pub fn play(name: &[u8], player: Player, sent: Sent) -> Turn {
     let ends = player.ends;
     let code = player.code;
+    let kinds = player.kinds;
     let session = told(player.session, sent);
-    let mut rows = sent.rows;
-    let pairs = certificates();
     let part = roles::round_part(&code, &ends, session.round as usize);
-    let left = round(session, player.stores, &pairs, &mut rows, part);
-    let after = left.session;
+    let ended = round(player, sent, session, part);
+    let after = ended.session;
     let waited = rounds::take_of(after);
+    let rows = ended.rows;
     let next = Sent {
         rows: rows,
         used: after.used,
         counter: after.counter,
         message: waited.answer,
     };
-    let answer = left.answer;
+    let answer = ended.answer;
     line(name, answer, next);
     let waiting = waited.session;
-    let stores = left.stores;
+    let objects = ended.objects;
+    let messages = ended.messages;
     let ready = Player {
         ends: ends,
         code: code,
         session: waiting,
-        stores: stores,
+        kinds: kinds,
+        objects: objects,
+        messages: messages,
     };
     Turn {
         player: ready,
@@ -173,13 +185,10 @@ pub fn play(name: &[u8], player: Player, sent: Sent) -> Turn {
     }
 }
 
-// Whether a player's cells are those of some stores.
-pub fn left(name: &[u8], player: Player, stores: Stores) {
-    let held = player.stores;
-    let objects = held.objects;
-    let messages = held.messages;
-    let other_objects = stores.objects;
-    let other_messages = stores.messages;
-    io::write_all(STDOUT_FILENO, name);
-    verdict(same_cells(&objects, &other_objects) & same_cells(&messages, &other_messages));
+// The cells that are set in the end, scratch too.
+pub fn left(player: Player) {
+    let objects = player.objects;
+    let messages = player.messages;
+    cells(b"o ", &objects);
+    cells(b"m ", &messages);
 }

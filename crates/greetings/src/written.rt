@@ -1,4 +1,5 @@
-// The two roles as they are written, and what they leave.
+// The two roles as they are written.
+use crate::player::Sent;
 use numbers::kinds::AGENT;
 use numbers::kinds::BYTE;
 use numbers::kinds::ENCRYPTION;
@@ -6,16 +7,13 @@ use numbers::kinds::NONCE;
 use numbers::kinds::PRIVATE_KEY;
 use numbers::kinds::PUBLIC_KEY;
 use numbers::kinds::TUPLE;
-use trials::Stores;
-use trials::empty;
-use trials::with_message;
-use trials::with_object;
+use numbers::limits::VARIABLES;
 
 // The table's rows.
 pub const ROOM: usize = 14;
 
 // Agents 1 and 2, and the keys of each, private and public; room for eight more.
-pub fn terms() -> [u64; ROOM] {
+fn terms() -> [u64; ROOM] {
     [
         0x3000_0000_0000_0001,
         0x3000_0000_0000_0002,
@@ -32,6 +30,16 @@ pub fn terms() -> [u64; ROOM] {
         0,
         0,
     ]
+}
+
+// The initiator is told to greet agent 2.
+pub fn start() -> Sent {
+    Sent {
+        rows: terms(),
+        used: 6,
+        counter: 2,
+        message: 1,
+    }
 }
 
 // An agent's row and its public key's.
@@ -90,92 +98,52 @@ pub fn responder_halves() -> [u64; HALF_ROWS] {
     ]
 }
 
-// The variables with what they hold: a2, n3, k4, e5, t6 of the first round, e7, t8, n9, e10 of the second, c11 of the third.
-fn initiator_holding(first: [u16; 5], second: [u16; 4], third: u16) -> Stores {
-    let own = with_object(with_object(empty(), 0, AGENT, 0), 1, PRIVATE_KEY, 2);
-    let b = with_object(own, 2, AGENT, first[0]);
-    let nonce = with_object(b, 3, NONCE, first[1]);
-    let key = with_object(nonce, 4, PUBLIC_KEY, first[2]);
-    let greeting = with_object(
-        with_object(key, 5, ENCRYPTION, first[3]),
-        6,
-        TUPLE,
-        first[4],
-    );
-    let reply = with_object(
-        with_object(greeting, 7, ENCRYPTION, second[0]),
-        8,
-        TUPLE,
-        second[1],
-    );
-    let answer = with_object(
-        with_object(reply, 9, NONCE, second[2]),
-        10,
-        ENCRYPTION,
-        second[3],
-    );
-    with_object(answer, 11, BYTE, third)
+// The initiator has a0, K1, a2, n3, k4, e5, t6, e7, t8, n9, e10, c11.
+pub fn initiator() -> [u8; VARIABLES] {
+    let mut kinds = [0u8; VARIABLES];
+    kinds[0] = AGENT;
+    kinds[1] = PRIVATE_KEY;
+    kinds[2] = AGENT;
+    kinds[3] = NONCE;
+    kinds[4] = PUBLIC_KEY;
+    kinds[5] = ENCRYPTION;
+    kinds[6] = TUPLE;
+    kinds[7] = ENCRYPTION;
+    kinds[8] = TUPLE;
+    kinds[9] = NONCE;
+    kinds[10] = ENCRYPTION;
+    kinds[11] = BYTE;
+    kinds
 }
 
-pub fn initiator() -> Stores {
-    initiator_holding([65535; 5], [65535; 4], 65535)
+// It knows its name and its private key.
+pub fn initiator_cells() -> [u16; VARIABLES] {
+    let mut cells = [65535u16; VARIABLES];
+    cells[0] = 0;
+    cells[1] = 2;
+    cells
 }
 
-// With the scratch cells that the code has written.
-pub fn initiator_left() -> Stores {
-    let left = initiator_holding([1, 6, 5, 8, 7], [11, 10, 9, 12], 13);
-    with_message(with_message(with_message(left, 64, 13), 65, 9), 66, 6)
+// The responder has e0, K1, t2, a3, n4, e5, k6, t7, n8, e9, c10.
+pub fn responder() -> [u8; VARIABLES] {
+    let mut kinds = [0u8; VARIABLES];
+    kinds[0] = ENCRYPTION;
+    kinds[1] = PRIVATE_KEY;
+    kinds[2] = TUPLE;
+    kinds[3] = AGENT;
+    kinds[4] = NONCE;
+    kinds[5] = ENCRYPTION;
+    kinds[6] = PUBLIC_KEY;
+    kinds[7] = TUPLE;
+    kinds[8] = NONCE;
+    kinds[9] = ENCRYPTION;
+    kinds[10] = BYTE;
+    kinds
 }
 
-// e0, t2, a3, n4, e5, k6, t7, n8 of the first round, e9, c10 of the second.
-fn responder_holding(first: [u16; 8], second: [u16; 2]) -> Stores {
-    let own = with_object(empty(), 1, PRIVATE_KEY, 4);
-    let greeting = with_object(
-        with_object(own, 0, ENCRYPTION, first[0]),
-        2,
-        TUPLE,
-        first[1],
-    );
-    let a = with_object(
-        with_object(greeting, 3, AGENT, first[2]),
-        4,
-        NONCE,
-        first[3],
-    );
-    let sealed = with_object(
-        with_object(a, 5, ENCRYPTION, first[4]),
-        6,
-        PUBLIC_KEY,
-        first[5],
-    );
-    let reply = with_object(with_object(sealed, 7, TUPLE, first[6]), 8, NONCE, first[7]);
-    with_object(
-        with_object(reply, 9, ENCRYPTION, second[0]),
-        10,
-        BYTE,
-        second[1],
-    )
-}
-
-pub fn responder() -> Stores {
-    responder_holding([65535; 8], [65535; 2])
-}
-
-pub fn responder_left() -> Stores {
-    let left = responder_holding([8, 7, 0, 6, 11, 3, 10, 9], [12, 13]);
-    with_message(with_message(left, 64, 0), 65, 9)
-}
-
-// The nonces 2 and 3, the three messages with their tuples, and the byte 1.
-pub fn terms_left() -> [u64; ROOM] {
-    let mut left = terms();
-    left[6] = 0x2000_0000_0000_0002;
-    left[7] = 0xA200_0000_0600_0000;
-    left[8] = 0x7000_0050_0700_0000;
-    left[9] = 0x2000_0000_0000_0003;
-    left[10] = 0xA200_0060_0900_0000;
-    left[11] = 0x7000_0030_0A00_0000;
-    left[12] = 0x7000_0050_0900_0000;
-    left[13] = 0x1000_0000_0000_0001;
-    left
+// It knows its private key.
+pub fn responder_cells() -> [u16; VARIABLES] {
+    let mut cells = [65535u16; VARIABLES];
+    cells[1] = 4;
+    cells
 }

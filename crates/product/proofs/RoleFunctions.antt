@@ -1,7 +1,7 @@
 -- The functions of roles and rounds meet their contracts, each by its own crate's proof.
 use mathlib.Core.Path.{refl, sym, _∙_}
 use Rattle.roles.proofs.compile_role.Met as CompileRole
-use Rattle.roles.proofs.round_part.Met as RoundPart
+use Rattle.round_parts.proofs.round_part.Met as RoundPart
 use Rattle.rounds.proofs.round_of.Met as RoundOf
 use Rattle.rounds.proofs.round.Met as Round
 use Rattle.rounds.proofs.take_of.Met as TakeOf

@@ -20,9 +20,9 @@ use Rattle.role_lending.specs.RoleEntry.{RoleLeft, roleEntry}
 use Rattle.roles.proofs.compile_role as CompileRole
 use Rattle.roles.proofs.compile_role.Statement as CompileRoleStatement
 use Rattle.roles.proofs.compile_role.Reads as CompileRoleReads
-use Rattle.roles.proofs.round_part as RoundPart
-use Rattle.roles.proofs.round_part.Statement as RoundPartStatement
-use Rattle.roles.proofs.round_part.Reads as RoundPartReads
+use Rattle.round_parts.proofs.round_part as RoundPart
+use Rattle.round_parts.proofs.round_part.Statement as RoundPartStatement
+use Rattle.round_parts.proofs.round_part.Reads as RoundPartReads
 use Rattle.rounds.proofs.round_of as RoundOf
 use Rattle.rounds.proofs.round_of.Statement as RoundOfStatement
 use Rattle.rounds.proofs.round_of.Reads as RoundOfReads

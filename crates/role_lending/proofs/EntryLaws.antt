@@ -14,7 +14,8 @@ use Rattle.answers.specs.declared.Compiled.{Compiled}
 use Rattle.calls.specs.Role.{RoleLent, RoleOutcome, sum, roleFits, role}
 use Rattle.looking.proofs.LookLaws.{true-holds}
 use Rattle.lending.proofs.ChoiceLaws.{where-true, either-way}
-use Rattle.roles.proofs.AnswerLaws.{RoleWithin, role-limit, fits-within}
+use Rattle.role_counting.proofs.LengthLaws.{RoleWithin}
+use Rattle.roles.proofs.AnswerLaws.{role-limit, fits-within}
 use Rattle.role_lending.specs.RoleEntry.{roleNumbers, roleSpelled, roleElements, roleUntouched, roleWhole, roleEntry}
 
 module _ (ends code : List ℕ) (x : RoleLent) where

@@ -21,9 +21,9 @@ use Rattle.calls.proofs.HalfLaws.{half-done}
 use Rattle.answers.specs.Numbers.{compiledPlace}
 use Rattle.answers.specs.declared.Compiled.{Compiled}
 use Rattle.compiler.specs.CompileKnown.{KnownOutcome, fromKnown, knownFinished}
-use Rattle.roles.specs.Written.{roundEmitted, CodeFits, CodeLeft, codeLeft, roundsIn}
-use Rattle.roles.proofs.RoundLaws.{words-append, round-ok}
-use Rattle.roles.proofs.WriteLaws.{part-written, BothHalves, Writing, writing-none, ahead, round-fits, end-small, writing-more, writing-all}
+use Rattle.role_writing.specs.Written.{roundEmitted, CodeFits, CodeLeft, codeLeft, roundsIn}
+use Rattle.role_writing.proofs.RoundLaws.{words-append, round-ok}
+use Rattle.role_writing.proofs.WriteLaws.{part-written, BothHalves, Writing, writing-none, ahead, round-fits, end-small, writing-more, writing-all}
 use Rattle.role_lending.specs.Bytes.{bytesLeft}
 use Rattle.role_lending.proofs.BytesLaws.{bytes-sets, one-spelled}
 

@@ -7,7 +7,7 @@ use lib.Seq.{sets}
 use Rattle.word.specs.Bytes.{spelled}
 use Rattle.theory.specs.Emission.{Emitted, ok, refuse}
 use Rattle.calls.specs.Compile.{codeWords}
-use Rattle.roles.specs.Written.{CodeLeft}
+use Rattle.role_writing.specs.Written.{CodeLeft}
 
 abbrev pub bytesLeft : (List ℕ → List ℕ) → ℕ → List ℕ → Emitted → CodeLeft
 bytesLeft frame place code (ok lines e) =

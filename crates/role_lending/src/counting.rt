@@ -9,12 +9,12 @@ ghost use Rattle.calls.specs.Half.{half};
 ghost use Rattle.calls.specs.Role.{sum, halvesFrom};
 ghost use Rattle.knowing.specs.Known.{known};
 ghost use Rattle.compiler.specs.CompileKnown.{fromKnown};
-ghost use Rattle.roles.specs.Counted.{halfCounted, countedBy};
+ghost use Rattle.role_counting.specs.Counted.{halfCounted, countedBy};
 use answers::Compiled;
 use compiler::KnownAnswer;
 use lending::arrays;
 use numbers::limits::MOST_PATTERN_ROWS;
-use roles::RoleCompiled;
+use role_counting::RoleCompiled;
 
 // A half's answer, and which cells are set after it: more rows than there is room for are its own 1.
 fn count_half(create: bool, bytes: &[u8], kinds: &[u8], objects: u64, named: u64) -> KnownAnswer
@@ -30,7 +30,7 @@ fn count_half(create: bool, bytes: &[u8], kinds: &[u8], objects: u64, named: u64
         };
     }
     let rows = arrays::pattern_rows(bytes);
-    roles::counting::count_half(create, &rows[..count], kinds, objects, named)
+    role_counting::count_half(create, &rows[..count], kinds, objects, named)
 }
 
 // The words of all rounds, with INPUT and OUTPUT; or the first refusal and its half.

@@ -71,7 +71,7 @@ pub fn compile_role(
     ) {
         return numbers(Compiled::Limit, 0);
     }
-    if !roles::checks::role_fits(
+    if !role_counting::checks::role_fits(
         rows.len() / 8,
         counts,
         kinds.len(),

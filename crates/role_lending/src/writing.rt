@@ -11,12 +11,12 @@ ghost use Rattle.calls.specs.Frame.{framed};
 ghost use Rattle.calls.specs.Role.{sum, endsFrom, inTurn, halvesFrom};
 ghost use Rattle.knowing.specs.Known.{known};
 ghost use Rattle.compiler.specs.CompileKnown.{fromKnown};
-ghost use Rattle.roles.specs.Written.{roundEmitted, CodeFits, RoundsFit, roundsIn};
+ghost use Rattle.role_writing.specs.Written.{roundEmitted, CodeFits, RoundsFit, roundsIn};
 ghost use Rattle.role_lending.specs.Bytes.{bytesLeft};
 use code::frame::INPUT;
 use code::frame::OUTPUT;
 use lending::arrays;
-use roles::writing::Written;
+use role_writing::Written;
 
 // A half's words from a place on.
 fn write_half(

@@ -1,49 +1,25 @@
--- A role's answer: the call's own 1, the first refusal, 8, or done; and the part of a round.
+-- A role's answer: the call's own 1, the first refusal, 8, or done.
 use mathlib.Core.Path.{_≡_, refl, sym, _∙_, ap}
-use mathlib.Core.Bool.{Bool, true, false, _&&_}
-use mathlib.Core.List.{List, [], _++_}
-use Prim.Native.Nat.{ℕ, zero, suc, _+_, _-_, _*_, _/_, _%_, _<_, _≤_}
-use native.Mathlib.Nat.{zero-add}
-use native.Mathlib.Omega.{arith}
+use mathlib.Core.Bool.{true, false}
+use mathlib.Core.List.{List, _++_}
+use Prim.Native.Nat.{ℕ, _<_, _≤_}
 use borrow.Author.Tests.{le-leb, lt-leb}
-use lib.Dec.{T, eqb, leb, ltb}
-use lib.ListN.{length, getD, take, drop}
-use Rattle.word.proofs.TestLaws.{both, equals, at-most, is-below, is-true, is-false}
+use lib.Dec.{T, eqb}
+use lib.ListN.{length, getD, drop}
+use Rattle.word.proofs.TestLaws.{both, equals}
 use Rattle.answers.specs.Numbers.{compiledNumber, compiledPlace}
 use Rattle.answers.specs.declared.Compiled.{Compiled}
 use Rattle.answers.specs.declared.Compiled.the-variants.{Done, Limit, CodeTooShort}
 use Rattle.stores.specs.Cells.{isSet, unset}
-use Rattle.calls.specs.Role.{RoleLent, Halves, compiled, refusedIn, roundsOf, inTurn, endsFrom, sum, roleRefused, roleBy, roleFits, role, roundStart, isRound, roundPart, roundPlace}
+use Rattle.calls.specs.Role.{RoleLent, Halves, compiled, refusedIn, roundsOf, inTurn, endsFrom, sum, roleRefused, roleBy, roleFits, role}
 use Rattle.knowing.specs.Known.{known}
 use Rattle.compiler.specs.CompileKnown.{fromKnown}
 use Rattle.compiler.proofs.OverCells.{not-done}
-use Rattle.roles.specs.declared.RoleCompiled.{RoleCompiled}
-use Rattle.roles.specs.Counted.{countedBy}
-use Rattle.roles.specs.Written.{RoundsFit, roundsIn}
+use Rattle.role_counting.specs.declared.RoleCompiled.{RoleCompiled}
+use Rattle.role_counting.specs.Counted.{countedBy}
+use Rattle.role_counting.proofs.LengthLaws.{roleLengths, RoleWithin, role-within}
+use Rattle.role_writing.specs.Written.{RoundsFit, roundsIn}
 use Rattle.calls.proofs.RoleLaws.{whole, halves-refused}
-
--- the lengths of a role
-abbrev roleLengths : ℕ → ℕ → ℕ → ℕ → ℕ → Bool
-roleLengths counts kinds objects named ends =
-    eqb (counts % 2) 0 && leb 1 (counts / 2) && leb (counts / 2) 16 && eqb kinds 64 && eqb objects 64 && eqb named 64 && eqb ends (counts / 2)
-
-pub record RoleWithin (counts kinds objects named ends : ℕ) : Type 0 where
-  pub even : counts % 2 ≡ 0
-  pub few : counts / 2 ≤ 16
-  pub objects-length : objects ≡ 64
-  pub named-length : named ≡ 64
-  pub ends-length : ends ≡ counts / 2
-
-pub role-within : (counts kinds objects named ends : ℕ)
-    → T (roleLengths counts kinds objects named ends) → RoleWithin counts kinds objects named ends
-role-within counts kinds objects named ends =
-    simp (both, equals, at-most) λ h. record {
-      even = h .0 .0 .0 .0 .0 .0;
-      few = h .0 .0 .0 .0 .1;
-      objects-length = h .0 .0 .1;
-      named-length = h .0 .1;
-      ends-length = h .1;
-    }
 
 module _ (ends code : List ℕ) (x : RoleLent) where
   pub role-limit : roleFits ends code x ≡ false → roleRefused ends code 0 Limit ≡ role ends code x
@@ -120,41 +96,3 @@ module _ (ends code : List ℕ) (x : RoleLent) where
                     (words ∙ ap (λ (r : List (List ℕ)). inTurn r ++ drop (length (inTurn r)) code) rounds) i;
               })
               ∙ sym (answered ∙ ap (roleBy ends code) (counts .compiles) ∙ rw (le-leb (length (inTurn (roundsOf (counts .halves)))) (length code) (rw place at most)))
-
--- where a round starts
-pub start-first : (ends : List ℕ) {round : ℕ} → round ≡ 0 → 0 ≡ roundStart ends round
-unfolding roundStart
-start-first ends e = rw e
-
-pub start-later : (ends : List ℕ) (round : ℕ) → (round ≡ 0 → ⊥) → getD ends (round - 1) 0 ≡ roundStart ends round
-unfolding roundStart
-start-later ends zero other = absurd (other refl)
-start-later ends (suc round) other = let e : suc round - 1 ≡ round = omega arith in rw e
-
--- the part of a round, and where it stands
-module _ (code ends : List ℕ) (round : ℕ) where
-  pub no-round : isRound code ends round ≡ false → (p : ℕ × ℕ) → ([] ≡ roundPart code ends round) × (p ≡ (p .0, roundPlace code ends round * 4 + p .1))
-  unfolding roundPart roundPlace
-  no-round e p = rw e (refl, rw zero-add)
-
-  pub past-ends : length ends ≤ round → isRound code ends round ≡ false
-  unfolding isRound
-  past-ends past = rw (is-false (ltb round (length ends)) (λ h. omega (arith, is-below round (length ends) .0 h)))
-
-  module _ (inside : round < length ends) {start : ℕ} (starts : start ≡ roundStart ends round) where
-    in-order : isRound code ends round ≡ (leb start (getD ends round 0) && leb (getD ends round 0) (length code))
-    unfolding isRound
-    in-order = rw (is-true (ltb round (length ends)) (is-below round (length ends) .1 inside), starts)
-
-    pub out-of-order : (leb start (getD ends round 0) && leb (getD ends round 0) (length code)) ≡ false → isRound code ends round ≡ false
-    out-of-order e = in-order ∙ e
-
-    pub within : (leb start (getD ends round 0) && leb (getD ends round 0) (length code)) ≡ true → (start ≤ getD ends round 0) × (getD ends round 0 ≤ length code)
-    within e =
-        let h = both (leb start (getD ends round 0)) (leb (getD ends round 0) (length code)) .0 (rw e tt) in
-        (at-most start (getD ends round 0) .0 (h .0), at-most (getD ends round 0) (length code) .0 (h .1))
-
-    pub a-round : (leb start (getD ends round 0) && leb (getD ends round 0) (length code)) ≡ true → (p : ℕ × ℕ)
-        → (take (getD ends round 0 - start) (drop start code) ≡ roundPart code ends round) × (_≡_ {A = ℕ × ℕ} (p .0, start * 4 + p .1) (p .0, roundPlace code ends round * 4 + p .1))
-    unfolding roundPart roundPlace
-    a-round e p = rw (in-order ∙ e, starts) (refl, refl)

@@ -1,5 +1,2 @@
--- Laws of a role's halves in turn.
-pub mod RoundLaws
-pub mod CountLaws
-pub mod WriteLaws
+-- Laws of a role's answer.
 pub mod AnswerLaws

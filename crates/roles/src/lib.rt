@@ -1,23 +1,13 @@
 // Compile a role: its checks, then each half in turn. Every half is compiled twice, to count the words and to write them: so that a
 // refusal changes nothing, and no buffer is longer than a half's code.
 ghost use mathlib.Core.Path.{_≡_};
-ghost use Prim.Native.Nat.{_+_, _*_, _<_};
-ghost use lib.ListN.{length};
-ghost use Rattle.calls.specs.Role.{role, roundStart, roundPart, roundPlace};
+ghost use Rattle.calls.specs.Role.{role};
 use answers::Compiled;
-use checks::role_fits;
-use counting::count_words;
-use writing::write_rounds;
-
-pub mod checks;
-pub mod counting;
-pub mod writing;
-
-// A role's answer, and the half that refuses.
-pub struct RoleCompiled {
-    pub answer: Compiled,
-    pub half: u32,
-}
+pub use role_counting::RoleCompiled;
+use role_counting::checks::role_fits;
+use role_counting::count_words;
+use role_writing::write_rounds;
+pub use round_parts::round_part;
 
 pub fn compile_role(
     rows: &[u64],
@@ -66,32 +56,4 @@ pub fn compile_role(
     }
     write_rounds(rows, counts, kinds, seen, heard, ends, code);
     counted
-}
-
-// Where a round starts.
-fn start_of(ends: &[u16], round: usize) -> usize
-    requires { ⌜ round < length (now ends) ⌝ }
-    ensures { λ r. ⌜ r ≡ roundStart (now (ends .entry)) round ⌝ }
-{
-    if round == 0 {
-        return 0;
-    }
-    ends[round - 1] as usize
-}
-
-// A round's own words, or an empty part where there is no such round. They are lent to be read: no word of the slice changes.
-pub fn round_part<'a>(code: &'a [u32], ends: &[u16], round: usize) -> &'a [u32]
-    ensures { λ r. ⌜ (now r ≡ roundPart (now (code .entry)) (now (ends .entry)) round)
-        × (r .ptr ≡ (code .entry .ptr .0, roundPlace (now (code .entry)) (now (ends .entry)) round * 4 + code .entry .ptr .1)) ⌝ }
-{
-    if ends.len() <= round {
-        return &code[..0];
-    }
-    let start = start_of(ends, round);
-    let end = ends[round] as usize;
-    if (start <= end) & (end <= code.len()) {
-        &code[start..end]
-    } else {
-        &code[..0]
-    }
 }

@@ -12,7 +12,8 @@ use Rattle.answers.specs.Numbers.{compiledNumber}
 use Rattle.stores.specs.Cells.{isSet, unset}
 use Rattle.calls.specs.Role.{RoleLent, sum}
 use Rattle.knowing.specs.Known.{known}
-use Rattle.roles.proofs.AnswerLaws.{RoleWithin, role-limit, fits-within, fits-sum, role-refused, role-short, role-fit, role-done}
+use Rattle.role_counting.proofs.LengthLaws.{RoleWithin}
+use Rattle.roles.proofs.AnswerLaws.{role-limit, fits-within, fits-sum, role-refused, role-short, role-fit, role-done}
 use Rattle.role_lending.specs.RoleEntry.{roleElements}
 use Rattle.role_lending.proofs.EntryLaws.{Fitting, elementsFit, fits-bytes, fitting, entry-kept, entry-written, entry-limit}
 use Rattle.role_lending.proofs.compile_role.Statement.{statement}

@@ -7,7 +7,8 @@ use borrow.Author.Needs.{needs}
 use borrow.Author.Tests.{not-true, not-false}
 use Rattle.answers.specs.Numbers.{compiledNumber}
 use Rattle.calls.specs.Role.{RoleLent, sum, roleFits}
-use Rattle.roles.proofs.AnswerLaws.{RoleWithin, role-limit, fits-within, fits-sum, role-refused, role-short, role-fit, role-done}
+use Rattle.role_counting.proofs.LengthLaws.{RoleWithin}
+use Rattle.roles.proofs.AnswerLaws.{role-limit, fits-within, fits-sum, role-refused, role-short, role-fit, role-done}
 use Rattle.roles.proofs.compile_role.Statement.{statement}
 use Rattle.roles.proofs.compile_role.Tie as tie
 

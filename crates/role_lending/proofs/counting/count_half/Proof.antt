@@ -9,7 +9,7 @@ use Rattle.word.specs.Bytes.{elements}
 use Rattle.word.proofs.ByteLaws.{length-words}
 use Rattle.knowing.specs.Known.{known}
 use Rattle.compiler.specs.CompileKnown.{fromKnown}
-use Rattle.roles.specs.Counted.{halfCounted}
+use Rattle.role_counting.specs.Counted.{halfCounted}
 use Rattle.role_lending.proofs.RowLaws.{half-limit}
 use Rattle.role_lending.proofs.counting.count_half.Statement.{statement}
 use Rattle.role_lending.proofs.counting.count_half.Tie as tie

@@ -9,7 +9,7 @@ use Rattle.word.proofs.ByteLaws.{length-words}
 use Rattle.knowing.specs.Known.{known}
 use Rattle.compiler.specs.CompileKnown.{fromKnown}
 use Rattle.calls.proofs.RoleLaws.{rows-inside}
-use Rattle.roles.proofs.CountLaws.{Counting, counting-none, counting-small, counting-few, counting-more, counting-refused, counting-all}
+use Rattle.role_counting.proofs.CountLaws.{Counting, counting-none, counting-small, counting-few, counting-more, counting-refused, counting-all}
 use Rattle.role_lending.proofs.RowLaws.{part-rows}
 use Rattle.role_lending.proofs.counting.count_words.Statement.{statement}
 use Rattle.role_lending.proofs.counting.count_words.Tie as tie

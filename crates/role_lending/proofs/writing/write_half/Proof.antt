@@ -10,7 +10,7 @@ use Rattle.word.proofs.ByteLaws.{length-words}
 use Rattle.calls.specs.Half.{half}
 use Rattle.knowing.specs.Known.{known}
 use Rattle.compiler.specs.CompileKnown.{fromKnown}
-use Rattle.roles.proofs.CountLaws.{known-half}
+use Rattle.role_counting.proofs.CountLaws.{known-half}
 use Rattle.role_lending.proofs.PackLaws.{PartPacked, part-packed, half-few, HalfPacked, half-packed}
 use Rattle.role_lending.proofs.writing.write_half.Statement.{statement}
 use Rattle.role_lending.proofs.writing.write_half.Tie as tie

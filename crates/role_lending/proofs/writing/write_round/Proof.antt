@@ -10,7 +10,7 @@ use Rattle.calls.specs.Half.{half}
 use Rattle.calls.specs.Frame.{inputWord, outputWord}
 use Rattle.knowing.specs.Known.{known}
 use Rattle.compiler.specs.CompileKnown.{fromKnown}
-use Rattle.roles.proofs.WriteLaws.{BothHalves, both-halves}
+use Rattle.role_writing.proofs.WriteLaws.{BothHalves, both-halves}
 use Rattle.role_lending.specs.Bytes.{bytesLeft}
 use Rattle.role_lending.proofs.PackLaws.{first-packs, second-packs, output-packs, created-long, bytes-left}
 use Rattle.role_lending.proofs.writing.write_round.Statement.{statement}

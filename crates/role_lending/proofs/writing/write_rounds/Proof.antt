@@ -11,8 +11,8 @@ use Rattle.compiler.specs.CompileKnown.{fromKnown}
 use Rattle.calls.specs.Frame.{framed}
 use Rattle.calls.specs.Role.{roundsOf, inTurn}
 use Rattle.calls.proofs.RoleLaws.{whole, rows-inside}
-use Rattle.roles.specs.Written.{roundEmitted}
-use Rattle.roles.proofs.WriteLaws.{AllCompiled, all-compiled, ahead}
+use Rattle.role_writing.specs.Written.{roundEmitted}
+use Rattle.role_writing.proofs.WriteLaws.{AllCompiled, all-compiled, ahead}
 use Rattle.role_lending.specs.Bytes.{bytesLeft}
 use Rattle.role_lending.proofs.RowLaws.{part-rows}
 use Rattle.role_lending.proofs.PackLaws.{Packing, packing-none, ends-long, code-long, packing-fits, packing-small, packing-more, packing-all}

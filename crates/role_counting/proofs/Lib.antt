@@ -1,0 +1,3 @@
+-- Laws of a role's lengths, and of its halves counted in turn.
+pub mod LengthLaws
+pub mod CountLaws

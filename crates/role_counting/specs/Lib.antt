@@ -1,0 +1,2 @@
+-- What counting a role's words answers.
+pub mod Counted

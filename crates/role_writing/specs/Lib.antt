@@ -1,0 +1,2 @@
+-- What writing a role's words leaves.
+pub mod Written

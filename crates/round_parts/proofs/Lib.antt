@@ -1,0 +1,2 @@
+-- Laws of a round's part of the code.
+pub mod PartLaws

@@ -1,2 +1,0 @@
--- Laws of slices compared element after element.
-pub mod SameLaws
