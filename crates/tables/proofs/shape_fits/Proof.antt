@@ -1,15 +1,15 @@
 -- The rules one after another: each joins what was found so far.
 use Prim.Native.Nat.{ℕ}
-use mathlib.Core.Path.{_≡_, refl, _∙_, ap}
+use mathlib.Core.Path.{_≡_, refl, _∙_}
 use mathlib.Core.Logic.{⊎-elim}
-use mathlib.Core.Bool.{Bool, not, _&&_}
+use mathlib.Core.Bool.{Bool, _&&_}
 use lib.ListN.{getD}
 use borrow.Author.Needs.{needs}
 use Rattle.terms.specs.Row.{shapeOf}
-use Rattle.terms.specs.Rules.{knownTag, isPacked, numberFits, partsBelow, keyKindFits}
+use Rattle.terms.specs.Rules.{knownTag, isPacked, numberFits, partsBelow}
 use Rattle.tables.proofs.RuleLaws.{and-more, and-kept}
-use Rattle.tables.proofs.row_fits.Statement.{statement}
-use Rattle.tables.proofs.row_fits.Tie as tie
+use Rattle.tables.proofs.shape_fits.Statement.{statement}
+use Rattle.tables.proofs.shape_fits.Tie as tie
 
 -- what is found of the row by the first rules, one more at a time
 module _ (s : tie.Start) where
@@ -24,9 +24,6 @@ module _ (s : tie.Start) where
 
   abbrev parts : Bool
   parts = numbers && partsBelow (s .args .row) (shapeOf word)
-
-  abbrev keys : Bool
-  keys = parts && keyKindFits (s .args .rows .now) (shapeOf word)
 
 zeros-join : (c : tie.Joined1) → c .if1 .if2 ≡ zeros (c .before .before .before .before)
 zeros-join c =
@@ -44,12 +41,6 @@ parts-join c =
     ⊎-elim (λ w. and-more (numbers-join (c .before)) (w .0 .taken) (w .2 ∙ w .1 .ensures))
     (λ w. and-kept _ (numbers-join (c .before)) (w .0 .left) (w .1))
     (c .if3 .came)
-
-keys-join : (c : tie.Joined4) → c .if4 .if5 ≡ keys (c .before .before .before .before .before .before .before)
-keys-join c =
-    ⊎-elim (λ w. and-more (parts-join (c .before)) (w .0 .taken) (w .2 ∙ w .1 .ensures))
-    (λ w. and-kept _ (parts-join (c .before)) (w .0 .left) (w .1))
-    (c .if4 .came)
 
 mul-word : tie.Need-mul-word
 mul-word c = search needs
@@ -72,17 +63,14 @@ parts-below-requires c κs = search needs
 key-kind-fits-requires : tie.Need-key-kind-fits-requires
 key-kind-fits-requires c κs = search needs
 
-earlier-equal-requires : tie.Need-earlier-equal-requires
-earlier-equal-requires c κs = search needs
-
 returns : tie.Need-returns
-returns c = and-more (keys-join (c .before .before)) (c .before .if5 .taken) (ap not (c .earlier-equal .ensures))
+returns c = and-more (parts-join (c .before .before)) (c .before .if4 .taken) (c .key-kind-fits .ensures)
 
 returns-2 : tie.Need-returns-2
-returns-2 c = and-kept _ (keys-join (c .before)) (c .if5 .left) refl
+returns-2 c = and-kept _ (parts-join (c .before)) (c .if4 .left) refl
 
-pub row-fits-spec : {M : Type 1} → statement M
-row-fits-spec =
+pub shape-fits-spec : {M : Type 1} → statement M
+shape-fits-spec =
     tie.close
     (tie.spec
     mul-word
@@ -92,6 +80,5 @@ row-fits-spec =
     number-fits-requires
     parts-below-requires
     key-kind-fits-requires
-    earlier-equal-requires
     returns
     returns-2)
