@@ -37,6 +37,11 @@ pub fn runs() -> Vec<(&'static str, RunInput)> {
     ]
 }
 
+/// The check of a table by its used rows, of which there are no others.
+pub fn checks() -> Vec<(usize, RunInput)> {
+    (4..=TERM_ROWS.trailing_zeros()).map(|bits| (1 << bits, agents(1 << bits).lend_run(1 << bits, &[]))).collect()
+}
+
 /// Compiles of roles by what they are called.
 pub fn role_compiles() -> Vec<(&'static str, RoleInput)> {
     let [initiator, _] = worked_roles::needham_schroeder().roles;
@@ -55,7 +60,7 @@ pub fn rounds() -> Vec<(&'static str, RoundInput)> {
     vec![
         ("a round of Needham-Schroeder", worked_roles::second_of_initiator()),
         ("a round of 1,538 words that make new terms", round_of(hash_of_byte(), &[HASHING; ROUND_WORDS - 2])),
-        ("a round of 2 words over 4,096 used rows", round_of(agents(), &[])),
+        ("a round of 2 words over 4,096 used rows", round_of(agents(TERM_ROWS), &[])),
     ]
 }
 
@@ -104,15 +109,16 @@ fn hash_of_byte() -> Case {
     case
 }
 
-/// Agents, and a byte in the last row, for which `operations` look.
+/// A full table, for whose last row `operations` look.
 fn full_table(operations: &[u8]) -> RunInput {
-    agents().lend_run(TERM_ROWS, &words(operations))
+    agents(TERM_ROWS).lend_run(TERM_ROWS, &words(operations))
 }
 
-fn agents() -> Case {
+/// Agents, and a byte in the last row.
+fn agents(rows: usize) -> Case {
     let mut case = Case::new(false);
     case.declare(&[BYTE]);
-    case.terms = (1..TERM_ROWS as u64).map(|i| atom(AGENT, i)).collect();
+    case.terms = (1..rows as u64).map(|i| atom(AGENT, i)).collect();
     case.term(atom(BYTE, 0));
     case
 }

@@ -4,6 +4,7 @@ use cram_host::{examples, plain, worked};
 #[test]
 fn worked_cases() {
     worked::hold(&plain::ENGINE);
+    worked::hold(&plain::HASHED);
 }
 
 #[test]

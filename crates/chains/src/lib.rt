@@ -11,7 +11,7 @@ use numbers::limits::MOST_TERM_ROWS;
 use word::Place;
 
 // In fewer rows equal ones are searched for: to clear the arrays of chains takes longer.
-const FEW_ROWS: usize = 48;
+const FEW_ROWS: usize = 32;
 
 // What the two halves of a row are multiplied by.
 const LOW_MIX: u64 = 2654435761;

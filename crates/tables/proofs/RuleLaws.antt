@@ -4,6 +4,7 @@ use mathlib.Core.Path.{_≡_, refl, sym, _∙_, ap}
 use mathlib.Core.Bool.{Bool, true, false, not, _&&_, and-true, and-false}
 use mathlib.Core.Option.{Option, some}
 use mathlib.Core.List.{List, [], _∷_}
+use native.Mathlib.Decide.{decLt}
 use native.Mathlib.Omega.{arith}
 use lib.ListN.{length, getD, take, drop}
 use lib.Dec.{eqb, leb, ltb}
@@ -21,7 +22,7 @@ use Rattle.terms.specs.Rules.{knownTag, isPacked, numberFits, partsBelow, keyKi
 use Rattle.terms.proofs.TableLaws.{used-rows}
 use Rattle.chains.specs.Distinct.{distinctRows}
 use Rattle.chains.proofs.DistinctLaws.{Differing, distinct-rows}
-use Rattle.terms.proofs.ShapeLaws.{field, slotsOf, numberOf, Plain, shape-encrypted, shape-signed, shape-hashed, shape-tupled, shape-atom, by-tag, parts-taken, parts-at}
+use Rattle.terms.proofs.ShapeLaws.{field, slotsOf, numberOf, Plain, shape-encrypted, shape-signed, shape-hashed, shape-tupled, shape-atom, by-tag, parts-taken, parts-at, slots-atom}
 
 -- a flag that goes through `&&`: the next rule was looked at, or the flag was false already
 pub and-more : {flag all next rule : Bool} → flag ≡ all → flag ≡ true → next ≡ rule → next ≡ all && rule
@@ -144,6 +145,28 @@ module _ (rows : List ℕ) (key word tag kind : ℕ) (row : word ≡ getD rows k
   kind-second e = rw (← whose) (one-last 6 tag ∙ sym (one-later kind (6 ∷ []) tag e))
 
 pub ruleset kind-ways = (kind-first, kind-second)
+
+-- the rules of a shape: a row without parts meets those of its parts and its key, and the number of any other is not looked at
+module _ (rows : List ℕ) (counter row word tag : ℕ) (is : tag ≡ tagOf word) (fit : Bool) where
+  pub shape-atom-fits : tag < 7 → fit ≡ knownTag word && isPacked word && numberFits counter (shapeOf word) → fit ≡ shapeFits rows counter row word
+  shape-atom-fits low says =
+      let few : 0 ≡ length (partsOf (shapeOf word)) = slots-atom word tag is (λ e. omega arith) (λ e. omega arith) (λ e. omega arith) (λ e. omega arith) in
+      let parts : true ≡ partsBelow row (shapeOf word) = below-end row word 0 (omega arith) refl in
+      let keys : true ≡ keyKindFits rows (shapeOf word) = key-none rows word tag is (λ e. omega arith) (λ e. omega arith) in
+      let alone = knownTag word && isPacked word && numberFits counter (shapeOf word) in
+      rw (← parts, ← keys, and-true (alone && true), and-true alone) says
+
+  pub shape-owner-fits : 7 ≤ tag → fit ≡ knownTag word && isPacked word && partsBelow row (shapeOf word) && keyKindFits rows (shapeOf word)
+      → fit ≡ shapeFits rows counter row word
+  shape-owner-fits high says = go (decLt tag 11)
+    where
+      go : Dec (tag < 11) → fit ≡ shapeFits rows counter row word
+      go (yes low) = rw (← (number-none word tag is counter high low), and-true) says
+      go (no past) =
+          let unknown : knownTag word ≡ false = sym (known-high word tag is (omega arith)) ∙ lt-leb tag 10 (omega arith) in
+          rw unknown (rw unknown at says)
+
+pub ruleset shape-ways = (shape-atom-fits, shape-owner-fits)
 
 -- the check of a table: a loop over its used rows
 pub used-inside : (rows : List ℕ) {used : ℕ} → used ≡ usedRows rows → used ≤ length rows

@@ -1,5 +1,6 @@
 // The rules of a term table: refusal 2.
 ghost use mathlib.Core.Path.{_≡_};
+ghost use mathlib.Core.Bool.{_&&_};
 ghost use mathlib.Core.List.{[], _∷_};
 ghost use Prim.Native.Nat.{_≤_, _<_};
 ghost use lib.ListN.{length, drop};
@@ -122,16 +123,37 @@ fn key_kind_fits(rows: &[u64], word: u64) -> bool
     }
 }
 
+fn has_shape(word: u64) -> bool
+    ensures { λ r. ⌜ r ≡ (knownTag word && isPacked word) ⌝ }
+{
+    known_tag(word) && is_packed(word)
+}
+
+// The rules of a row without parts.
+fn atom_fits(word: u64, counter: u32) -> bool
+    ensures { λ r. ⌜ r ≡ (knownTag word && isPacked word && numberFits counter (shapeOf word)) ⌝ }
+{
+    has_shape(word) && number_fits(word, counter)
+}
+
+// The rules of a row that owns parts.
+fn owner_fits(rows: &[u64], row: usize, word: u64) -> bool
+    ensures { λ r. ⌜ r ≡ (knownTag word && isPacked word && partsBelow row (shapeOf word) && keyKindFits (now (rows .entry)) (shapeOf word)) ⌝ }
+{
+    has_shape(word) && parts_below(word, row) && key_kind_fits(rows, word)
+}
+
+// Every rule looks at the tag; told apart here, a row without parts is not asked for its parts and key.
 fn shape_fits(rows: &[u64], counter: u32, row: usize) -> bool
     requires { ⌜ row < length (now rows) ⌝ }
     ensures { λ r. ⌜ r ≡ shapeFits (now (rows .entry)) counter row (rowAt (now (rows .entry)) row) ⌝ }
 {
     let word = rows[row];
-    known_tag(word)
-        && is_packed(word)
-        && number_fits(word, counter)
-        && parts_below(word, row)
-        && key_kind_fits(rows, word)
+    if tag(word) < kinds::ENCRYPTION {
+        atom_fits(word, counter)
+    } else {
+        owner_fits(rows, row, word)
+    }
 }
 
 // Whether eight rows are zero. All are looked at, so that the processor takes several at a time.

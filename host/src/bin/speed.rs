@@ -47,6 +47,13 @@ fn main() {
     for (name, lent) in measured::rounds() {
         print(name, medians(&lent, engines, |lent, engine| lent.call(engine).place));
     }
+    println!("\nThe check of a table by its used rows, plain Rust with a search for each row and with an index of hashes:");
+    println!("{:<45}{:>12}{:>12}{:>12}{:>8}", "used rows", "archive", "search", "hashed", "ratio");
+    for (used, lent) in measured::checks() {
+        let engines = [&ARCHIVE, &plain::ENGINE, &plain::HASHED];
+        let [ours, searched, hashed] = medians(&lent, engines, |lent, engine| lent.call(engine).place);
+        println!("{:<45}{:>12.0}{:>12.0}{:>12.0}{:>8.2}", used, ours, searched, hashed, ours / hashed);
+    }
     println!("\nBytes of stack, by painting it before the call:");
     for (name, mut lent) in measured::compiles() {
         println!("{:<45}{:>12}", name, stack::taken_by(|| lent.call(&ARCHIVE)));
@@ -66,10 +73,10 @@ fn print(name: &str, [ours, theirs]: [f64; 2]) {
     println!("{:<45}{:>12.0}{:>12.0}{:>8.2}", name, ours, theirs, ours / theirs);
 }
 
-/// The time of a call by the archive and by plain Rust.
-fn medians<T: Clone, E>(lent: &T, engines: [&E; 2], call: fn(&mut T, &E) -> u32) -> [f64; 2] {
-    let copies = copies_for_a_sample(lent, engines[1], call);
-    let mut samples = [Vec::new(), Vec::new()];
+/// The time of a call by each engine.
+fn medians<T: Clone, E, const N: usize>(lent: &T, engines: [&E; N], call: fn(&mut T, &E) -> u32) -> [f64; N] {
+    let copies = copies_for_a_sample(lent, engines[0], call);
+    let mut samples = [(); N].map(|()| Vec::new());
     for _ in 0..SAMPLES {
         for (engine, samples) in engines.into_iter().zip(&mut samples) {
             samples.push(sample(lent, engine, call, copies));
