@@ -1,5 +1,4 @@
-/* The entries from C: the listing's example, compiled and run and straight from the pattern, a refusal, a stuck run, a run out of
- * names, and a role of one round. */
+/* The entries from C: the listing's example, a refusal, a stuck run, a run out of names, and a role of one round. */
 #include "cram.h"
 
 #include <stdio.h>
@@ -105,34 +104,6 @@ static void greeting(void)
     expect(memcmp(&t, &given, sizeof t) == 0, "what is not done changes nothing");
     expect(ended(run(&t, 2, 4, 6), CRAM_DONE, 6, 0, 3, 4, 1), "the greeting is matched");
     expect(cell(t.objects, 0) == 0 && cell(t.objects, 1) == 2 && cell(t.messages, 0) == 1, "its cells");
-}
-
-static struct cram_ran direct(struct terminal *t, uint8_t create, const uint8_t *pattern, size_t bytes,
-                              uint32_t accumulator, uint32_t counter)
-{
-    static const uint8_t none[1] = {0};
-    return cram_direct(create, pattern, bytes, t->kinds, sizeof t->kinds, t->objects, sizeof t->objects, t->messages,
-                       2 * CRAM_VARIABLES, none, 0, accumulator, t->terms, sizeof t->terms, counter);
-}
-
-/* The same straight from the pattern, and then [n0, r0] created of what was matched. */
-static void straight(void)
-{
-    struct terminal t, given;
-    uint8_t pattern[24];
-    set_out(&t, pattern);
-
-    given = t;
-    expect(ended(direct(&t, 2, pattern, 24, 2, 4), CRAM_LIMIT, 0, 0, 0, 4, 2), "a direction above 1");
-    expect(ended(direct(&t, 0, pattern, 23, 2, 4), CRAM_LIMIT, 0, 0, 0, 4, 2), "a pattern that is not whole rows");
-    expect(ended(direct(&t, 0, pattern, 24, 0, 4), CRAM_STUCK, 2, CRAM_OTHER_KIND, 3, 4, 0), "stuck at the pattern's root");
-    expect(ended(direct(&t, 1, pattern, 24, 2, 4), CRAM_READ_UNSET, 1, 0, 3, 4, 2), "r0 has no value to create with");
-    expect(memcmp(&t, &given, sizeof t) == 0, "what is not done changes nothing");
-    expect(ended(direct(&t, 0, pattern, 24, 2, 4), CRAM_DONE, 0, 0, 3, 4, 2), "the greeting is matched");
-    expect(cell(t.objects, 0) == 0 && cell(t.objects, 1) == 2 && cell(t.messages, 0) == 1, "its cells");
-    put_row(pattern, 2, 8ull << 60 | 2ull << 54 | 2ull << 29 | 1ull << 15);
-    t.kinds[2] = 10;
-    expect(ended(direct(&t, 1, pattern, 24, CRAM_UNSET, 4), CRAM_DONE, 0, 0, 3, 4, 2), "the tuple is there already");
 }
 
 /* Matching a tuple of c0 : 5 twice. */
@@ -276,7 +247,6 @@ static void role(void)
 int main(void)
 {
     greeting();
-    straight();
     refusal();
     out_of_names();
     rounds();

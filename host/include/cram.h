@@ -3,7 +3,6 @@
  *
  * cram_compile turns a message pattern into code, for matching a message or for creating one.
  * cram_run runs code over a table of abstract terms.
- * cram_direct matches or creates straight from the pattern, with no code: what cram_compile and then cram_run would do.
  * cram_compile_role compiles a whole role, all its patterns in turn; cram_round plays a round of it, which matches a
  * message and creates the answer, on a session record; cram_take takes the answer from the record.
  *
@@ -17,8 +16,8 @@
  *   memory that was lent. A slice of length 0 is never read or written, so any other pointer will do for it.
  * - Slices given as const are only read. Nothing is kept after the return.
  * - With any answer but 0 every lent byte is as it was before the call.
- * - Stack: cram_compile takes at most CRAM_COMPILE_STACK_BYTES, cram_run CRAM_RUN_STACK_BYTES, cram_direct
- *   CRAM_DIRECT_STACK_BYTES, cram_compile_role CRAM_ROLE_STACK_BYTES, and cram_round, also cram_take, CRAM_ROUND_STACK_BYTES, each with all its frames.
+ * - Stack: cram_compile takes at most CRAM_COMPILE_STACK_BYTES, cram_run CRAM_RUN_STACK_BYTES, cram_compile_role
+ *   CRAM_ROLE_STACK_BYTES, and cram_round, also cram_take, CRAM_ROUND_STACK_BYTES, each with all its frames.
  *
  * Elements; fields are listed from the most significant bit down, unused fields are zero
  *
@@ -107,11 +106,10 @@ extern "C" {
 #define CRAM_SESSION_BYTES 20u   /* of the session record */
 #define CRAM_COMPILE_STACK_BYTES 16384u /* see above */
 #define CRAM_RUN_STACK_BYTES 65536u     /* see above */
-#define CRAM_DIRECT_STACK_BYTES 65536u  /* see above */
 #define CRAM_ROLE_STACK_BYTES 24576u    /* see above */
 #define CRAM_ROUND_STACK_BYTES 65536u   /* see above */
 
-/* What a number says, in every call. Compile is a role's too, and run a round's; the engine's are its own below. */
+/* What a number says, in every call. Compile is a role's too, and run a round's. */
 enum {
     CRAM_DONE = 0,           /* place: words written, or words run */
     CRAM_LIMIT = 1,          /* a length, a count, the direction or the counter is outside its limit; place 0 */
@@ -150,8 +148,7 @@ struct cram_ran {
     uint32_t number;
     uint32_t place;
     uint32_t reason;
-    uint32_t used;        /* rows before the first zero row of the table after the call; 0 with number 1, and where the
-                             table is not whole or too long */
+    uint32_t used;        /* rows before the first zero row of the table after the call; 0 with number 1 */
     uint32_t counter;     /* after the run; as given with any number but 0 */
     uint32_t accumulator; /* after the run, CRAM_UNSET if unset; as given with any number but 0 */
 };
@@ -237,42 +234,6 @@ struct cram_ran cram_run(const uint8_t *kinds, size_t kinds_len,
                          uint8_t *terms, size_t terms_len,
                          uint32_t counter,
                          const uint8_t *code, size_t code_len);
-
-/*
- * Matches or creates straight from the pattern, by the rules, with no code and no scratch.
- *
- *   create        0 for matching, 1 for creating; anything else is 1
- *   pattern       1 to 96 pattern rows (8 to 768 bytes)
- *   kinds         64 kinds (64 bytes)
- *   objects       64 object cells (128 bytes)
- *   named         64 named message cells (128 bytes)
- *   certificates  0 to 32 certificates (0 to 256 bytes)
- *   accumulator   the message to match: a used row, or 65535 for unset; a creation only checks it
- *   terms         0 to 4096 term rows (0 to 32768 bytes), as cram_run has them
- *   counter       the next name, 0 to 65536
- *
- * It is equal to cram_compile with room for 768 words and then cram_run on these stores with scratch unset: the same
- * numbers and reasons, cells, counter and table, row for row. After a creation accumulator is the created message, after a
- * match it is as given. Places are rows, of the term table with 2, of the pattern with 4 to 7, 10 and 11.
- * The numbers are looked at in that path's order: 1, 3, 4, 5, 6 and 7 of cram_compile, then 1, 2 and 3 of cram_run, then
- * row after row:
- *   0    place 0
- *   1    a length of pattern, kinds, objects or named is not kept, or create is above 1; or, after 3 to 7, a length of
- *        certificates or terms is not kept, or the counter is above 65536
- *   3    as in cram_compile; or, after 2, as in cram_run
- *   2, 4, 5, 6, 7   as in cram_run and cram_compile; 6 and 7 are looked for in the whole pattern before it is walked
- *   10   place: the pattern row at which the rules stop, a key's at its E or S; the reason is that of cram_run
- *   11   place: the pattern row
- */
-struct cram_ran cram_direct(uint8_t create,
-                            const uint8_t *pattern, size_t pattern_len,
-                            const uint8_t *kinds, size_t kinds_len,
-                            uint8_t *objects, size_t objects_len,
-                            uint8_t *named, size_t named_len,
-                            const uint8_t *certificates, size_t certificates_len,
-                            uint32_t accumulator,
-                            uint8_t *terms, size_t terms_len,
-                            uint32_t counter);
 
 /*
  * Compiles a role: 1 to 16 rounds of two halves each, a pattern that is matched and then one that is created.

@@ -1,5 +1,4 @@
 //! The archive held to the second implementation, and a tally of what was met.
-use crate::direct::{self, DirectInput};
 use crate::input::{CompileInput, RunInput};
 use crate::plain::code::Word;
 use crate::plain::patterns::Form;
@@ -47,27 +46,6 @@ impl Tally {
         self.count(answer.number, answer.reason);
         if answer.number == 0 {
             self.count_operations(lent);
-        }
-    }
-
-    /// The archive, plain Rust's walk and plain Rust's compile and run; the answers and every lent byte afterwards have to agree.
-    /// With compile's refusals the used rows are the engine's own, and so is the row at which it ends.
-    pub fn direct(&mut self, lent: &DirectInput) {
-        let mut expected = lent.clone();
-        let answer = expected.call(plain::direct);
-        let mut other = lent.clone();
-        let ran = other.by_compile_and_run(&plain::ENGINE);
-        let place = if answer.number >= 10 { ran.place } else { answer.place };
-        let used = if (4..=7).contains(&answer.number) { ran.used } else { answer.used };
-        let used = if ran.number == 3 && ran.used == 0 { 0 } else { used };
-        assert_eq!(Ran { place, used, ..answer }, ran, "the walk and compile, then run, of {:?}", lent);
-        assert_eq!(expected, other, "bytes after the walk and after compile, then run, of {:?}", lent);
-        let (ours, left) = direct_fenced(lent, self.inputs);
-        assert_eq!(ours, answer, "the engine's answer for {:?}", lent);
-        assert_eq!(left, expected, "bytes after the engine on {:?}", lent);
-        self.count(answer.number, answer.reason);
-        if answer.number == 0 {
-            self.count_forms(lent.create, &lent.pattern);
         }
     }
 
@@ -159,23 +137,4 @@ fn run_fenced(lent: &RunInput, shift: usize) -> (Ran, RunInput) {
     let [kinds, objects, messages, certificates, terms, code] = fenced.map(Fenced::taken_down);
     let left = RunInput { kinds, objects, messages, certificates, terms, code, ..*lent };
     (answer, left)
-}
-
-fn direct_fenced(lent: &DirectInput, shift: usize) -> (Ran, DirectInput) {
-    let slices = [&lent.pattern, &lent.kinds, &lent.objects, &lent.named, &lent.certificates, &lent.terms];
-    let mut fenced = slices.map(|slice| Fenced::new(slice, shift));
-    let [pattern, kinds, objects, named, certificates, terms] = &mut fenced;
-    let answer = direct::archive(
-        lent.create,
-        pattern.lent(),
-        kinds.lent(),
-        objects.lent(),
-        named.lent(),
-        certificates.lent(),
-        lent.accumulator,
-        terms.lent(),
-        lent.counter,
-    );
-    let [pattern, kinds, objects, named, certificates, terms] = fenced.map(Fenced::taken_down);
-    (answer, DirectInput { pattern, kinds, objects, named, certificates, terms, ..*lent })
 }

@@ -1,4 +1,4 @@
-//! The archive's entry that goes straight from the pattern, what it is lent, and the same by compile and then run.
+//! What a walk straight from the pattern is lent, and the same by compile and then run.
 use crate::case::{pairs, Case};
 use crate::input::{CompileInput, RunInput};
 use crate::limits::{CODE_WORDS, MESSAGES, NAMED, UNSET};
@@ -6,66 +6,6 @@ use crate::{Engine, Ran};
 
 /// Direction, pattern, kinds, object cells, named cells, certificates, accumulator, terms, counter.
 pub type Direct = fn(u8, &[u8], &[u8], &mut [u8], &mut [u8], &[u8], u32, &mut [u8], u32) -> Ran;
-
-mod entries {
-    use crate::Ran;
-
-    // Nothing checks this against the archive but the tests.
-    extern "C" {
-        pub fn cram_direct(
-            create: u8,
-            pattern: *const u8,
-            pattern_len: usize,
-            kinds: *const u8,
-            kinds_len: usize,
-            objects: *mut u8,
-            objects_len: usize,
-            named: *mut u8,
-            named_len: usize,
-            certificates: *const u8,
-            certificates_len: usize,
-            accumulator: u32,
-            terms: *mut u8,
-            terms_len: usize,
-            counter: u32,
-        ) -> Ran;
-    }
-}
-
-/// The archive's engine: a pattern matched or created by the rules.
-#[allow(clippy::too_many_arguments)]
-pub fn archive(
-    create: u8,
-    pattern: &[u8],
-    kinds: &[u8],
-    objects: &mut [u8],
-    named: &mut [u8],
-    certificates: &[u8],
-    accumulator: u32,
-    terms: &mut [u8],
-    counter: u32,
-) -> Ran {
-    // Slices neither overlap nor are null, which is all that the entry asks.
-    unsafe {
-        entries::cram_direct(
-            create,
-            pattern.as_ptr(),
-            pattern.len(),
-            kinds.as_ptr(),
-            kinds.len(),
-            objects.as_mut_ptr(),
-            objects.len(),
-            named.as_mut_ptr(),
-            named.len(),
-            certificates.as_ptr(),
-            certificates.len(),
-            accumulator,
-            terms.as_mut_ptr(),
-            terms.len(),
-            counter,
-        )
-    }
-}
 
 #[derive(Clone, Debug, PartialEq)]
 pub struct DirectInput {

@@ -1,12 +1,10 @@
 //! The inputs that the benchmark times and whose stack it measures.
 use crate::case::figure1::{bound, encrypted, object, raw, tuple, Key};
 use crate::case::Case;
-use crate::direct::DirectInput;
 use crate::game::Role;
 use crate::input::{CompileInput, RoleInput, RoundInput, RunInput};
 use crate::limits::{CODE_WORDS, NAMED, PATTERN_ROWS, ROLE_WORDS, ROUNDS, ROUND_WORDS, TERM_ROWS};
 use crate::plain;
-use crate::plain::bytes::row;
 use crate::plain::code::{framed, Word, HASHING, STORE_CONST};
 use crate::plain::patterns::Form;
 use crate::plain::terms::{atom, AGENT, BYTE, ENCRYPTION, HASH, NONCE, SHARED, TUPLE};
@@ -39,26 +37,9 @@ pub fn runs() -> Vec<(&'static str, RunInput)> {
     ]
 }
 
-/// The engine, straight from the pattern, by what it is called.
-pub fn directs() -> Vec<(&'static str, DirectInput)> {
-    let most = PATTERN_ROWS as u8;
-    let named = [
-        ("straight from the listing's pattern", worked::greeting()),
-        ("straight from 96 rows, matching", matching(worked::nested_pairs(true, most))),
-        ("straight from 96 rows, creating", worked::nested_pairs(true, most)),
-        ("straight from rows as deep as they go, matching", matching(deep(true))),
-        ("straight from rows as deep as they go, creating", deep(true)),
-        ("refuse 95 tuples in each other, straight", one_variable()),
-    ];
-    named.map(|(name, case)| (name, case.lend_direct(256))).to_vec()
-}
-
-/// The case in which the message that a case creates is matched.
-fn matching(create: Case) -> Case {
-    let mut lent = create.lend_direct(256);
-    let made = lent.call(plain::direct);
-    let terms = (0..made.used as usize).map(|at| row(&lent.terms, at)).collect();
-    Case { create: false, terms, accumulator: made.accumulator as u16, counter: made.counter, ..create }
+/// The check of a table by its used rows, of which there are no others.
+pub fn checks() -> Vec<(usize, RunInput)> {
+    (4..=TERM_ROWS.trailing_zeros()).map(|bits| (1 << bits, agents(1 << bits).lend_run(1 << bits, &[]))).collect()
 }
 
 /// Compiles of roles by what they are called.
@@ -79,7 +60,7 @@ pub fn rounds() -> Vec<(&'static str, RoundInput)> {
     vec![
         ("a round of Needham-Schroeder", worked_roles::second_of_initiator()),
         ("a round of 1,538 words that make new terms", round_of(hash_of_byte(), &[HASHING; ROUND_WORDS - 2])),
-        ("a round of 2 words over 4,096 used rows", round_of(agents(), &[])),
+        ("a round of 2 words over 4,096 used rows", round_of(agents(TERM_ROWS), &[])),
     ]
 }
 
@@ -128,15 +109,16 @@ fn hash_of_byte() -> Case {
     case
 }
 
-/// Agents, and a byte in the last row, for which `operations` look.
+/// A full table, for whose last row `operations` look.
 fn full_table(operations: &[u8]) -> RunInput {
-    agents().lend_run(TERM_ROWS, &words(operations))
+    agents(TERM_ROWS).lend_run(TERM_ROWS, &words(operations))
 }
 
-fn agents() -> Case {
+/// Agents, and a byte in the last row.
+fn agents(rows: usize) -> Case {
     let mut case = Case::new(false);
     case.declare(&[BYTE]);
-    case.terms = (1..TERM_ROWS as u64).map(|i| atom(AGENT, i)).collect();
+    case.terms = (1..rows as u64).map(|i| atom(AGENT, i)).collect();
     case.term(atom(BYTE, 0));
     case
 }

@@ -16,10 +16,13 @@ pub mod terms;
 pub use bundle::listing;
 pub use compiler::compile;
 pub use direct::direct;
-pub use machine::run;
+pub use machine::{run, run_hashed};
 pub use role::compile_role;
 pub use round::{round, take};
 
 pub const ENGINE: crate::Engine = crate::Engine { compile, run };
+
+/// The same with an index of hashes in the check of a table.
+pub const HASHED: crate::Engine = crate::Engine { compile, run: run_hashed };
 
 pub const ROLES: crate::roles::RoleEngine = crate::roles::RoleEngine { compile_role, round, take };

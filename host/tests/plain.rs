@@ -5,6 +5,7 @@ use cram_host::{edges, examples, forms, plain, worked};
 #[test]
 fn worked_cases() {
     worked::hold(&plain::ENGINE);
+    worked::hold(&plain::HASHED);
 }
 
 #[test]

@@ -1,6 +1,6 @@
 //! The header's promises on stack, on the inputs that take the most.
 use cram_host::roles::ARCHIVE as ROLES;
-use cram_host::{direct, measured, stack, ARCHIVE};
+use cram_host::{measured, stack, ARCHIVE};
 
 /// The number that the header gives a name.
 fn promised(name: &str) -> usize {
@@ -29,13 +29,6 @@ fn compile() {
 fn run() {
     for (name, mut lent) in measured::runs() {
         assert_within(promised("CRAM_RUN_STACK_BYTES"), name, stack::taken_by(|| lent.call(&ARCHIVE)));
-    }
-}
-
-#[test]
-fn direct() {
-    for (name, mut lent) in measured::directs() {
-        assert_within(promised("CRAM_DIRECT_STACK_BYTES"), name, stack::taken_by(|| lent.call(direct::archive)));
     }
 }
 

@@ -1,9 +1,10 @@
 -- The rules of a row, a way out of the code at a time.
 use Prim.Native.Nat.{ℕ, suc, _+_, _<_, _≤_}
 use mathlib.Core.Path.{_≡_, refl, sym, _∙_, ap}
-use mathlib.Core.Bool.{Bool, true, false, not, _&&_, _||_}
-use mathlib.Core.Option.{Option, none, some}
+use mathlib.Core.Bool.{Bool, true, false, not, _&&_, and-true, and-false}
+use mathlib.Core.Option.{Option, some}
 use mathlib.Core.List.{List, [], _∷_}
+use native.Mathlib.Decide.{decLt}
 use native.Mathlib.Omega.{arith}
 use lib.ListN.{length, getD, take, drop}
 use lib.Dec.{eqb, leb, ltb}
@@ -17,10 +18,11 @@ use Rattle.word.proofs.ScanLaws.{placed-at, placed-nowhere, Left, scan-hit, sca
 use Rattle.terms.specs.declared.Checked.the-variants.{Bad, Used}
 use Rattle.terms.specs.Shape.{Shape, atom, encrypted, signed, hashed, tupled, partsOf}
 use Rattle.terms.specs.Row.{rowOf, tagOf, shapeOf}
-use Rattle.terms.specs.Finder.{equalRow}
-use Rattle.terms.specs.Rules.{knownTag, isPacked, numberFits, partsBelow, keyKindFits, earlierEqual, usedRows, fits, badTermRow, nonzeroRow, badTerm, checkedBy, checked}
+use Rattle.terms.specs.Rules.{knownTag, isPacked, numberFits, partsBelow, keyKindFits, earlierEqual, usedRows, shapeFits, fits, badTermRow, nonzeroRow, badTerm, checkedBy, checked}
 use Rattle.terms.proofs.TableLaws.{used-rows}
-use Rattle.terms.proofs.ShapeLaws.{field, slotsOf, numberOf, Plain, shape-encrypted, shape-signed, shape-hashed, shape-tupled, shape-atom, by-tag, parts-taken, parts-at}
+use Rattle.chains.specs.Distinct.{distinctRows}
+use Rattle.chains.proofs.DistinctLaws.{Differing, distinct-rows}
+use Rattle.terms.proofs.ShapeLaws.{field, slotsOf, numberOf, Plain, shape-encrypted, shape-signed, shape-hashed, shape-tupled, shape-atom, by-tag, parts-taken, parts-at, slots-atom}
 
 -- a flag that goes through `&&`: the next rule was looked at, or the flag was false already
 pub and-more : {flag all next rule : Bool} → flag ≡ all → flag ≡ true → next ≡ rule → next ≡ all && rule
@@ -144,35 +146,35 @@ module _ (rows : List ℕ) (key word tag kind : ℕ) (row : word ≡ getD rows k
 
 pub ruleset kind-ways = (kind-first, kind-second)
 
--- the rule of equal rows
-module _ (word : ℕ) where
-  abbrev there : Option ℕ → Bool
-  there none = false
-  there (some place) = true
+-- the rules of a shape: a row without parts meets those of its parts and its key, and the number of any other is not looked at
+module _ (rows : List ℕ) (counter row word tag : ℕ) (is : tag ≡ tagOf word) (fit : Bool) where
+  pub shape-atom-fits : tag < 7 → fit ≡ knownTag word && isPacked word && numberFits counter (shapeOf word) → fit ≡ shapeFits rows counter row word
+  shape-atom-fits low says =
+      let few : 0 ≡ length (partsOf (shapeOf word)) = slots-atom word tag is (λ e. omega arith) (λ e. omega arith) (λ e. omega arith) (λ e. omega arith) in
+      let parts : true ≡ partsBelow row (shapeOf word) = below-end row word 0 (omega arith) refl in
+      let keys : true ≡ keyKindFits rows (shapeOf word) = key-none rows word tag is (λ e. omega arith) (λ e. omega arith) in
+      let alone = knownTag word && isPacked word && numberFits counter (shapeOf word) in
+      rw (← parts, ← keys, and-true (alone && true), and-true alone) says
 
-  one-of-step : (from : ℕ) (hit rest : Bool) (answer : Option ℕ) → rest ≡ there answer
-      → hit || rest ≡ there (elim hit [ true ↦ some from | false ↦ answer ])
-  one-of-step from true rest answer e = refl
-  one-of-step from false rest answer e = e
+  pub shape-owner-fits : 7 ≤ tag → fit ≡ knownTag word && isPacked word && partsBelow row (shapeOf word) && keyKindFits rows (shapeOf word)
+      → fit ≡ shapeFits rows counter row word
+  shape-owner-fits high says = go (decLt tag 11)
+    where
+      go : Dec (tag < 11) → fit ≡ shapeFits rows counter row word
+      go (yes low) = rw (← (number-none word tag is counter high low), and-true) says
+      go (no past) =
+          let unknown : knownTag word ≡ false = sym (known-high word tag is (omega arith)) ∙ lt-leb tag 10 (omega arith) in
+          rw unknown (rw unknown at says)
 
-  one-of-lowest : (from : ℕ) (rows : List ℕ) → oneOf rows word ≡ there (lowestFrom from (λ row other. eqb other word) rows)
-  unfolding oneOf lowestFrom
-  one-of-lowest from [] = refl
-  one-of-lowest from (other ∷ rows) = one-of-step from (eqb other word) (oneOf rows word) _ (one-of-lowest (suc from) rows)
-
-  pub earlier-there : (rows : List ℕ) (row first : ℕ) (place : Place) → place ≡ placeOf (equalRow rows row word) → place ≡ At first
-      → true ≡ earlierEqual rows row word
-  unfolding earlierEqual equalRow
-  earlier-there rows row first place is e = rw (one-of-lowest 0 (take row rows), placed-at (equalRow rows row word) is e)
-
-  pub earlier-nowhere : (rows : List ℕ) (row : ℕ) (place : Place) → place ≡ placeOf (equalRow rows row word) → place ≡ Nowhere
-      → false ≡ earlierEqual rows row word
-  unfolding earlierEqual equalRow
-  earlier-nowhere rows row place is e = rw (one-of-lowest 0 (take row rows), placed-nowhere (equalRow rows row word) is e)
-
-pub ruleset earlier-ways = (earlier-there, earlier-nowhere)
+pub ruleset shape-ways = (shape-atom-fits, shape-owner-fits)
 
 -- the check of a table: a loop over its used rows
+pub used-inside : (rows : List ℕ) {used : ℕ} → used ≡ usedRows rows → used ≤ length rows
+used-inside rows is = rw is (used-rows rows .inside)
+
+pub distinct-inside : (rows : List ℕ) {used distinct : ℕ} → used ≤ length rows → distinct ≡ distinctRows rows used → distinct ≤ used
+distinct-inside rows fits is = rw is (distinct-rows rows _ fits .inside)
+
 module _ (rows : List ℕ) (counter used : ℕ) (is : used ≡ usedRows rows) where
   module _ (row : ℕ) (passed : Left (badTermRow rows counter) rows row) (inside : row < used)
       (fit : Bool) (fitting : fit ≡ fits rows counter row (getD rows row 0)) where
@@ -181,14 +183,34 @@ module _ (rows : List ℕ) (counter used : ℕ) (is : used ≡ usedRows rows) wh
     bad-used = rw (← is, lt-ltb row used inside, ← fitting)
 
     within : row < length rows
-    within = omega (arith, is, used-rows rows .inside)
+    within = omega (arith, used-inside rows is)
 
-    pub checked-bad : not fit ≡ true → Bad row ≡ checked rows counter
+    found-bad : not fit ≡ true → Bad row ≡ checked rows counter
     unfolding badTerm
-    checked-bad e = ap (λ (answer : Option ℕ). checkedBy answer rows) (sym (scan-hit (badTermRow rows counter) rows 0 row passed within (sym bad-used ∙ e)))
+    found-bad e = ap (λ (answer : Option ℕ). checkedBy answer rows) (sym (scan-hit (badTermRow rows counter) rows 0 row passed within (sym bad-used ∙ e)))
 
-    pub checked-more : not fit ≡ false → Left (badTermRow rows counter) rows (row + 1)
-    checked-more e = scan-miss (badTermRow rows counter) rows 0 row passed within (sym bad-used ∙ e)
+    found-good : not fit ≡ false → Left (badTermRow rows counter) rows (row + 1)
+    found-good e = scan-miss (badTermRow rows counter) rows 0 row passed within (sym bad-used ∙ e)
+
+  -- rows that differ from all before them have the rules of their shape left, and the row behind them repeats an earlier one
+  module _ (distinct : ℕ) (differing : distinct ≡ distinctRows rows used) (row : ℕ) (passed : Left (badTermRow rows counter) rows row) where
+    known : Differing rows used distinct
+    known = rw differing (distinct-rows rows used (used-inside rows is))
+
+    module _ (inside : row < distinct) (fit : Bool) (fitting : fit ≡ shapeFits rows counter row (getD rows row 0)) where
+      fits-all : fit ≡ fits rows counter row (getD rows row 0)
+      fits-all = fitting ∙ rw (known .differs row inside) (sym (and-true (shapeFits rows counter row (getD rows row 0))))
+
+      pub checked-bad : not fit ≡ true → Bad row ≡ checked rows counter
+      checked-bad = found-bad row passed (omega (arith, known .inside)) fit fits-all
+
+      pub checked-more : not fit ≡ false → Left (badTermRow rows counter) rows (row + 1)
+      checked-more = found-good row passed (omega (arith, known .inside)) fit fits-all
+
+    pub checked-repeated : row ≡ distinct → row < used → Bad row ≡ checked rows counter
+    checked-repeated end inside =
+        let again : earlierEqual rows row (getD rows row 0) ≡ true = rw end (known .repeats (omega arith)) in
+        found-bad row passed inside false (rw again (sym (and-false (shapeFits rows counter row (getD rows row 0))))) refl
 
   bad-unused : (row word : ℕ) → used ≤ row → badTermRow rows counter row word ≡ not (eqb word 0)
   unfolding badTermRow

@@ -1,5 +1,6 @@
 // The rules of a term table: refusal 2.
 ghost use mathlib.Core.Path.{_≡_};
+ghost use mathlib.Core.Bool.{_&&_};
 ghost use mathlib.Core.List.{[], _∷_};
 ghost use Prim.Native.Nat.{_≤_, _<_};
 ghost use lib.ListN.{length, drop};
@@ -9,8 +10,8 @@ ghost use Rattle.numbers.specs.Limits.{mostTermRows};
 ghost use Rattle.word.specs.Fields.{split};
 ghost use Rattle.word.specs.Lowest.{each, oneOf, placeOf};
 ghost use Rattle.terms.specs.Row.{termWidths, tagOf, shapeOf, rowAt};
-ghost use Rattle.terms.specs.Rules.{usedRows, knownTag, isPacked, numberFits, partsBelow, keyKindFits, earlierEqual, fits, nonzeroRow, checked};
-use finder::equal_row;
+ghost use Rattle.terms.specs.Rules.{usedRows, knownTag, isPacked, numberFits, partsBelow, keyKindFits, shapeFits, nonzeroRow, checked};
+use chains::distinct_rows;
 use finder::rows_passed;
 use numbers::TermRow;
 use numbers::kinds;
@@ -122,29 +123,37 @@ fn key_kind_fits(rows: &[u64], word: u64) -> bool
     }
 }
 
-// Of two equal rows the later is the bad one.
-fn earlier_equal(rows: &[u64], row: usize, word: u64) -> bool
-    requires { ⌜ (row ≤ length (now rows)) × (length (now rows) ≤ mostTermRows) ⌝ }
-    ensures { λ r. ⌜ r ≡ earlierEqual (now (rows .entry)) row word ⌝ }
+fn has_shape(word: u64) -> bool
+    ensures { λ r. ⌜ r ≡ (knownTag word && isPacked word) ⌝ }
 {
-    let place = equal_row(rows, row, word);
-    match place {
-        Place::At(_) => true,
-        Place::Nowhere => false,
-    }
+    known_tag(word) && is_packed(word)
 }
 
-fn row_fits(rows: &[u64], counter: u32, row: usize) -> bool
-    requires { ⌜ (row < length (now rows)) × (length (now rows) ≤ mostTermRows) ⌝ }
-    ensures { λ r. ⌜ r ≡ fits (now (rows .entry)) counter row (rowAt (now (rows .entry)) row) ⌝ }
+// The rules of a row without parts.
+fn atom_fits(word: u64, counter: u32) -> bool
+    ensures { λ r. ⌜ r ≡ (knownTag word && isPacked word && numberFits counter (shapeOf word)) ⌝ }
+{
+    has_shape(word) && number_fits(word, counter)
+}
+
+// The rules of a row that owns parts.
+fn owner_fits(rows: &[u64], row: usize, word: u64) -> bool
+    ensures { λ r. ⌜ r ≡ (knownTag word && isPacked word && partsBelow row (shapeOf word) && keyKindFits (now (rows .entry)) (shapeOf word)) ⌝ }
+{
+    has_shape(word) && parts_below(word, row) && key_kind_fits(rows, word)
+}
+
+// Every rule looks at the tag; told apart here, a row without parts is not asked for its parts and key.
+fn shape_fits(rows: &[u64], counter: u32, row: usize) -> bool
+    requires { ⌜ row < length (now rows) ⌝ }
+    ensures { λ r. ⌜ r ≡ shapeFits (now (rows .entry)) counter row (rowAt (now (rows .entry)) row) ⌝ }
 {
     let word = rows[row];
-    known_tag(word)
-        && is_packed(word)
-        && number_fits(word, counter)
-        && parts_below(word, row)
-        && key_kind_fits(rows, word)
-        && !earlier_equal(rows, row, word)
+    if tag(word) < kinds::ENCRYPTION {
+        atom_fits(word, counter)
+    } else {
+        owner_fits(rows, row, word)
+    }
 }
 
 // Whether eight rows are zero. All are looked at, so that the processor takes several at a time.
@@ -192,18 +201,22 @@ fn nonzero_row(rows: &[u64], from: usize) -> Place
     Place::Nowhere
 }
 
-// A used row is bad where it breaks a rule, any other where it is not zero.
+// A used row is bad where its shape breaks a rule or, of two equal rows, where it is the later; any other where it is not zero.
 pub fn first_bad_row(rows: &[u64], counter: u32) -> Checked
     requires { ⌜ length (now rows) ≤ mostTermRows ⌝ }
     ensures { λ r. ⌜ r ≡ checked (now (rows .entry)) counter ⌝ }
 {
     let used = used_rows(rows);
+    let distinct = distinct_rows(rows, used);
     let mut row: usize = 0;
-    while row < used {
-        if !row_fits(rows, counter, row) {
+    while row < distinct {
+        if !shape_fits(rows, counter, row) {
             return Checked::Bad(row as u32);
         }
         row += 1;
+    }
+    if row < used {
+        return Checked::Bad(row as u32);
     }
     let behind = nonzero_row(rows, used);
     match behind {

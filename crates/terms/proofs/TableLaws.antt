@@ -49,7 +49,7 @@ key-fits rows (signed key body) = one-of-two 5 6 (tagOf (getD rows key 0))
 key-fits rows (hashed body) = Iff·rfl
 key-fits rows (tupled parts) = Iff·rfl
 
-no-earlier : (rows : List ℕ) (row word : ℕ) → row ≤ length rows
+pub no-earlier : (rows : List ℕ) (row word : ℕ) → row ≤ length rows
     → T (not (earlierEqual rows row word)) ↔ ((earlier : ℕ) → earlier < row → getD rows earlier 0 ≢ word)
 unfolding earlierEqual
 no-earlier rows row word inside =

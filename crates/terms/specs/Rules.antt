@@ -48,11 +48,14 @@ keyKindFits rows (tupled parts) = true
 unfoldable pub earlierEqual : List ℕ → ℕ → ℕ → Bool
 earlierEqual rows row word = oneOf (take row rows) word
 
+-- the rules of a used row's shape
+abbrev pub shapeFits : List ℕ → ℕ → ℕ → ℕ → Bool
+shapeFits rows counter row word =
+    knownTag word && isPacked word && numberFits counter (shapeOf word) && partsBelow row (shapeOf word) && keyKindFits rows (shapeOf word)
+
 -- the rules of a used row
 abbrev pub fits : List ℕ → ℕ → ℕ → ℕ → Bool
-fits rows counter row word =
-    knownTag word && isPacked word && numberFits counter (shapeOf word) && partsBelow row (shapeOf word)
-    && keyKindFits rows (shapeOf word) && not (earlierEqual rows row word)
+fits rows counter row word = shapeFits rows counter row word && not (earlierEqual rows row word)
 
 -- a nonzero row after the first zero row is bad
 unfoldable pub badTermRow : List ℕ → ℕ → ℕ → ℕ → Bool

@@ -1,6 +1,4 @@
 //! Times the archive against the second implementation, in one run, and measures the archive's stack.
-use cram_host::direct::{self, Direct, DirectInput};
-use cram_host::input::RunInput;
 use cram_host::roles::ARCHIVE as ROLES;
 use cram_host::{measured, plain, stack, ARCHIVE};
 
@@ -42,14 +40,6 @@ fn main() {
             print("  of which one search over 4,096 rows", [0, 1].map(|i| (times[i] - base[i]) / words));
         }
     }
-    let walks: [&Direct; 2] = [&(direct::archive as Direct), &(plain::direct as Direct)];
-    for (name, lent) in measured::directs() {
-        print(name, medians(&lent, walks, |lent, walk| lent.call(*walk).counter));
-    }
-    println!("{:<45}{:>12}{:>12}{:>8}", "", "engine", "both calls", "ratio");
-    for (name, lent) in measured::directs() {
-        print(name, against_both_calls(&lent));
-    }
     let engines = [&ROLES, &plain::ROLES];
     for (name, lent) in measured::role_compiles() {
         print(name, medians(&lent, engines, |lent, engine| lent.call(engine).place));
@@ -57,15 +47,19 @@ fn main() {
     for (name, lent) in measured::rounds() {
         print(name, medians(&lent, engines, |lent, engine| lent.call(engine).place));
     }
+    println!("\nThe check of a table by its used rows, plain Rust with a search for each row and with an index of hashes:");
+    println!("{:<45}{:>12}{:>12}{:>12}{:>8}", "used rows", "archive", "search", "hashed", "ratio");
+    for (used, lent) in measured::checks() {
+        let engines = [&ARCHIVE, &plain::ENGINE, &plain::HASHED];
+        let [ours, searched, hashed] = medians(&lent, engines, |lent, engine| lent.call(engine).place);
+        println!("{:<45}{:>12.0}{:>12.0}{:>12.0}{:>8.2}", used, ours, searched, hashed, ours / hashed);
+    }
     println!("\nBytes of stack, by painting it before the call:");
     for (name, mut lent) in measured::compiles() {
         println!("{:<45}{:>12}", name, stack::taken_by(|| lent.call(&ARCHIVE)));
     }
     for (name, mut lent) in measured::runs() {
         println!("{:<45}{:>12}", name, stack::taken_by(|| lent.call(&ARCHIVE)));
-    }
-    for (name, mut lent) in measured::directs() {
-        println!("{:<45}{:>12}", name, stack::taken_by(|| lent.call(direct::archive)));
     }
     for (name, mut lent) in measured::role_compiles() {
         println!("{:<45}{:>12}", name, stack::taken_by(|| lent.call(&ROLES)));
@@ -79,24 +73,10 @@ fn print(name: &str, [ours, theirs]: [f64; 2]) {
     println!("{:<45}{:>12.0}{:>12.0}{:>8.2}", name, ours, theirs, ours / theirs);
 }
 
-/// The archive's engine, and its compile and then run into buffers that are ready.
-fn against_both_calls(lent: &DirectInput) -> [f64; 2] {
-    let ready = (lent.clone(), lent.lend_compile(), lent.lend_run(Vec::new()));
-    medians(&ready, [&true, &false], |(direct, compile, run), &straight| {
-        if straight {
-            return direct.call(direct::archive).counter;
-        }
-        let compiled = compile.call(&ARCHIVE);
-        let code = &compile.code[..if compiled.number == 0 { 4 * compiled.place as usize } else { 0 }];
-        let RunInput { kinds, objects, messages, certificates, accumulator, terms, counter, .. } = run;
-        (ARCHIVE.run)(kinds, objects, messages, certificates, *accumulator, terms, *counter, code).counter
-    })
-}
-
-/// The time of a call by the archive and by plain Rust.
-fn medians<T: Clone, E>(lent: &T, engines: [&E; 2], call: fn(&mut T, &E) -> u32) -> [f64; 2] {
-    let copies = copies_for_a_sample(lent, engines[1], call);
-    let mut samples = [Vec::new(), Vec::new()];
+/// The time of a call by each engine.
+fn medians<T: Clone, E, const N: usize>(lent: &T, engines: [&E; N], call: fn(&mut T, &E) -> u32) -> [f64; N] {
+    let copies = copies_for_a_sample(lent, engines[0], call);
+    let mut samples = [(); N].map(|()| Vec::new());
     for _ in 0..SAMPLES {
         for (engine, samples) in engines.into_iter().zip(&mut samples) {
             samples.push(sample(lent, engine, call, copies));

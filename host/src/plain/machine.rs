@@ -2,7 +2,7 @@
 use super::bytes::{pair, put_pair, row, word};
 use super::code::{self, Word};
 use super::stores::{self, Rows};
-use super::terms::{self, Table, BYTE, ENCRYPTION, HASH, PRIVATE, PUBLIC, SHARED, SIGNATURE, TUPLE};
+use super::terms::{self, Check, Table, BYTE, ENCRYPTION, HASH, PRIVATE, PUBLIC, SHARED, SIGNATURE, TUPLE};
 use crate::limits::{CERTIFICATES, CODE_WORDS, MESSAGES, NAMED, NAMES, TERM_ROWS, UNSET};
 use crate::Ran;
 
@@ -41,6 +41,36 @@ pub fn run(
     counter: u32,
     code: &[u8],
 ) -> Ran {
+    run_by(terms::first_bad, kinds, objects, messages, certificates, accumulator, terms, counter, code)
+}
+
+/// The same with an index for the check of the table.
+#[allow(clippy::too_many_arguments)]
+pub fn run_hashed(
+    kinds: &[u8],
+    objects: &mut [u8],
+    messages: &mut [u8],
+    certificates: &[u8],
+    accumulator: u32,
+    terms: &mut [u8],
+    counter: u32,
+    code: &[u8],
+) -> Ran {
+    run_by(terms::first_bad_hashed, kinds, objects, messages, certificates, accumulator, terms, counter, code)
+}
+
+#[allow(clippy::too_many_arguments)]
+fn run_by(
+    check: Check,
+    kinds: &[u8],
+    objects: &mut [u8],
+    messages: &mut [u8],
+    certificates: &[u8],
+    accumulator: u32,
+    terms: &mut [u8],
+    counter: u32,
+    code: &[u8],
+) -> Ran {
     let answer = |number, place, reason, used: usize| {
         let (place, used) = (place as u32, used as u32);
         Ran { number, place, reason, used, counter, accumulator }
@@ -50,7 +80,7 @@ pub fn run(
         return answer(1, 0, 0, 0);
     }
     let used = terms::used(terms);
-    if let Some(place) = terms::first_bad(terms, counter) {
+    if let Some(place) = check(terms, counter) {
         return answer(2, place, 0, used);
     }
     let rows = Rows(&terms[..8 * used]);

@@ -46,11 +46,50 @@ pub fn used(terms: &[u8]) -> usize {
     first(terms, |row| row == 0).unwrap_or(terms.len() / 8)
 }
 
-/// The lowest row that breaks a rule.
+/// The lowest row that breaks a rule, in a table with a counter.
+pub type Check = fn(&[u8], u32) -> Option<usize>;
+
+/// A check that searches all earlier rows for an equal one.
 pub fn first_bad(terms: &[u8], counter: u32) -> Option<usize> {
+    first_bad_by(terms, counter, |at| find(&terms[..8 * at], row(terms, at)).is_some())
+}
+
+/// A check that looks for an equal row in an index of hashes.
+pub fn first_bad_hashed(terms: &[u8], counter: u32) -> Option<usize> {
+    let mut index = Index::new();
+    first_bad_by(terms, counter, |at| index.repeats(terms, at))
+}
+
+fn first_bad_by(terms: &[u8], counter: u32, mut repeats: impl FnMut(usize) -> bool) -> Option<usize> {
     let used = used(terms);
-    let broken = (0..used).find(|&at| !shaped(terms, at, counter) || find(&terms[..8 * at], row(terms, at)).is_some());
+    let broken = (0..used).find(|&at| !shaped(terms, at, counter) || repeats(at));
     broken.or_else(|| first(&terms[8 * used..], |row| row != 0).map(|i| used + i))
+}
+
+/// The rows seen so far, each in the first free place from its hash on.
+struct Index([u16; Index::PLACES]);
+
+impl Index {
+    const PLACES: usize = 2 * TERM_ROWS;
+    const FREE: u16 = u16::MAX;
+
+    fn new() -> Index {
+        Index([Index::FREE; Index::PLACES])
+    }
+
+    /// Whether a row equals one that was seen; it is then seen itself.
+    fn repeats(&mut self, terms: &[u8], at: usize) -> bool {
+        let term = row(terms, at);
+        let mut place = (term.wrapping_mul(0x9e37_79b9_7f4a_7c15) >> 51) as usize;
+        while self.0[place] != Index::FREE {
+            if row(terms, self.0[place] as usize) == term {
+                return true;
+            }
+            place = (place + 1) % Index::PLACES;
+        }
+        self.0[place] = at as u16;
+        false
+    }
 }
 
 /// Whether a row is what its used fields pack to, and those are within their bounds.

@@ -2,56 +2,78 @@
 use Prim.Native.Nat.{_≤_, _-_}
 use mathlib.Core.Path.{refl}
 use native.Mathlib.Omega.{arith}
+use lib.ListN.{length}
 use borrow.Author.Needs.{needs}
-use Rattle.terms.specs.Rules.{badTermRow}
 use Rattle.word.proofs.ScanLaws.{Left}
-use Rattle.terms.proofs.TableLaws.{used-rows}
-use Rattle.tables.proofs.RuleLaws.{checked-bad, checked-more, checked-behind, checked-good}
+use Rattle.terms.specs.Rules.{badTermRow}
+use Rattle.tables.proofs.RuleLaws.{used-inside, distinct-inside, checked-bad, checked-more, checked-repeated, checked-behind, checked-good}
 use Rattle.tables.proofs.first_bad_row.Statement.{statement}
 use Rattle.tables.proofs.first_bad_row.Tie as tie
 
 abbrev Inv-loop : tie.InvT-loop
-Inv-loop rows counter used row₀ row = (row ≤ used) × Left (badTermRow rows counter) rows row
+Inv-loop rows counter used distinct row₀ row = (row ≤ distinct) × (distinct ≤ used) × (used ≤ length rows) × Left (badTermRow rows counter) rows row
 
 abbrev μ-loop : tie.MeasureT-loop
-μ-loop rows counter used row₀ row = used - row
+μ-loop rows counter used distinct row₀ row = distinct - row
 
 used-rows-requires : tie.Need-used-rows-requires Inv-loop μ-loop
 used-rows-requires c κs = tt
 
+distinct-rows-requires : tie.Need-distinct-rows-requires Inv-loop μ-loop
+distinct-rows-requires c κs = (used-inside _ (c .used-rows .ensures), c .before .before .pre)
+
 loop-holds : tie.Need-loop-holds Inv-loop μ-loop
-loop-holds c = (omega arith, refl)
+loop-holds c =
+    let inside = used-inside _ (c .before .used-rows .ensures) in
+    (omega arith, distinct-inside _ inside (c .distinct-rows .ensures), inside, refl)
 
-row-fits-requires : tie.Need-row-fits-requires Inv-loop μ-loop
-row-fits-requires c κs = omega (arith, c .before .before .used-rows .ensures, used-rows (c .before .before .before .before .args .rows .now) .inside)
+shape-fits-requires : tie.Need-shape-fits-requires Inv-loop μ-loop
+shape-fits-requires c κs = omega arith
 
-cast-t9 : tie.Need-cast-t9 Inv-loop μ-loop
-cast-t9 c = omega (arith, c .before .before .before .before .used-rows .ensures, used-rows (c .before .before .before .before .before .before .args .rows .now) .inside)
+cast-t10 : tie.Need-cast-t10 Inv-loop μ-loop
+cast-t10 c = omega arith
 
 returns : tie.Need-returns Inv-loop μ-loop
 returns c =
-    let a = c .before .before .before .before .before .before .args in
-    let l = c .before .before .before .loop in
-    let used = c .before .before .before .before .used-rows in
-    checked-bad (a .rows .now) (a .counter) (used .result) (used .ensures) (l .row) (l .inv .1) (c .before .before .loop-test .taken)
-    (c .before .row-fits .result) (c .before .row-fits .ensures) (c .if1 .taken)
+    let l = c .before .before .before in
+    let a = l .before .before .before .before .args in
+    let used = l .before .before .used-rows in
+    let distinct = l .before .distinct-rows in
+    checked-bad (a .rows .now) (a .counter) (used .result) (used .ensures) (distinct .result) (distinct .ensures) (l .loop .row) (l .loop .inv .3)
+    (c .before .before .loop-test .taken) (c .before .shape-fits .result) (c .before .shape-fits .ensures) (c .if1 .taken)
 
 add-row : tie.Need-add-row Inv-loop μ-loop
-add-row c = omega (arith, c .before .before .before .before .used-rows .ensures, used-rows (c .before .before .before .before .before .before .args .rows .now) .inside)
+add-row c = omega arith
 
 loop-less : tie.Need-loop-less Inv-loop μ-loop
 loop-less c = omega arith
 
 loop-again : tie.Need-loop-again Inv-loop μ-loop
 loop-again c =
-    let a = c .before .before .before .before .before .before .args in
-    let l = c .before .before .before .loop in
-    let used = c .before .before .before .before .used-rows in
-    let more = checked-more (a .rows .now) (a .counter) (used .result) (used .ensures) (l .row) (l .inv .1) (c .before .before .loop-test .taken) in
-    (omega arith, more (c .before .row-fits .result) (c .before .row-fits .ensures) (c .if1 .left))
+    let l = c .before .before .before in
+    let a = l .before .before .before .before .args in
+    let used = l .before .before .used-rows in
+    let distinct = l .before .distinct-rows in (
+      omega arith,
+      l .loop .inv .1,
+      l .loop .inv .2,
+      checked-more (a .rows .now) (a .counter) (used .result) (used .ensures) (distinct .result) (distinct .ensures) (l .loop .row) (l .loop .inv .3)
+          (c .before .before .loop-test .taken) (c .before .shape-fits .result) (c .before .shape-fits .ensures) (c .if1 .left),
+    )
+
+cast-t12 : tie.Need-cast-t12 Inv-loop μ-loop
+cast-t12 c = omega arith
+
+returns-2 : tie.Need-returns-2 Inv-loop μ-loop
+returns-2 c =
+    let l = c .before .before in
+    let a = l .before .before .before .before .args in
+    let used = l .before .before .used-rows in
+    let distinct = l .before .distinct-rows in
+    checked-repeated (a .rows .now) (a .counter) (used .result) (used .ensures) (distinct .result) (distinct .ensures) (l .loop .row) (l .loop .inv .3) (omega arith) (c .if2 .taken)
 
 nonzero-row-requires : tie.Need-nonzero-row-requires Inv-loop μ-loop
-nonzero-row-requires c κs = omega (arith, c .before .before .used-rows .ensures, used-rows (c .before .before .before .before .args .rows .now) .inside)
+nonzero-row-requires c κs = omega arith
 
 enum-known-behind : tie.Need-enum-known-behind Inv-loop μ-loop
 enum-known-behind c = search needs
@@ -59,23 +81,23 @@ enum-known-behind c = search needs
 enum-told : tie.Need-enum-told Inv-loop μ-loop
 enum-told c = search needs
 
-cast-t11 : tie.Need-cast-t11 Inv-loop μ-loop
-cast-t11 c = omega (arith, c .before .before .before .before .before .used-rows .ensures, used-rows (c .before .before .before .before .before .before .before .args .rows .now) .inside)
-
-returns-2 : tie.Need-returns-2 Inv-loop μ-loop
-returns-2 c =
-    let a = c .before .before .before .before .before .before .before .before .args in
-    let l = c .before .before .before .before .before .loop in
-    let used = c .before .before .before .before .before .before .used-rows in
-    checked-behind (a .rows .now) (a .counter) (used .result) (used .ensures) (l .row) (l .inv .1) (omega arith)
-    _ (c .before .before .before .nonzero-row .ensures) _ (c .before .behind .given .1)
+cast-t14 : tie.Need-cast-t14 Inv-loop μ-loop
+cast-t14 c = omega arith
 
 returns-3 : tie.Need-returns-3 Inv-loop μ-loop
 returns-3 c =
-    let a = c .before .before .before .before .before .before .before .args in
-    let l = c .before .before .before .before .loop in
-    let used = c .before .before .before .before .before .used-rows in
-    checked-good (a .rows .now) (a .counter) (used .result) (used .ensures) (l .row) (l .inv .1) (omega arith)
+    let l = c .before .before .before .before .before .before in
+    let a = l .before .before .before .before .args in
+    let used = l .before .before .used-rows in
+    checked-behind (a .rows .now) (a .counter) (used .result) (used .ensures) (l .loop .row) (l .loop .inv .3) (omega arith)
+    _ (c .before .before .before .nonzero-row .ensures) _ (c .before .behind .given .1)
+
+returns-4 : tie.Need-returns-4 Inv-loop μ-loop
+returns-4 c =
+    let l = c .before .before .before .before .before in
+    let a = l .before .before .before .before .args in
+    let used = l .before .before .used-rows in
+    checked-good (a .rows .now) (a .counter) (used .result) (used .ensures) (l .loop .row) (l .loop .inv .3) (omega arith)
     _ (c .before .before .nonzero-row .ensures) (c .enum-told .given .1)
 
 pub first-bad-row-spec : {M : Type 1} → statement M
@@ -85,16 +107,19 @@ first-bad-row-spec =
     Inv-loop
     μ-loop
     used-rows-requires
+    distinct-rows-requires
     loop-holds
-    row-fits-requires
-    cast-t9
+    shape-fits-requires
+    cast-t10
     returns
     add-row
     loop-less
     loop-again
+    cast-t12
+    returns-2
     nonzero-row-requires
     enum-known-behind
     enum-told
-    cast-t11
-    returns-2
-    returns-3)
+    cast-t14
+    returns-3
+    returns-4)

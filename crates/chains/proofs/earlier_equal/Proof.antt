@@ -1,8 +1,8 @@
--- The first equal row among the earlier ones, or none.
-use Rattle.tables.proofs.RuleLaws.{earlier-ways}
+-- An equal row is found among the earlier ones, or none.
+use Rattle.chains.proofs.DistinctLaws.{search-ways}
 use borrow.Author.Needs.{needs}
-use Rattle.tables.proofs.earlier_equal.Statement.{statement}
-use Rattle.tables.proofs.earlier_equal.Tie as tie
+use Rattle.chains.proofs.earlier_equal.Statement.{statement}
+use Rattle.chains.proofs.earlier_equal.Tie as tie
 
 equal-row-requires : tie.Need-equal-row-requires
 equal-row-requires c κs = search needs
@@ -14,10 +14,10 @@ enum-told-2 : tie.Need-enum-told-2
 enum-told-2 c = search needs
 
 returns : tie.Need-returns
-returns c = search earlier-ways
+returns c = search search-ways
 
 returns-2 : tie.Need-returns-2
-returns-2 c = search earlier-ways
+returns-2 c = search search-ways
 
 pub earlier-equal-spec : {M : Type 1} → statement M
 earlier-equal-spec =

@@ -1,0 +1,3 @@
+-- Laws of distinct rows and of chains.
+pub mod DistinctLaws
+pub mod ChainLaws
