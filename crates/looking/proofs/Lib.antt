@@ -1,2 +1,3 @@
 -- Laws of what run looks at.
 pub mod LookLaws
+pub mod FrontLaws
