@@ -5,3 +5,5 @@ pub mod CompileLaws
 pub mod SliceLaws
 pub mod RunLaws
 pub mod RoundLaws
+pub mod SplitLaws
+pub mod TableLaws

@@ -1,6 +1,7 @@
 -- A table of which the front alone is looked at: behind it every row is zero.
 use Prim.Native.Nat.{ℕ, _<_, _≤_}
 use mathlib.Core.Path.{_≡_}
+use mathlib.Core.Logic.{_⊎_}
 use mathlib.Core.List.{List}
 use lib.ListN.{length}
 use Rattle.numbers.specs.Limits.{mostTermRows}
@@ -15,3 +16,8 @@ pub record Front (rows : List ℕ) (front : ℕ) : Type 0 where
   pub inside : front ≤ length rows
   pub zeros : ZeroFrom front rows
   pub few : front < length rows → length rows ≤ mostTermRows
+
+-- two tables of one length, whose rows differ at most from one place up to another
+pub record SameBut (before after : List ℕ) (from to : ℕ) : Type 0 where
+  pub long : length after ≡ length before
+  pub others : (row : ℕ) → (row < from) ⊎ (to ≤ row) → rowAt after row ≡ rowAt before row
