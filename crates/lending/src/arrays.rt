@@ -4,6 +4,7 @@ ghost use Prim.Native.Nat.{_*_, _/_, _≤_};
 ghost use lib.ListN.{length, take};
 ghost use Rattle.word.specs.Bytes.{elements};
 ghost use Rattle.numbers.specs.Limits.{variables, messageCells, mostPatternRows, mostCodeWords, mostRoundWords, mostTermRows, mostCertificates};
+ghost use Rattle.looking.specs.Front.{ZeroFrom};
 ghost use Rattle.lending.specs.Entries.{fewRows};
 use numbers::limits::MESSAGE_CELLS;
 use numbers::limits::MOST_CERTIFICATES;
@@ -85,14 +86,15 @@ fn no_round_words() -> [u32; MOST_ROUND_WORDS]
     [0u32; MOST_ROUND_WORDS]
 }
 
+// Rows of a table, all zero.
 pub fn few_rows() -> [u64; FEW_ROWS]
-    ensures { λ r. ⌜ fewRows ≡ length r ⌝ }
+    ensures { λ r. ⌜ (fewRows ≡ length r) × ZeroFrom 0 r ⌝ }
 {
     [0u64; FEW_ROWS]
 }
 
 pub fn no_rows() -> [u64; MOST_TERM_ROWS]
-    ensures { λ r. ⌜ mostTermRows ≡ length r ⌝ }
+    ensures { λ r. ⌜ (mostTermRows ≡ length r) × ZeroFrom 0 r ⌝ }
 {
     [0u64; MOST_TERM_ROWS]
 }

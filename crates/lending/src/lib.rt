@@ -1,6 +1,7 @@
 // What C lends and takes back: elements of lent bytes, and answers as plain numbers.
 pub mod arrays;
 pub mod compiles;
+pub mod rows;
 pub mod runs;
 pub mod sessions;
 

@@ -1,2 +1,4 @@
 -- Laws of what run looks at.
 pub mod LookLaws
+pub mod FrontLaws
+pub mod NewRowLaws

@@ -1,2 +1,3 @@
 -- What run finds before it steps.
 pub mod Found
+pub mod Front

@@ -1,6 +1,7 @@
 // A round of a role on a session record.
 ghost use mathlib.Core.Path.{_≡_};
 ghost use Rattle.calls.specs.Round.{round, takenOf};
+ghost use Rattle.looking.specs.Front.{Front};
 use answers::NONE_WAITS;
 use answers::Rounded;
 use answers::Session;
@@ -37,6 +38,59 @@ pub fn take_of(session: Session) -> Taken
     }
 }
 
+// The rows behind the front are zero, so that they are not looked at.
+pub fn round_front(
+    session: Session,
+    rounds: u32,
+    kinds: &[u8],
+    objects: &mut [u16],
+    messages: &mut [u16],
+    certificates: &[u64],
+    terms: &mut [u64],
+    front: usize,
+    code: &[u32],
+) -> RoundEnded
+    requires { ⌜ Front (now terms) front ⌝ }
+    ensures { λ r. ⌜ record { answer = r .answer; session = r .session; objects = now (objects .exit); messages = now (messages .exit); terms = now (terms .exit) }
+        ≡ round (record {
+          session = session;
+          rounds = rounds;
+          kinds = now (kinds .entry);
+          objects = now (objects .entry);
+          messages = now (messages .entry);
+          certificates = now (certificates .entry);
+          terms = now (terms .entry);
+        }) (now (code .entry)) ⌝ }
+{
+    let found = turns::look(
+        session,
+        rounds,
+        kinds,
+        objects,
+        messages,
+        certificates,
+        &terms[..front],
+        code,
+    );
+    match found {
+        Finding::Refused(refusal) => RoundEnded {
+            session: session,
+            answer: refusal,
+        },
+        Finding::Accepted(used) => steps::play(
+            session,
+            rounds,
+            used,
+            kinds,
+            objects,
+            messages,
+            certificates,
+            terms,
+            code,
+        ),
+    }
+}
+
 pub fn round_of(
     session: Session,
     rounds: u32,
@@ -58,7 +112,8 @@ pub fn round_of(
           terms = now (terms .entry);
         }) (now (code .entry)) ⌝ }
 {
-    let found = turns::look(
+    let rows = terms.len();
+    round_front(
         session,
         rounds,
         kinds,
@@ -66,25 +121,9 @@ pub fn round_of(
         messages,
         certificates,
         terms,
+        rows,
         code,
-    );
-    match found {
-        Finding::Refused(refusal) => RoundEnded {
-            session: session,
-            answer: refusal,
-        },
-        Finding::Accepted(used) => steps::play(
-            session,
-            rounds,
-            used,
-            kinds,
-            objects,
-            messages,
-            certificates,
-            terms,
-            code,
-        ),
-    }
+    )
 }
 
 // The same in place.

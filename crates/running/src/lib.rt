@@ -2,6 +2,7 @@
 ghost use mathlib.Core.Path.{_≡_};
 ghost use Rattle.calls.specs.Run.{run};
 ghost use Rattle.looking.specs.Found.{usedWith};
+ghost use Rattle.looking.specs.Front.{Front};
 use answers::Ran;
 use cells::copy;
 use cells::message_cells;
@@ -32,7 +33,7 @@ pub struct Outcome {
     pub counter: u32,
 }
 
-// Run with the cells by value: those on entry come back unless it is done.
+// Run with the cells by value: those on entry come back unless it is done. The rows behind the front are zero, so that they are not looked at.
 pub fn run_cells(
     kinds: &[u8],
     objects: [u16; VARIABLES],
@@ -40,9 +41,11 @@ pub fn run_cells(
     certificates: &[u64],
     accumulator: u32,
     terms: &mut [u64],
+    front: usize,
     counter: u32,
     code: &[u32],
 ) -> Outcome
+    requires { ⌜ Front (now terms) front ⌝ }
     ensures { λ r. ⌜ (record { answer = r .answer; objects = r .objects; messages = r .messages; accumulator = r .accumulator; terms = now (terms .exit); counter = r .counter }
         ≡ run (record {
           kinds = now (kinds .entry);
@@ -62,7 +65,7 @@ pub fn run_cells(
         &messages,
         certificates,
         accumulator,
-        terms,
+        &terms[..front],
         counter,
         code,
     );
@@ -151,6 +154,7 @@ pub fn run(
     }
     let given_objects = object_cells(objects);
     let given_messages = message_cells(messages);
+    let rows = terms.len();
     let left = run_cells(
         kinds,
         given_objects,
@@ -158,6 +162,7 @@ pub fn run(
         certificates,
         accumulator,
         terms,
+        rows,
         counter,
         code,
     );

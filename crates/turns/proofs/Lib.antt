@@ -2,3 +2,4 @@
 pub mod WordLaws
 pub mod CheckLaws
 pub mod AnswerLaws
+pub mod FrontLaws

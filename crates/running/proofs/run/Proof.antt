@@ -9,6 +9,7 @@ use borrow.Author.Tests.{not-true, not-false}
 use Rattle.numbers.specs.Limits.{variables, messageCells}
 use Rattle.calls.specs.Run.{Lent}
 use Rattle.looking.proofs.LookLaws.{run-limit, whole-cells}
+use Rattle.looking.proofs.FrontLaws.{whole-front}
 use Rattle.running.proofs.EndLaws.{copied-back}
 use Rattle.running.proofs.run.Statement.{statement}
 use Rattle.running.proofs.run.Tie as tie
@@ -44,7 +45,7 @@ message-cells-requires : tie.Need-message-cells-requires
 message-cells-requires c κs = whole (c .before .before .before) .1
 
 run-cells-requires : tie.Need-run-cells-requires
-run-cells-requires c κs = search needs
+run-cells-requires c κs = whole-front _
 
 slice-aggregate-copy : tie.Need-slice-aggregate-copy
 slice-aggregate-copy c = search needs

@@ -4,12 +4,14 @@ use mathlib.Core.Path.{_≡_, sym, _∙_}
 use mathlib.Core.Option.{none}
 use mathlib.Core.List.{List}
 use native.Mathlib.Omega.{arith}
+use lib.Seq.{length-take-le}
 use borrow.Author.Needs.{needs}
 use Rattle.terms.specs.Rules.{usedRows}
 use Rattle.answers.specs.First.{first}
 use Rattle.calls.specs.Run.{Lent, refusals}
 use Rattle.calls.proofs.RunLaws.{Passed}
 use Rattle.looking.proofs.LookLaws.{found-some, found-none, run-refused, passed}
+use Rattle.looking.proofs.FrontLaws.{found-same}
 use Rattle.running.proofs.ReadyLaws.{accumulator-small, ready}
 use Rattle.running.proofs.EndLaws.{steps-used, steps-done, steps-not-done}
 use Rattle.running.proofs.run_cells.Statement.{statement}
@@ -35,7 +37,8 @@ module _ (c : tie.After-known-told2) where
   start = c .before .before .before .before .before .before .before .before .before .before .before
 
   found : (first (refusals (x start) (words start)) ≡ none) × (c .before .found2 .given .0 .0 ≡ usedRows (x start .terms))
-  found = found-none (x start .terms) _ (sym (c .before .found2 .given .1) ∙ c .before .before .before .look .ensures)
+  found =
+      found-none (x start .terms) _ (sym (c .before .found2 .given .1) ∙ c .before .before .before .look .ensures ∙ found-same (x start) (words start) (start .pre))
 
   passes : Passed (x start) (words start)
   passes = passed (x start) (words start) (found .0)
@@ -46,6 +49,12 @@ slice-aggregate-look c = search needs
 slice-aggregate-look-2 : tie.Need-slice-aggregate-look-2
 slice-aggregate-look-2 c = search needs
 
+slice-reshare-prefix-look : tie.Need-slice-reshare-prefix-look
+slice-reshare-prefix-look c = c .before .before .before .before .before .before .pre .inside
+
+slice-aggregate-look-3 : tie.Need-slice-aggregate-look-3
+slice-aggregate-look-3 c = sym (length-take-le _ _ (slice-reshare-prefix-look (c .before)))
+
 look-requires : tie.Need-look-requires
 look-requires c κs = search needs
 
@@ -55,8 +64,8 @@ enum-known-found c = search needs
 enum-known-found-2 : tie.Need-enum-known-found-2
 enum-known-found-2 c = search needs
 
-cast-t31 : tie.Need-cast-t31
-cast-t31 c = omega (arith, accumulator-small (passes c))
+cast-t32 : tie.Need-cast-t32
+cast-t32 c = omega (arith, accumulator-small (passes c))
 
 slice-aggregate-steps : tie.Need-slice-aggregate-steps
 slice-aggregate-steps c = search needs
@@ -70,8 +79,8 @@ steps-requires c κs = let p = c .before .before .before in ready (passes p) (fo
 number-requires : tie.Need-number-requires
 number-requires c κs = search needs
 
-cast-t45 : tie.Need-cast-t45
-cast-t45 c = search needs
+cast-t46 : tie.Need-cast-t46
+cast-t46 c = search needs
 
 same-length : tie.Need-same-length
 same-length c = search needs
@@ -85,8 +94,8 @@ returns c =
       steps-used (x s) (words s) (stepped .steps .ensures .0) (stepped .steps .ensures .1),
     )
 
-cast-t41 : tie.Need-cast-t41
-cast-t41 c = search needs
+cast-t42 : tie.Need-cast-t42
+cast-t42 c = search needs
 
 same-length-2 : tie.Need-same-length-2
 same-length-2 c = search needs
@@ -94,7 +103,7 @@ same-length-2 c = search needs
 returns-2 : tie.Need-returns-2
 returns-2 c =
     let s = c .before .before .before .before .before .before .before .before .before .before .before in
-    let refusal = found-some (x s .terms) _ (sym (c .before .found .given .1) ∙ c .before .before .before .look .ensures) in
+    let refusal = found-some (x s .terms) _ (sym (c .before .found .given .1) ∙ c .before .before .before .look .ensures ∙ found-same (x s) (words s) (s .pre)) in
     (run-refused (x s) (words s) (refusal .0), refusal .1)
 
 same-length-3 : tie.Need-same-length-3
@@ -115,18 +124,20 @@ run-cells-spec =
     (tie.spec
     slice-aggregate-look
     slice-aggregate-look-2
+    slice-reshare-prefix-look
+    slice-aggregate-look-3
     look-requires
     enum-known-found
     enum-known-found-2
-    cast-t31
+    cast-t32
     slice-aggregate-steps
     slice-aggregate-steps-2
     steps-requires
     number-requires
-    cast-t45
+    cast-t46
     same-length
     returns
-    cast-t41
+    cast-t42
     same-length-2
     returns-2
     same-length-3
