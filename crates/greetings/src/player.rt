@@ -9,7 +9,7 @@ use answers::Session;
 use libc::STDOUT_FILENO;
 use numbers::limits::MESSAGE_CELLS;
 use numbers::limits::VARIABLES;
-use roles::RoleCompiled;
+use role_counting::RoleCompiled;
 
 // Each of the two roles has so many rounds, and so many words.
 const ROUNDS: usize = 3;

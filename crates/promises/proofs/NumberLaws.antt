@@ -30,7 +30,7 @@ use Rattle.promises.specs.Conditions.{CompileWithin, BadVariable, Compil
 use Rattle.promises.specs.Steps.{After}
 use Rattle.promises.specs.Demand1.{CompileTable, RunTable}
 use Rattle.promises.proofs.StepLaws.{reason-back, exec-reasoned}
-use Rattle.promises.proofs.RunLaws.{RunGives, ranOf, answered, answered-stuck, gives-run, run-unchanged}
+use Rattle.promises.proofs.RunLaws.{answered, answered-stuck, gives-run, run-unchanged}
 use Rattle.promises.proofs.WalkLaws.{after-all, at-stuck, at-room}
 use Rattle.promises.proofs.ConditionLaws.{bad-variable, no-bad-variable}
 use Rattle.promises.proofs.CompileLaws.{CompileGives, compiledOf, compile-answered, gives-compile, compile-unchanged}
@@ -157,9 +157,6 @@ module _ (x : Lent) (code : List ℕ) where
   comes : (answer : Ran) → run x code .answer ≡ answer → RunAnswers (run x code) (ranNumber answer) (ranPlace answer) (ranReason answer)
   comes answer e = (ap ranNumber e, ap ranPlace e, ap ranReason e)
 
-  means : {number place reason : ℕ} → RunAnswers (run x code) number place reason → RunGives x code (ranOf number place reason)
-  means = answered x code
-
   passed : Passed x code ↔ RunChecked x code
   passed = (
     λ p. record { valid = passed-valid p; few = run-within x code .0 (p .lengths) .1; words = no-bad-word-iff (kindIn (x .kinds)) code .0 (p .words) },
@@ -178,18 +175,18 @@ module _ (x : Lent) (code : List ℕ) where
       let gives = gives-run x code in
       let table = valid-table (x .terms) (x .counter) in
       record {
-        limit = (λ a w. means a (within .1 w), λ n. comes Ran.Limit (gives Ran.Limit λ t. n (within .0 t)));
+        limit = (λ a w. answered x code a (within .1 w), λ n. comes Ran.Limit (gives Ran.Limit λ t. n (within .0 t)));
         bad-term = λ row. (
-          λ a. let (t, e) = means a in (within .0 t, bad-term-at (x .terms) (x .counter) row .0 e),
+          λ a. let (t, e) = answered x code a in (within .0 t, bad-term-at (x .terms) (x .counter) row .0 e),
           λ h. comes (Ran.BadTerm row) (gives (Ran.BadTerm row) (within .1 (h .0), bad-term-at (x .terms) (x .counter) row .1 (h .1))),
         );
         bad-store = (
-          λ a. let (t, e, n) = means a in let w = within .0 t in (w, table .0 e, λ s. n (stores-valid x .1 s)),
+          λ a. let (t, e, n) = answered x code a in let w = within .0 t in (w, table .0 e, λ s. n (stores-valid x .1 s)),
           λ h. comes Ran.BadStore (gives Ran.BadStore (within .1 (h .0), table .1 (h .1), λ t. h .2 (stores-valid x .0 t))),
         );
         bad-word = λ word. (
           λ a.
-              let (t, e, s, b) = means a in
+              let (t, e, s, b) = answered x code a in
               let w = within .0 t in
               (w, record { within = w .0; table = table .0 e; stores = stores-valid x .0 s }, bad-word-iff (kindIn (x .kinds)) code word .0 b),
           λ h.
@@ -201,11 +198,11 @@ module _ (x : Lent) (code : List ℕ) where
           λ h. stuck-so word reason (passed .1 (h .0)) (at-stuck x code (h .1)),
         );
         no-room = λ word. (
-          λ a. let (p, e) = means a in (passed .0 p, room-there x code p e),
+          λ a. let (p, e) = answered x code a in (passed .0 p, room-there x code p e),
           λ h. comes (Ran.NoRoom word) (gives (Ran.NoRoom word) (passed .1 (h .0), at-room x code (h .1))),
         );
         done = λ words. (
-          λ a. let (p, e, (t, q)) = means a in (passed .0 p, e, (t, subst (λ n. After x code n t) (sym e) (done-after x code p q))),
+          λ a. let (p, e, (t, q)) = answered x code a in (passed .0 p, e, (t, subst (λ n. After x code n t) (sym e) (done-after x code p q))),
           λ h. comes (Ran.Done words) (gives (Ran.Done words) (passed .1 (h .0), h .1, (h .2 .0, after-all x code (subst (λ n. After x code n (h .2 .0)) (h .1) (h .2 .1))))),
         );
         left = run-unchanged x code;

@@ -19,8 +19,8 @@ use Rattle.theory.specs.Machine.{Line}
 use Rattle.theory.specs.Emission.{Env, Emitted, ok, refuse}
 use Rattle.calls.specs.Compile.{entry, codeWords}
 use Rattle.calls.specs.Half.{declaredKnown, half}
-use Rattle.calls.specs.Frame.{outputWord, framed}
 use Rattle.calls.specs.Role.{RoleLent, Halves, compiled, refusedIn, afterHalves, again, halfThen, halvesFrom, roundsOf, inTurn, roleFits, halvesOf}
+use Rattle.calls.proofs.RoleLaws.{turn-append, turn-one, rounds-words}
 use Rattle.promises.specs.Conditions.{BadVariable}
 use Rattle.promises.specs.Halves.{halfRows}
 use Rattle.promises.specs.Roles.{RoleWithin, rowsOfHalf, createsHalf, HalfChecked, halfEmission, Reached, start, next, HalfTurn}
@@ -47,26 +47,10 @@ unfolding afterHalves
 one-more done words (compiled halves) = ap compiled (sym (append-assoc done (words ∷ []) halves))
 one-more done words (refusedIn n answer) = refl
 
--- their words, and those of the rounds
+-- their words
 words-more : (done : List (List ℕ)) (words : List ℕ) → length (inTurn (done ++ (words ∷ []))) ≡ length (inTurn done) + length words
-unfolding inTurn
-words-more [] words = omega (arith, length-append words [])
-words-more (d ∷ done) words = omega (arith, length-append d (inTurn (done ++ (words ∷ []))), length-append d (inTurn done), words-more done words)
-
-round-words : (halves : List (List ℕ)) → length halves % 2 ≡ 0 → length (inTurn (roundsOf halves)) ≡ length (inTurn halves) + length halves
-unfolding inTurn roundsOf
-round-words [] even = refl
-round-words (match ∷ []) even = absurd (omega (arith, even))
-round-words (match ∷ create ∷ halves) even =
-    omega (
-      arith,
-      length-append (framed (match ++ create)) (inTurn (roundsOf halves)),
-      length-append (match ++ create) (outputWord ∷ []),
-      length-append match create,
-      length-append match (create ++ inTurn halves),
-      length-append create (inTurn halves),
-      round-words halves (omega (arith, even)),
-    )
+words-more done words =
+    ap length (turn-append done (words ∷ []) ∙ ap (λ more. inTurn done ++ more) (turn-one words)) ∙ length-append (inTurn done) words
 
 module _ (ends slice : List ℕ) (x : RoleLent) where
   pub role-within : T (roleFits ends slice x) ↔ RoleWithin ends x
@@ -206,7 +190,7 @@ module _ (ends slice : List ℕ) (x : RoleLent) where
         go R [] rows left is = record {
           halves = R .done;
           is = is ∙ ap compiled (append-nil (R .done));
-          count = omega (arith, round-words (R .done) (omega (arith, R .number, w .even)), R .count, R .number, w .even, w .one-end);
+          count = omega (arith, rounds-words (length ends) (R .done) (omega (arith, R .number, w .even, w .one-end)), R .count, R .number, w .even, w .one-end);
         }
         go R (count ∷ counts) rows left is = absurd (omega (arith, left))
 
