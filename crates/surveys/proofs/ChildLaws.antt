@@ -28,7 +28,8 @@ module _ {create : Bool} {kind : ℕ → ℕ} (p : Pattern) {e e′ : List ℕ} 
   as-matched way s = rw way s
 
 -- e : E(key, p)
-module _ (rows : List ℕ) (row word : ℕ) (asked : StandsAt rows row word) (five : patternFields word .tag ≡ 5) (child : ℕ) (first : child ≡ getD (patternFields word .slots) 0 0) {create : Bool} {kind : ℕ → ℕ} where
+module _ (rows : List ℕ) (row word : ℕ) (asked : StandsAt rows row word) (five : patternFields word .tag ≡ 5)
+    (child : ℕ) (first : child ≡ getD (patternFields word .slots) 0 0) {create : Bool} {kind : ℕ → ℕ} where
   module _ (v : ℕ) (variable : v ≡ patternFields word .v) {e e₁ e₂ e₃ : List ℕ} where
     pub encryption-created : create ≡ true → Surveys kind (creatingKeyLooks row (keyBy (patternFields word))) e e₁ → Surveys kind (creatingLooks (patternIn rows child)) e₁ e₂
         → Quiet (writeObject row v) 0 e₂ e₃ → Surveys kind (looksOf create (patternIn rows row)) e e₃

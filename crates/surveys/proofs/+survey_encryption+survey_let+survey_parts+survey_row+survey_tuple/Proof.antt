@@ -284,7 +284,9 @@ module _ (t : ℕ) where
       (omega (arith, s .pre .0, below), (stands-below (s .pre .1 .0 .stands) below, c .before .free-raw .ensures .long ∙ s .pre .1 .1 .0))
 
   survey-let-read-raw-requires : survey-let-lts.Need-read-raw-requires survey-let-callees (survey-let-at t) survey-let.Post
-  survey-let-read-raw-requires c κs = c .before .survey-row3 .ensures .long ∙ c .before .before .before .free-raw .ensures .long ∙ c .before .before .before .before .before .before .before .before .pre .1 .1 .0
+  survey-let-read-raw-requires c κs =
+      let freed = c .before .before .before in
+      c .before .survey-row3 .ensures .long ∙ freed .free-raw .ensures .long ∙ freed .before .before .before .before .before .pre .1 .1 .0
 
   survey-let-array-read-survey-row-4 : survey-let-lts.Need-array-read-survey-row-4 survey-let-callees (survey-let-at t) survey-let.Post
   survey-let-array-read-survey-row-4 c = search needs

@@ -54,8 +54,12 @@ found-requires c κs = search needs
 
 returns : tie.Need-returns
 returns c =
-    let s = c .before .before .before .before .before .before .before .before .before .before .before in
-    let d = rw (laid (pattern s) 96 0 (c .before .before .before .before .before .before .before .before .no-rows .ensures) (c .before .before .before .before .before .before .lay-rows .ensures), c .before .before .before .before .before .all-kinds .ensures) at (c .before .survey-row .ensures) in
+    let walked = c .before in
+    let copied = walked .before .before .before .before in
+    let placed = copied .before in
+    let made = placed .before .before in
+    let s = made .before .before .before in
+    let d = rw (laid (pattern s) 96 0 (made .no-rows .ensures) (placed .lay-rows .ensures), copied .all-kinds .ensures) at (walked .survey-row .ensures) in
     c .found .ensures ∙ pattern-found (create s) (pattern s) (kinds s) (root-pattern (pattern s) (passes s .lengths .least) (passes s .lengths .most)) d
 
 pub survey-spec : {M : Type 1} → statement M

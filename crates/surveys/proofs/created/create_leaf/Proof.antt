@@ -45,28 +45,44 @@ create-hash-requires : tie.Need-create-hash-requires
 create-hash-requires c κs = search leaf-asks
 
 returns : tie.Need-returns
-returns c = leaf-object creatingLooks _ _ _ (c .before .before .before .before .before .pre .0) (c .before .before .before .before .tag .ensures) _ (c .before .before .before .variable .ensures) (c .before .before .match .keys1) (c .create-variable .ensures)
+returns c =
+    let m = c .before .before in
+    leaf-object creatingLooks _ _ _ (m .before .before .before .pre .0) (m .before .before .tag .ensures) _ (m .before .variable .ensures)
+    (m .match .keys1) (c .create-variable .ensures)
 
 returns-2 : tie.Need-returns-2
-returns-2 c = leaf-raw creatingLooks _ _ _ (c .before .before .before .before .before .before .pre .0) (c .before .before .before .before .before .tag .ensures) _ (c .before .raw .ensures) (c .before .before .before .match .keys2) (looks-read-raw (raw-low _ _ (c .before .raw .ensures)) (c .read-raw .ensures))
+returns-2 c =
+    let m = c .before .before .before in
+    leaf-raw creatingLooks _ _ _ (m .before .before .before .pre .0) (m .before .before .tag .ensures) _ (c .before .raw .ensures)
+    (m .match .keys2) (looks-read-raw (raw-low _ _ (c .before .raw .ensures)) (c .read-raw .ensures))
 
 returns-3 : tie.Need-returns-3
-returns-3 c = leaf-constant creatingLooks _ _ _ (c .before .before .before .before .before .pre .0) (c .before .before .before .before .tag .ensures) _ (c .before .before .before .variable .ensures) (c .before .before .match .keys3) (looks-write (c .write-object .ensures))
+returns-3 c =
+    let m = c .before .before in
+    leaf-constant creatingLooks _ _ _ (m .before .before .before .pre .0) (m .before .before .tag .ensures) _ (m .before .variable .ensures)
+    (m .match .keys3) (looks-write (c .write-object .ensures))
 
 returns-4 : tie.Need-returns-4
-returns-4 c = leaf-opposite creatingLooks _ _ _ (c .before .before .before .before .before .before .pre .0) (c .before .before .before .before .before .tag .ensures) _ (c .before .before .before .before .variable .ensures) _ (c .before .y .ensures) (c .before .before .before .match .keys4) (c .create-opposite .ensures)
+returns-4 c =
+    let m = c .before .before .before in
+    leaf-opposite creatingLooks _ _ _ (m .before .before .before .pre .0) (m .before .before .tag .ensures) _ (m .before .variable .ensures) _ (c .before .y .ensures)
+    (m .match .keys4) (c .create-opposite .ensures)
 
 returns-5 : tie.Need-returns-5
-returns-5 c = leaf-key-of creatingLooks _ _ _ (c .before .before .before .before .before .before .pre .0) (c .before .before .before .before .before .tag .ensures) _ (c .before .before .before .before .variable .ensures) _ (c .before .y2 .ensures) (c .before .before .before .match .keys5) (c .derive-key .ensures _)
+returns-5 c =
+    let m = c .before .before .before in
+    leaf-key-of creatingLooks _ _ _ (m .before .before .before .pre .0) (m .before .before .tag .ensures) _ (m .before .variable .ensures) _ (c .before .y2 .ensures)
+    (m .match .keys5) (c .derive-key .ensures _)
 
 returns-6 : tie.Need-returns-6
 returns-6 c = search needs
 
 returns-7 : tie.Need-returns-7
 returns-7 c =
-    let n = c .before .before .before .match .rest in
-    leaf-hash creatingLooks _ _ _ (c .before .before .before .before .before .before .pre .0) (c .before .before .before .before .before .tag .ensures) _ (c .before .before .before .before .variable .ensures) _ (c .before .raw2 .ensures) (c .before .before .before .before .before .before .pre .1 .1) (n .0 .0 .0 .0 .0 .1) (n .0 .0 .0 .0 .1) (n .0 .0 .0 .1) (n .0 .0 .1) (n .0 .1) (n .1)
-    (c .create-hash .ensures _)
+    let m = c .before .before .before in
+    let n = m .match .rest in
+    leaf-hash creatingLooks _ _ _ (m .before .before .before .pre .0) (m .before .before .tag .ensures) _ (m .before .variable .ensures) _ (c .before .raw2 .ensures)
+    (m .before .before .before .pre .1 .1) (n .0 .0 .0 .0 .0 .1) (n .0 .0 .0 .0 .1) (n .0 .0 .0 .1) (n .0 .0 .1) (n .0 .1) (n .1) (c .create-hash .ensures _)
 
 pub create-leaf-spec : {M : Type 1} → statement M
 create-leaf-spec =

@@ -18,7 +18,10 @@ read-raw-requires : tie.Need-read-raw-requires
 read-raw-requires c κs = search needs
 
 write-object-requires : tie.Need-write-object-requires
-write-object-requires c κs = (c .before .read-raw .ensures .long ∙ c .before .before .before .create-key .ensures .long ∙ c .before .before .before .before .before .before .before .pre .1 .0, variable-low _ _ (c .before .before .before .before .before .before .variable .ensures))
+write-object-requires c κs =
+    let keyed = c .before .before .before in
+    let s = keyed .before .before .before .before in
+    (c .before .read-raw .ensures .long ∙ keyed .create-key .ensures .long ∙ s .pre .1 .0, variable-low _ _ (keyed .before .before .before .variable .ensures))
 
 returns : tie.Need-returns
 returns c = search (signed-created)

@@ -17,7 +17,10 @@ y-requires : tie.Need-y-requires
 y-requires c κs = search needs
 
 create-opposite-requires : tie.Need-create-opposite-requires
-create-opposite-requires c κs = let s = c .before .before .before .before .before in (s .pre .0, (key-low _ (s .pre .1) _ (c .before .before .before .before .key .ensures), second-low _ _ (c .y .ensures)))
+create-opposite-requires c κs =
+    let read = c .before .before .before .before in
+    let s = read .before in
+    (s .pre .0, (key-low _ (s .pre .1) _ (read .key .ensures), second-low _ _ (c .y .ensures)))
 
 y-requires-2 : tie.Need-y-requires-2
 y-requires-2 c κs = search needs

@@ -45,28 +45,44 @@ match-hash-requires : tie.Need-match-hash-requires
 match-hash-requires c κs = search leaf-asks
 
 returns : tie.Need-returns
-returns c = λ kind. leaf-object matchingLooks _ _ _ (c .before .before .before .before .before .pre .0) (c .before .before .before .before .tag .ensures) _ (c .before .before .before .variable .ensures) (c .before .before .match .keys1) (c .match-object .ensures kind)
+returns c =
+    let m = c .before .before in
+    λ kind. leaf-object matchingLooks _ _ _ (m .before .before .before .pre .0) (m .before .before .tag .ensures) _ (m .before .variable .ensures)
+    (m .match .keys1) (c .match-object .ensures kind)
 
 returns-2 : tie.Need-returns-2
-returns-2 c = λ kind. leaf-raw matchingLooks _ _ _ (c .before .before .before .before .before .before .pre .0) (c .before .before .before .before .before .tag .ensures) _ (c .before .raw .ensures) (c .before .before .before .match .keys2) (c .match-raw .ensures kind)
+returns-2 c =
+    let m = c .before .before .before in
+    λ kind. leaf-raw matchingLooks _ _ _ (m .before .before .before .pre .0) (m .before .before .tag .ensures) _ (c .before .raw .ensures)
+    (m .match .keys2) (c .match-raw .ensures kind)
 
 returns-3 : tie.Need-returns-3
-returns-3 c = λ kind. leaf-constant matchingLooks _ _ _ (c .before .before .before .before .before .pre .0) (c .before .before .before .before .tag .ensures) _ (c .before .before .before .variable .ensures) (c .before .before .match .keys3) (looks-write (c .write-object .ensures))
+returns-3 c =
+    let m = c .before .before in
+    λ kind. leaf-constant matchingLooks _ _ _ (m .before .before .before .pre .0) (m .before .before .tag .ensures) _ (m .before .variable .ensures)
+    (m .match .keys3) (looks-write (c .write-object .ensures))
 
 returns-4 : tie.Need-returns-4
-returns-4 c = λ kind. leaf-opposite matchingLooks _ _ _ (c .before .before .before .before .before .before .pre .0) (c .before .before .before .before .before .tag .ensures) _ (c .before .before .before .before .variable .ensures) _ (c .before .y .ensures) (c .before .before .before .match .keys4) (c .derive-key .ensures kind)
+returns-4 c =
+    let m = c .before .before .before in
+    λ kind. leaf-opposite matchingLooks _ _ _ (m .before .before .before .pre .0) (m .before .before .tag .ensures) _ (m .before .variable .ensures) _ (c .before .y .ensures)
+    (m .match .keys4) (c .derive-key .ensures kind)
 
 returns-5 : tie.Need-returns-5
-returns-5 c = λ kind. leaf-key-of matchingLooks _ _ _ (c .before .before .before .before .before .before .pre .0) (c .before .before .before .before .before .tag .ensures) _ (c .before .before .before .before .variable .ensures) _ (c .before .y2 .ensures) (c .before .before .before .match .keys5) (c .match-key-of .ensures kind)
+returns-5 c =
+    let m = c .before .before .before in
+    λ kind. leaf-key-of matchingLooks _ _ _ (m .before .before .before .pre .0) (m .before .before .tag .ensures) _ (m .before .variable .ensures) _ (c .before .y2 .ensures)
+    (m .match .keys5) (c .match-key-of .ensures kind)
 
 returns-6 : tie.Need-returns-6
 returns-6 c = search needs
 
 returns-7 : tie.Need-returns-7
 returns-7 c =
-    let n = c .before .before .before .match .rest in
-    λ kind. leaf-hash matchingLooks _ _ _ (c .before .before .before .before .before .before .pre .0) (c .before .before .before .before .before .tag .ensures) _ (c .before .before .before .before .variable .ensures) _ (c .before .raw2 .ensures) (c .before .before .before .before .before .before .pre .1 .1) (n .0 .0 .0 .0 .0 .1) (n .0 .0 .0 .0 .1) (n .0 .0 .0 .1) (n .0 .0 .1) (n .0 .1) (n .1)
-    (c .match-hash .ensures kind)
+    let m = c .before .before .before in
+    let n = m .match .rest in
+    λ kind. leaf-hash matchingLooks _ _ _ (m .before .before .before .pre .0) (m .before .before .tag .ensures) _ (m .before .variable .ensures) _ (c .before .raw2 .ensures)
+    (m .before .before .before .pre .1 .1) (n .0 .0 .0 .0 .0 .1) (n .0 .0 .0 .0 .1) (n .0 .0 .0 .1) (n .0 .0 .1) (n .0 .1) (n .1) (c .match-hash .ensures kind)
 
 pub match-leaf-spec : {M : Type 1} → statement M
 match-leaf-spec =

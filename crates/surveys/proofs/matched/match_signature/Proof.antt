@@ -30,10 +30,17 @@ y-requires : tie.Need-y-requires
 y-requires c κs = search needs
 
 derive-key-requires : tie.Need-derive-key-requires
-derive-key-requires c κs = let s = c .before .before .before .before .before .before .before .before .before in (c .before .before .before .before .write-object .ensures .long ∙ s .pre .1 .0, key-low _ (signature-key (s .pre .0) (s .pre .1 .1)) _ (c .before .before .before .before .before .before .before .before .key .ensures))
+derive-key-requires c κs =
+    let written = c .before .before .before .before in
+    let read = written .before .before .before .before in
+    let s = read .before in
+    (written .write-object .ensures .long ∙ s .pre .1 .0, key-low _ (signature-key (s .pre .0) (s .pre .1 .1)) _ (read .key .ensures))
 
 read-raw-requires-2 : tie.Need-read-raw-requires-2
-read-raw-requires-2 c κs = c .before .derive-key .ensures (λ x. x) .long ∙ c .before .before .before .before .before .before .write-object .ensures .long ∙ c .before .before .before .before .before .before .before .before .before .before .before .pre .1 .0
+read-raw-requires-2 c κs =
+    let written = c .before .before .before .before .before .before in
+    let s = written .before .before .before .before .before in
+    c .before .derive-key .ensures (λ x. x) .long ∙ written .write-object .ensures .long ∙ s .pre .1 .0
 
 returns : tie.Need-returns
 returns c = search (signed-plain)
