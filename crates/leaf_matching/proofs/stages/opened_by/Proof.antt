@@ -1,0 +1,62 @@
+-- `leaf_matching::stages::opened_by` meets its contract, a way out at a time.
+use Rattle.leaf_matching.proofs.StageLaws.{stage-stuck, stage-full, open-unset, open-not, open-row}
+use borrow.Author.Needs.{needs}
+use Rattle.leaf_matching.proofs.stages.opened_by.Statement.{statement}
+use Rattle.leaf_matching.proofs.stages.opened_by.Tie as tie
+
+enum-known-came : tie.Need-enum-known-came
+enum-known-came c = search needs
+
+enum-known-came-2 : tie.Need-enum-known-came-2
+enum-known-came-2 c = search needs
+
+enum-known-came-3 : tie.Need-enum-known-came-3
+enum-known-came-3 c = search needs
+
+object-at-requires : tie.Need-object-at-requires
+object-at-requires c κs = search needs
+
+returns : tie.Need-returns
+returns c = open-unset _ _ _ _ _ (c .before .before .before .before .came3 .given .1) _ (c .before .before .object-at .ensures) (c .if1 .taken)
+
+decrypt-requires : tie.Need-decrypt-requires
+decrypt-requires c κs = search needs
+
+enum-known-opened : tie.Need-enum-known-opened
+enum-known-opened c = search needs
+
+enum-known-opened-2 : tie.Need-enum-known-opened-2
+enum-known-opened-2 c = search needs
+
+meeting-requires : tie.Need-meeting-requires
+meeting-requires c κs = search needs
+
+returns-2 : tie.Need-returns-2
+returns-2 c = search (stage-stuck)
+
+returns-3 : tie.Need-returns-3
+returns-3 c = search (stage-full)
+
+returns-4 : tie.Need-returns-4
+returns-4 c = open-not _ _ _ _ _ (c .before .before .before .before .before .before .before .before .came3 .given .1) _ (c .before .before .before .before .before .before .object-at .ensures) (c .before .before .before .before .if1 .left) (c .before .before .before .decrypt .ensures) _ (c .before .opened .given .1)
+
+returns-5 : tie.Need-returns-5
+returns-5 c = open-row _ _ _ _ _ (c .before .before .before .before .before .before .before .before .before .came3 .given .1) _ (c .before .before .before .before .before .before .before .object-at .ensures) (c .before .before .before .before .before .if1 .left) (c .before .before .before .before .decrypt .ensures) _ _ (c .before .before .opened2 .given .1) (c .meeting .ensures)
+
+pub opened-by-spec : {M : Type 1} → statement M
+opened-by-spec =
+    tie.close
+    (tie.spec
+    enum-known-came
+    enum-known-came-2
+    enum-known-came-3
+    object-at-requires
+    returns
+    decrypt-requires
+    enum-known-opened
+    enum-known-opened-2
+    meeting-requires
+    returns-2
+    returns-3
+    returns-4
+    returns-5)
