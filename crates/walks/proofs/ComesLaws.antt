@@ -36,6 +36,10 @@ module _ {A : Type 0} {seen : ℕ → Stores rowWorld → A} {used : ℕ} {befor
       → result ≡ got b → Comes seen used before (f b) answer after → Comes seen used before (bind (at row result) f) answer after
   gets f e h = rw e h
 
+  pub answers-as : {B : Type 0} {result other : Answer B} (f : B → Outcome A)
+      → result ≡ other → Comes seen used before (bind (at row other) f) answer after → Comes seen used before (bind (at row result) f) answer after
+  answers-as f e h = rw e h
+
 module _ {A : Type 0} {seen : ℕ → Stores rowWorld → A} {used : ℕ} {before : Slices} (row : ℕ) where
   pub unset-sticks : {o : Option ℕ} (f : ℕ → Outcome A) → o ≡ none → Comes seen used before (bind (need row o) f) (Stuck row Unset) before
   unset-sticks f e = rw e (sticks refl kept-same)

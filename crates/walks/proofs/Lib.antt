@@ -2,3 +2,4 @@
 pub mod ComesLaws
 pub mod StoreLaws
 pub mod MakingLaws
+pub mod KeyLaws

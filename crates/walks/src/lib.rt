@@ -4,6 +4,7 @@ ghost use Rattle.walks.specs.Walks.{meeting};
 use answers::Reason;
 use numbers::TermRow;
 
+pub mod keys;
 pub mod making;
 
 // The message in hand, the rows in use and the name counter.
