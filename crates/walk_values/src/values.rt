@@ -1,7 +1,6 @@
 // A made message becomes the value of a variable that has none.
 ghost use Prim.Native.Nat.{ℕ, _<_};
 ghost use lib.ListN.{length};
-ghost use Rattle.numbers.specs.Kinds.{kindIn};
 ghost use Rattle.theory.specs.World.{Op};
 ghost use Rattle.theory.specs.RowModel.{rowWorld};
 ghost use Rattle.theory.specs.Rules.{makes, made};
@@ -53,7 +52,7 @@ pub fn seal(
 ) -> Walked
     requires { ⌜ Within (now terms) (walk .used) ⌝ }
     requires { ⌜ v .0 < length (now objects) ⌝ }
-    ensures { λ r. ⌜ ((o : Op ℕ) → MakesWord o word → WalksBy message-and-stores (seals (kindIn (now (kinds .entry))) row (v .0) o) walk
+    ensures { λ r. ⌜ ((o : Op ℕ) → MakesWord o word → WalksBy message-and-stores (seals (now (kinds .entry)) row (v .0) o) walk
         (λ x. withTermRows (withObjects x (now (objects .entry))) (now (terms .entry))) r
         (λ x. withTermRows (withObjects x (now (objects .exit))) (now (terms .exit)))) ⌝ }
 {
