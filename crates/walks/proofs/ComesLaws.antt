@@ -70,7 +70,7 @@ kept-then {used} {more} {before} {mid} {after} less one other = record {
 }
 
 -- what goes on from a place in between
-comes-after : {B : Type 0} {later : ℕ → Stores rowWorld → B} {used : ℕ} {before mid after : Slices} (more : ℕ) {p : Outcome B} {answer : Walked}
+pub comes-after : {B : Type 0} {later : ℕ → Stores rowWorld → B} {used : ℕ} {before mid after : Slices} (more : ℕ) {p : Outcome B} {answer : Walked}
     → used ≤ more → Kept used before mid → Comes later more mid p answer after → Comes later used before p answer after
 comes-after more less kept (goes e on k) =
     goes e (record { message = on .message; more = le-trans less (on .more); inside = on .inside }) (kept-then less kept k)

@@ -1,0 +1,3 @@
+-- Laws of the forms with no part.
+pub mod FormLaws
+pub mod LeafLaws

@@ -1,0 +1,2 @@
+-- Figure 3 by the walk.
+pub mod Creation

@@ -1,0 +1,2 @@
+-- The rules for a value that is made.
+pub mod Values
