@@ -12,7 +12,7 @@ pub use delivery::used;
 use knowing::Code;
 use knowing::Finding;
 pub use knowing::set_cells;
-use looking::look;
+pub use looking::look;
 use numbers::limits::VARIABLES;
 use walking::clear;
 pub use walking::no_words;
