@@ -3,7 +3,6 @@ use Prim.Native.Nat.{ℕ, _<_}
 use mathlib.Core.Path.{_≡_, refl, ap, _∙_}
 use mathlib.Core.List.{List}
 use native.Mathlib.Nat.{le-refl}
-use native.Mathlib.Omega.{arith}
 use lib.ListN.{length, getD, set}
 use Rattle.answers.specs.declared.Reason.{Reason}
 use Rattle.answers.specs.declared.Reason.the-variants.{Unset}
@@ -108,7 +107,7 @@ module _ (rows kinds certificates : List ℕ) (w : Walk) (row word : ℕ) (asked
         let-second none within long named₂ put then =
             creates-as kinds w lets (after-next made _ went (frees row _ (named-unset _ _ _ _ (r .0) low read none)
             (then-goes {seen = message-and-stores} (λ p. creation kinds (patternIn rows other) (p .1)) {w = next}
-            (goes (ap (message-and-stores (next .message .0)) (stores-named (next .message .0) (next .message .0) objects₁ named₁ _ (next .message .0) (next-message made went) (r .0) low (rw long low)))
+            (goes (ap (message-and-stores (next .message .0)) (stores-named _ (next .message .0) objects₁ named₁ _ (next .message .0) (next-message made went) (r .0) low (rw long low)))
             (record { message = next-message made went; more = le-refl (next .used); inside = next-within made went within .used-rows })
             (record { lengths = messages-lengths (whole objects₁ named₁ terms₁) (r .0) (next .message .0); rows = refl }))
             (rw put at then))))

@@ -6,7 +6,7 @@ use native.Mathlib.Nat.{le-refl}
 use native.Mathlib.Numerals.{add-one}
 use native.Mathlib.Omega.{arith}
 use lib.ListN.{length, getD, take, drop, set, length-set}
-use lib.Seq.{drop-cons, drop-length, getD-take, length-take-le, take-suc-set}
+use lib.Seq.{drop-cons, drop-length, getD-take, take-suc-set}
 use Rattle.answers.specs.declared.Reason.{Reason}
 use Rattle.numbers.specs.Kinds.{kindIn}
 use Rattle.numbers.specs.declared.Object.{Object}
@@ -23,8 +23,8 @@ use Rattle.theory.specs.RowModel.{rowWorld}
 use Rattle.theory.specs.Machine.{Stores}
 use Rattle.theory.specs.Rules.{makes, made, createParts}
 use Rattle.world.specs.Operations.{MakesWord}
-use Rattle.machine.specs.Machine.{Slices, slices, withObjects, withTermRows, Within}
-use Rattle.walks.specs.Walks.{storesAt, Kept, Comes, goes, sticks, fills, message-and-stores, WalksBy}
+use Rattle.machine.specs.Machine.{Slices, withObjects, withTermRows, Within}
+use Rattle.walks.specs.Walks.{storesAt, Kept, Comes, sticks, fills, message-and-stores, WalksBy}
 use Rattle.walks.specs.declared.Walk.{Walk}
 use Rattle.walks.specs.declared.Walked.{Walked}
 use Rattle.walks.specs.declared.Walked.the-variants.{Next, Stuck, NoRoom}

@@ -160,7 +160,16 @@ fn create_tuple(
     let mut k: usize = 0;
     while k < count {
         let child = children[k];
-        let made = create_row(rows, kinds, certificates, terms, objects, named, current, child);
+        let made = create_row(
+            rows,
+            kinds,
+            certificates,
+            terms,
+            objects,
+            named,
+            current,
+            child,
+        );
         match made {
             Walked::Next(next) => {
                 current = next;
@@ -203,7 +212,16 @@ fn create_let(
     let children = patterns::slots(word);
     let first = children[0];
     let second = children[1];
-    let bound = create_row(rows, kinds, certificates, terms, objects, named, walk, first);
+    let bound = create_row(
+        rows,
+        kinds,
+        certificates,
+        terms,
+        objects,
+        named,
+        walk,
+        first,
+    );
     match bound {
         Walked::Next(next) => {
             let known = message_at(named, r);
@@ -212,7 +230,16 @@ fn create_let(
             }
             let message = next.message;
             set_message(named, r, message);
-            create_row(rows, kinds, certificates, terms, objects, named, next, second)
+            create_row(
+                rows,
+                kinds,
+                certificates,
+                terms,
+                objects,
+                named,
+                next,
+                second,
+            )
         }
         Walked::Stuck(place, reason) => Walked::Stuck(place, reason),
         Walked::NoRoom(place) => Walked::NoRoom(place),

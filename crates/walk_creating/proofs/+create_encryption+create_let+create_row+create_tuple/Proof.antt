@@ -134,16 +134,25 @@ module _ (t : ℕ) where
   create-encryption-array-read-part c = search needs
 
   create-encryption-create-key-requires : create-encryption-lts.Need-create-key-requires create-encryption-callees (create-encryption-at t) create-encryption.Post
-  create-encryption-create-key-requires c κs = let s = c .before .before .before .before .before .before .before .before .before .pre .1 in (encryption-key (s .0) (s .1 .0), (s .1 .1 .0, s .1 .1 .1 .0))
+  create-encryption-create-key-requires c κs = let s = c .before .before .before .before .before .before .before .before .before .pre .1 in (
+    encryption-key (s .0) (s .1 .0),
+    (
+      s .1 .1 .0,
+      s
+          .1 .1 .1 .0,
+    ),
+  )
 
   create-encryption-enum-known-keyed : create-encryption-lts.Need-enum-known-keyed create-encryption-callees (create-encryption-at t) create-encryption.Post
   create-encryption-enum-known-keyed c = search needs
 
   create-encryption-create-row-requires : create-encryption-lts.Need-create-row-requires create-encryption-callees (create-encryption-at t) create-encryption.Post
-  create-encryption-create-row-requires c κs = 
+  create-encryption-create-row-requires c κs =
       let s = c .before .before .before .before .before .before .before .before .before .before .before .before .before .before .before .before .before .before .before .before .before .pre in
-      let low = encryption-child (s .1 .0) _ (slot _ _ 0 (c .before .before .before .before .before .before .before .before .before .before .before .before .before .before .slots .ensures)) (s .1 .1 .0) in
-      let asked = key-asks _ _ _ _ _ _ _ _ _ _ (c .before .before .before .before .before .before .before .before .before .before .before .create-key .ensures) _ (c .before .before .before .before .before .keyed .given .1) (s .1 .1 .1 .0) (s .1 .1 .1 .1 .0) in
+      let low = encryption-child (s .1 .0) _ (slot _ _ 0 (c .before .before .before .before .before .before .before .before .before .before .before .before .before .before .slots .ensures))
+      (s .1 .1 .0) in
+      let asked = key-asks _ _ _ _ _ _ _ _ _ _ (c .before .before .before .before .before .before .before .before .before .before .before .create-key .ensures) _ (c .before .before .before
+      .before .before .keyed .given .1) (s .1 .1 .1 .0) (s .1 .1 .1 .1 .0) in
       (omega (arith, s .0, low), (stands-below (s .1 .0 .stands) low, (asked .0, (asked .1, s .1 .1 .1 .1 .1))))
 
   create-encryption-enum-known-inner : create-encryption-lts.Need-enum-known-inner create-encryption-callees (create-encryption-at t) create-encryption.Post
@@ -153,11 +162,23 @@ module _ (t : ℕ) where
   create-encryption-encrypt-requires c κs = search needs
 
   create-encryption-seal-requires : create-encryption-lts.Need-seal-requires create-encryption-callees (create-encryption-at t) create-encryption.Post
-  create-encryption-seal-requires c κs = 
-      let s = c .before .before .before .before .before .before .before .before .before .before .before .before .before .before .before .before .before .before .before .before .before .before .before .before .before .before .before .before .before .before .before .before .before .before .before .pre .1 in
-      let asked = key-asks _ _ _ _ _ _ _ _ _ _ (c .before .before .before .before .before .before .before .before .before .before .before .before .before .before .before .before .before .before .before .before .before .before .before .before .before .create-key .ensures) _ (c .before .before .before .before .before .before .before .before .before .before .before .before .before .before .before .before .before .before .before .keyed .given .1) (s .1 .1 .0) (s .1 .1 .1 .0) in
-      let part = c .before .before .before .before .before .before .before .before .before .before .before .before .before .create-row .ensures in
-      (next-within part (c .before .before .before .before .before .inner .given .1) (asked .0), omega (arith, next-kept part .lengths .objects-length, asked .1, variable-low _ _ (c .before .before .before .before .before .before .before .before .before .before .before .before .before .before .before .before .before .before .before .before .before .before .before .before .before .before .before .before .before .variable .ensures)))
+  create-encryption-seal-requires c κs =
+      let s = c .before .before .before .before .before .before .before .before .before .before .before .before .before .before .before .before .before .before .before .before .before
+      .before .before .before .before .before .before .before .before .before .before .before .before .before .before .pre .1 in
+      let asked = key-asks _ _ _ _ _ _ _ _ _ _ (c .before .before .before .before .before .before .before .before .before .before .before .before .before .before .before .before .before
+      .before .before .before .before .before .before .before .before .create-key .ensures) _ (c .before .before .before .before .before .before .before .before .before .before .before
+      .before .before .before .before .before .before .before .before .keyed .given .1) (s .1 .1 .0) (s .1 .1 .1 .0) in
+      let part = c .before .before .before .before .before .before .before .before .before .before .before .before .before .create-row .ensures in (
+        next-within part (c .before .before .before .before .before .inner .given .1) (asked .0),
+        omega (
+          arith,
+          next-kept part .lengths .objects-length,
+          asked .1,
+          variable-low _ _ (c .before
+              .before .before .before .before .before .before .before .before .before .before .before .before .before .before .before .before .before .before .before .before .before .before .before
+              .before .before .before .before .before .variable .ensures),
+        ),
+      )
 
   create-encryption-enum-known-inner-2 : create-encryption-lts.Need-enum-known-inner-2 create-encryption-callees (create-encryption-at t) create-encryption.Post
   create-encryption-enum-known-inner-2 c = search needs
@@ -172,19 +193,31 @@ module _ (t : ℕ) where
   create-encryption-enum-known-keyed-3 c = search needs
 
   create-encryption-same-length : create-encryption-lts.Need-same-length create-encryption-callees (create-encryption-at t) create-encryption.Post
-  create-encryption-same-length c = c .before .before .before .before .seal .kept .1 .0 ∙ c .before .before .before .before .before .before .before .before .before .before .before .before .before .before .before .before .before .before .create-row .kept .1 .1 .1 .0 ∙ c .before .before .before .before .before .before .before .before .before .before .before .before .before .before .before .before .before .before .before .before .before .before .before .before .before .before .before .before .before .before .create-key .kept .1 .1 .0
+  create-encryption-same-length c = c .before .before .before .before .seal .kept .1 .0 ∙ c .before .before .before .before .before .before .before .before .before .before .before .before
+      .before .before .before .before .before .before .create-row .kept .1 .1 .1 .0 ∙ c .before .before .before .before .before .before .before .before .before .before .before .before
+      .before .before .before .before .before .before .before .before .before .before .before .before .before .before .before .before .before .before .create-key .kept .1 .1 .0
 
   create-encryption-same-length-2 : create-encryption-lts.Need-same-length-2 create-encryption-callees (create-encryption-at t) create-encryption.Post
-  create-encryption-same-length-2 c = c .before .before .before .before .seal .kept .1 .1 .0 ∙ c .before .before .before .before .before .before .before .before .before .before .before .before .before .before .before .before .before .before .create-row .kept .1 .1 .1 .1 .0 ∙ c .before .before .before .before .before .before .before .before .before .before .before .before .before .before .before .before .before .before .before .before .before .before .before .before .before .before .before .before .before .before .create-key .kept .1 .1 .1 .0
+  create-encryption-same-length-2 c = c .before .before .before .before .seal .kept .1 .1 .0 ∙ c .before .before .before .before .before .before .before .before .before .before .before
+      .before .before .before .before .before .before .before .create-row .kept .1 .1 .1 .1 .0 ∙ c .before .before .before .before .before .before .before .before .before .before .before
+      .before .before .before .before .before .before .before .before .before .before .before .before .before .before .before .before .before .before .before .create-key .kept .1 .1 .1 .0
 
   create-encryption-same-length-3 : create-encryption-lts.Need-same-length-3 create-encryption-callees (create-encryption-at t) create-encryption.Post
   create-encryption-same-length-3 c = search needs
 
   create-encryption-returns : create-encryption-lts.Need-returns create-encryption-callees (create-encryption-at t) create-encryption.Post
-  create-encryption-returns c = 
-      let s = c .before .before .before .before .before .before .before .before .before .before .before .before .before .before .before .before .before .before .before .before .before .before .before .before .before .before .before .before .before .before .before .before .before .before .before .before .before .before .before .before .pre .1 in
-      part-sealed _ _ _ _ _ _ (s .0) _ _ _ (s .1 .0) _ (c .before .before .before .before .before .before .before .before .before .before .before .before .before .before .before .before .before .before .before .before .before .before .before .before .before .before .before .before .before .before .before .before .before .before .variable .ensures) _ (slot _ _ 0 (c .before .before .before .before .before .before .before .before .before .before .before .before .before .before .before .before .before .before .before .before .before .before .before .before .before .before .before .before .before .before .before .before .before .slots .ensures)) _ _ _ (c .before .before .before .before .before .before .before .before .before .before .before .before .before .before .before .before .before .before .before .before .before .before .before .before .before .before .before .before .before .before .create-key .ensures)
-      _ (c .before .before .before .before .before .before .before .before .before .before .before .before .before .before .before .before .before .before .before .before .before .before .before .before .keyed .given .1) _ _ _ _ (c .before .before .before .before .before .before .before .before .before .before .before .before .before .before .before .before .before .before .create-row .ensures) _ (c .before .before .before .before .before .before .before .before .before .before .inner .given .1) _ (c .before .before .before .before .before .before .before .encrypt .ensures) (c .before .before .before .before .seal .ensures)
+  create-encryption-returns c =
+      let s = c .before .before .before .before .before .before .before .before .before .before .before .before .before .before .before .before .before .before .before .before .before
+      .before .before .before .before .before .before .before .before .before .before .before .before .before .before .before .before .before .before .before .pre .1 in
+      part-sealed _ _ _ _ _ _ (s .0) _ _ _ (s .1 .0) _ (c .before .before .before .before .before .before .before .before .before .before .before .before .before .before .before .before
+      .before .before .before .before .before .before .before .before .before .before .before .before .before .before .before .before .before .before .variable .ensures) _ (slot _ _ 0 (c
+      .before .before .before .before .before .before .before .before .before .before .before .before .before .before .before .before .before .before .before .before .before .before .before
+      .before .before .before .before .before .before .before .before .before .before .slots .ensures)) _ _ _ (c .before .before .before .before .before .before .before .before .before
+      .before .before .before .before .before .before .before .before .before .before .before .before .before .before .before .before .before .before .before .before .before .create-key .ensures)
+      _ (c .before .before .before .before .before .before .before .before .before .before .before .before .before .before .before .before .before .before .before .before .before .before
+      .before .before .keyed .given .1) _ _ _ _ (c .before .before .before .before .before .before .before .before .before .before .before .before .before .before .before .before .before
+      .before .create-row .ensures) _ (c .before .before .before .before .before .before .before .before .before .before .inner .given .1) _ (c .before .before .before .before .before
+      .before .before .encrypt .ensures) (c .before .before .before .before .seal .ensures)
 
   create-encryption-same-length-4 : create-encryption-lts.Need-same-length-4 create-encryption-callees (create-encryption-at t) create-encryption.Post
   create-encryption-same-length-4 c = search needs
@@ -196,10 +229,15 @@ module _ (t : ℕ) where
   create-encryption-same-length-6 c = search needs
 
   create-encryption-returns-2 : create-encryption-lts.Need-returns-2 create-encryption-callees (create-encryption-at t) create-encryption.Post
-  create-encryption-returns-2 c = 
-      let s = c .before .before .before .before .before .before .before .before .before .before .before .before .before .before .before .before .before .before .before .before .before .before .before .before .before .before .before .before .before .before .before .pre .1 in
-      part-stuck _ _ _ _ _ _ (s .0) _ _ _ (s .1 .0) _ (c .before .before .before .before .before .before .before .before .before .before .before .before .before .before .before .before .before .before .before .before .before .before .before .before .before .variable .ensures) _ (slot _ _ 0 (c .before .before .before .before .before .before .before .before .before .before .before .before .before .before .before .before .before .before .before .before .before .before .before .before .slots .ensures)) _ _ _ (c .before .before .before .before .before .before .before .before .before .before .before .before .before .before .before .before .before .before .before .before .before .create-key .ensures)
-      _ (c .before .before .before .before .before .before .before .before .before .before .before .before .before .before .before .keyed .given .1) _ _ _ _ (c .before .before .before .before .before .before .before .before .before .create-row .ensures) _ _ (c .before .inner2 .given .1)
+  create-encryption-returns-2 c =
+      let s = c .before .before .before .before .before .before .before .before .before .before .before .before .before .before .before .before .before .before .before .before .before
+      .before .before .before .before .before .before .before .before .before .before .pre .1 in
+      part-stuck _ _ _ _ _ _ (s .0) _ _ _ (s .1 .0) _ (c .before .before .before .before .before .before .before .before .before .before .before .before .before .before .before .before
+      .before .before .before .before .before .before .before .before .before .variable .ensures) _ (slot _ _ 0 (c .before .before .before .before .before .before .before .before .before
+      .before .before .before .before .before .before .before .before .before .before .before .before .before .before .before .slots .ensures)) _ _ _ (c .before .before .before .before
+      .before .before .before .before .before .before .before .before .before .before .before .before .before .before .before .before .before .create-key .ensures)
+      _ (c .before .before .before .before .before .before .before .before .before .before .before .before .before .before .before .keyed .given .1) _ _ _ _ (c .before .before .before
+      .before .before .before .before .before .before .create-row .ensures) _ _ (c .before .inner2 .given .1)
 
   create-encryption-same-length-7 : create-encryption-lts.Need-same-length-7 create-encryption-callees (create-encryption-at t) create-encryption.Post
   create-encryption-same-length-7 c = search needs
@@ -211,10 +249,15 @@ module _ (t : ℕ) where
   create-encryption-same-length-9 c = search needs
 
   create-encryption-returns-3 : create-encryption-lts.Need-returns-3 create-encryption-callees (create-encryption-at t) create-encryption.Post
-  create-encryption-returns-3 c = 
-      let s = c .before .before .before .before .before .before .before .before .before .before .before .before .before .before .before .before .before .before .before .before .before .before .before .before .before .before .before .before .before .before .before .pre .1 in
-      part-full _ _ _ _ _ _ (s .0) _ _ _ (s .1 .0) _ (c .before .before .before .before .before .before .before .before .before .before .before .before .before .before .before .before .before .before .before .before .before .before .before .before .before .variable .ensures) _ (slot _ _ 0 (c .before .before .before .before .before .before .before .before .before .before .before .before .before .before .before .before .before .before .before .before .before .before .before .before .slots .ensures)) _ _ _ (c .before .before .before .before .before .before .before .before .before .before .before .before .before .before .before .before .before .before .before .before .before .create-key .ensures)
-      _ (c .before .before .before .before .before .before .before .before .before .before .before .before .before .before .before .keyed .given .1) _ _ _ _ (c .before .before .before .before .before .before .before .before .before .create-row .ensures) _ (c .before .inner3 .given .1)
+  create-encryption-returns-3 c =
+      let s = c .before .before .before .before .before .before .before .before .before .before .before .before .before .before .before .before .before .before .before .before .before
+      .before .before .before .before .before .before .before .before .before .before .pre .1 in
+      part-full _ _ _ _ _ _ (s .0) _ _ _ (s .1 .0) _ (c .before .before .before .before .before .before .before .before .before .before .before .before .before .before .before .before
+      .before .before .before .before .before .before .before .before .before .variable .ensures) _ (slot _ _ 0 (c .before .before .before .before .before .before .before .before .before
+      .before .before .before .before .before .before .before .before .before .before .before .before .before .before .before .slots .ensures)) _ _ _ (c .before .before .before .before
+      .before .before .before .before .before .before .before .before .before .before .before .before .before .before .before .before .before .create-key .ensures)
+      _ (c .before .before .before .before .before .before .before .before .before .before .before .before .before .before .before .keyed .given .1) _ _ _ _ (c .before .before .before
+      .before .before .before .before .before .before .create-row .ensures) _ (c .before .inner3 .given .1)
 
   create-encryption-same-length-10 : create-encryption-lts.Need-same-length-10 create-encryption-callees (create-encryption-at t) create-encryption.Post
   create-encryption-same-length-10 c = search needs
@@ -223,9 +266,10 @@ module _ (t : ℕ) where
   create-encryption-same-length-11 c = search needs
 
   create-encryption-returns-4 : create-encryption-lts.Need-returns-4 create-encryption-callees (create-encryption-at t) create-encryption.Post
-  create-encryption-returns-4 c = 
+  create-encryption-returns-4 c =
       let s = c .before .before .before .before .before .before .before .before .before .before .before .before .before .before .before .before .before .pre .1 in
-      key-stuck _ _ _ _ _ _ (s .0) _ _ _ (s .1 .0) _ (c .before .before .before .before .before .before .before .before .before .before .before .variable .ensures) _ (slot _ _ 0 (c .before .before .before .before .before .before .before .before .before .before .slots .ensures)) _ _ _ (c .before .before .before .before .before .before .before .create-key .ensures)
+      key-stuck _ _ _ _ _ _ (s .0) _ _ _ (s .1 .0) _ (c .before .before .before .before .before .before .before .before .before .before .before .variable .ensures) _ (slot _ _ 0 (c .before
+      .before .before .before .before .before .before .before .before .before .slots .ensures)) _ _ _ (c .before .before .before .before .before .before .before .create-key .ensures)
       _ _ (c .before .keyed2 .given .1)
 
   create-encryption-same-length-12 : create-encryption-lts.Need-same-length-12 create-encryption-callees (create-encryption-at t) create-encryption.Post
@@ -235,9 +279,10 @@ module _ (t : ℕ) where
   create-encryption-same-length-13 c = search needs
 
   create-encryption-returns-5 : create-encryption-lts.Need-returns-5 create-encryption-callees (create-encryption-at t) create-encryption.Post
-  create-encryption-returns-5 c = 
+  create-encryption-returns-5 c =
       let s = c .before .before .before .before .before .before .before .before .before .before .before .before .before .before .before .before .before .pre .1 in
-      key-full _ _ _ _ _ _ (s .0) _ _ _ (s .1 .0) _ (c .before .before .before .before .before .before .before .before .before .before .before .variable .ensures) _ (slot _ _ 0 (c .before .before .before .before .before .before .before .before .before .before .slots .ensures)) _ _ _ (c .before .before .before .before .before .before .before .create-key .ensures)
+      key-full _ _ _ _ _ _ (s .0) _ _ _ (s .1 .0) _ (c .before .before .before .before .before .before .before .before .before .before .before .variable .ensures) _ (slot _ _ 0 (c .before
+      .before .before .before .before .before .before .before .before .before .slots .ensures)) _ _ _ (c .before .before .before .before .before .before .before .create-key .ensures)
       _ (c .before .keyed3 .given .1)
 
   abbrev create-let-callees : create-let-lts.Claims
@@ -267,7 +312,7 @@ module _ (t : ℕ) where
   create-let-array-read-second c = search needs
 
   create-let-create-row-requires : create-let-lts.Need-create-row-requires create-let-callees (create-let-at t) create-let.Post
-  create-let-create-row-requires c κs = 
+  create-let-create-row-requires c κs =
       let s = c .before .before .before .before .before .before .before .before .before .before .pre in
       let slots = c .before .before .before .slots .ensures in
       let low = let-children (s .1 .0) _ (slot _ _ 0 slots) _ (slot _ _ 1 slots) (s .1 .1 .0) .0 in
@@ -289,25 +334,46 @@ module _ (t : ℕ) where
   create-let-same-length-3 c = search needs
 
   create-let-returns : create-let-lts.Need-returns create-let-callees (create-let-at t) create-let.Post
-  create-let-returns c = 
-      let s = c .before .before .before .before .before .before .before .before .before .before .before .before .before .before .before .before .before .before .before .before .before .before .before .before .pre .1 in
+  create-let-returns c =
+      let s = c .before .before .before .before .before .before .before .before .before .before .before .before .before .before .before .before .before .before .before .before .before
+      .before .before .before .pre .1 in
       let slots = c .before .before .before .before .before .before .before .before .before .before .before .before .before .before .before .before .before .slots .ensures in
       let first = c .before .before .before .before .before .before .before .before .before .before .before .before .before .create-row .ensures in
-      let-set _ _ _ _ _ _ (s .0) _ _ _ (s .1 .0) _ (c .before .before .before .before .before .before .before .before .before .before .before .before .before .before .before .before .before .before .raw .ensures) _ (slot _ _ 0 slots) _ (slot _ _ 1 slots) _ _ _ _ first
+      let-set _ _ _ _ _ _ (s .0) _ _ _ (s .1 .0) _ (c .before .before .before .before .before .before .before .before .before .before .before .before .before .before .before .before .before
+      .before .raw .ensures) _ (slot _ _ 0 slots) _ (slot _ _ 1 slots) _ _ _ _ first
       _ (c .before .before .before .before .before .bound .given .1) _ (c .before .before .message-at .ensures) (c .if1 .taken)
 
   create-let-set-message-requires : create-let-lts.Need-set-message-requires create-let-callees (create-let-at t) create-let.Post
-  create-let-set-message-requires c κs = omega (arith, next-kept (c .before .before .before .before .before .before .before .before .before .before .before .before .before .before .before .create-row .ensures) .lengths .messages-length, c .before .before .before .before .before .before .before .before .before .before .before .before .before .before .before .before .before .before .before .before .before .before .before .before .before .before .pre .1 .1 .1 .1 .1, raw-low _ _ (c .before .before .before .before .before .before .before .before .before .before .before .before .before .before .before .before .before .before .before .before .raw .ensures))
+  create-let-set-message-requires c κs = omega (
+    arith,
+    next-kept (c .before .before .before .before .before .before .before .before .before .before .before .before .before .before .before
+        .create-row .ensures) .lengths .messages-length,
+    c .before .before .before .before .before .before .before .before .before .before .before .before .before .before .before .before
+        .before .before .before .before .before .before .before .before .before .before .pre .1 .1 .1 .1 .1,
+    raw-low _ _ (c .before .before .before .before .before .before .before .before
+        .before .before .before .before .before .before .before .before .before .before .before .before .raw .ensures),
+  )
 
   create-let-create-row-requires-2 : create-let-lts.Need-create-row-requires-2 create-let-callees (create-let-at t) create-let.Post
-  create-let-create-row-requires-2 c κs = 
-      let s = c .before .before .before .before .before .before .before .before .before .before .before .before .before .before .before .before .before .before .before .before .before .before .before .before .before .before .before .before .before .before .before .before .pre in
-      let slots = c .before .before .before .before .before .before .before .before .before .before .before .before .before .before .before .before .before .before .before .before .before .before .before .before .before .slots .ensures in
+  create-let-create-row-requires-2 c κs =
+      let s = c .before .before .before .before .before .before .before .before .before .before .before .before .before .before .before .before .before .before .before .before .before
+      .before .before .before .before .before .before .before .before .before .before .before .pre in
+      let slots = c .before .before .before .before .before .before .before .before .before .before .before .before .before .before .before .before .before .before .before .before .before
+      .before .before .before .before .slots .ensures in
       let low = let-children (s .1 .0) _ (slot _ _ 0 slots) _ (slot _ _ 1 slots) (s .1 .1 .0) .1 in
-      let first = c .before .before .before .before .before .before .before .before .before .before .before .before .before .before .before .before .before .before .before .before .before .create-row .ensures in
-      let long = s .1 .1 .1 .1 in
-      (omega (arith, s .0, low), (stands-below (s .1 .0 .stands) low, (next-within first (c .before .before .before .before .before .before .before .before .before .before .before .before .before .bound .given .1) (s .1 .1 .1 .0),
-      (next-kept first .lengths .objects-length ∙ long .0, c .before .before .before .before .before .set-message .kept .0 ∙ next-kept first .lengths .messages-length ∙ long .1))))
+      let first = c .before .before .before .before .before .before .before .before .before .before .before .before .before .before .before .before .before .before .before .before .before
+      .create-row .ensures in
+      let long = s .1 .1 .1 .1 in (
+        omega (arith, s .0, low),
+        (
+          stands-below (s .1 .0 .stands) low,
+          (
+            next-within first (c .before .before .before .before .before .before .before .before .before .before .before .before
+                .before .bound .given .1) (s .1 .1 .1 .0),
+            (next-kept first .lengths .objects-length ∙ long .0, c .before .before .before .before .before .set-message .kept .0 ∙ next-kept first .lengths .messages-length ∙ long .1),
+          ),
+        ),
+      )
 
   create-let-enum-known-bound-2 : create-let-lts.Need-enum-known-bound-2 create-let-callees (create-let-at t) create-let.Post
   create-let-enum-known-bound-2 c = search needs
@@ -325,12 +391,20 @@ module _ (t : ℕ) where
   create-let-same-length-6 c = search needs
 
   create-let-returns-2 : create-let-lts.Need-returns-2 create-let-callees (create-let-at t) create-let.Post
-  create-let-returns-2 c = 
-      let s = c .before .before .before .before .before .before .before .before .before .before .before .before .before .before .before .before .before .before .before .before .before .before .before .before .before .before .before .before .before .before .before .before .before .before .before .before .before .before .before .pre .1 in
-      let slots = c .before .before .before .before .before .before .before .before .before .before .before .before .before .before .before .before .before .before .before .before .before .before .before .before .before .before .before .before .before .before .before .before .slots .ensures in
-      let first = c .before .before .before .before .before .before .before .before .before .before .before .before .before .before .before .before .before .before .before .before .before .before .before .before .before .before .before .before .create-row .ensures in
-      let-second _ _ _ _ _ _ (s .0) _ _ _ (s .1 .0) _ (c .before .before .before .before .before .before .before .before .before .before .before .before .before .before .before .before .before .before .before .before .before .before .before .before .before .before .before .before .before .before .before .before .before .raw .ensures) _ (slot _ _ 0 slots) _ (slot _ _ 1 slots) _ _ _ _ first
-      _ (c .before .before .before .before .before .before .before .before .before .before .before .before .before .before .before .before .before .before .before .before .bound .given .1) _ (c .before .before .before .before .before .before .before .before .before .before .before .before .before .before .before .before .before .message-at .ensures) (c .before .before .before .before .before .before .before .before .before .before .before .before .before .before .before .if1 .left) (s .1 .1 .0) (next-kept first .lengths .messages-length ∙ s .1 .1 .1 .1) _ (c .before .before .before .before .before .before .before .before .before .before .before .before .set-message .ensures)
+  create-let-returns-2 c =
+      let s = c .before .before .before .before .before .before .before .before .before .before .before .before .before .before .before .before .before .before .before .before .before
+      .before .before .before .before .before .before .before .before .before .before .before .before .before .before .before .before .before .before .pre .1 in
+      let slots = c .before .before .before .before .before .before .before .before .before .before .before .before .before .before .before .before .before .before .before .before .before
+      .before .before .before .before .before .before .before .before .before .before .before .slots .ensures in
+      let first = c .before .before .before .before .before .before .before .before .before .before .before .before .before .before .before .before .before .before .before .before .before
+      .before .before .before .before .before .before .before .create-row .ensures in
+      let-second _ _ _ _ _ _ (s .0) _ _ _ (s .1 .0) _ (c .before .before .before .before .before .before .before .before .before .before .before .before .before .before .before .before
+      .before .before .before .before .before .before .before .before .before .before .before .before .before .before .before .before .before .raw .ensures) _ (slot _ _ 0 slots) _ (slot _
+      _ 1 slots) _ _ _ _ first
+      _ (c .before .before .before .before .before .before .before .before .before .before .before .before .before .before .before .before .before .before .before .before .bound .given .1) _
+      (c .before .before .before .before .before .before .before .before .before .before .before .before .before .before .before .before .before .message-at .ensures) (c .before .before
+      .before .before .before .before .before .before .before .before .before .before .before .before .before .if1 .left) (s .1 .1 .0) (next-kept first .lengths .messages-length ∙ s .1 .1 .1
+      .1) _ (c .before .before .before .before .before .before .before .before .before .before .before .before .set-message .ensures)
       (c .before .before .before .before .before .before .create-row2 .ensures)
 
   create-let-same-length-7 : create-let-lts.Need-same-length-7 create-let-callees (create-let-at t) create-let.Post
@@ -343,11 +417,12 @@ module _ (t : ℕ) where
   create-let-same-length-9 c = search needs
 
   create-let-returns-3 : create-let-lts.Need-returns-3 create-let-callees (create-let-at t) create-let.Post
-  create-let-returns-3 c = 
+  create-let-returns-3 c =
       let s = c .before .before .before .before .before .before .before .before .before .before .before .before .before .before .before .before .before .before .before .before .pre .1 in
       let slots = c .before .before .before .before .before .before .before .before .before .before .before .before .before .slots .ensures in
       let first = c .before .before .before .before .before .before .before .before .before .create-row .ensures in
-      let-stuck _ _ _ _ _ _ (s .0) _ _ _ (s .1 .0) _ (c .before .before .before .before .before .before .before .before .before .before .before .before .before .before .raw .ensures) _ (slot _ _ 0 slots) _ (slot _ _ 1 slots) _ _ _ _ first
+      let-stuck _ _ _ _ _ _ (s .0) _ _ _ (s .1 .0) _ (c .before .before .before .before .before .before .before .before .before .before .before .before .before .before .raw .ensures) _
+      (slot _ _ 0 slots) _ (slot _ _ 1 slots) _ _ _ _ first
       _ _ (c .before .bound2 .given .1)
 
   create-let-same-length-10 : create-let-lts.Need-same-length-10 create-let-callees (create-let-at t) create-let.Post
@@ -360,11 +435,12 @@ module _ (t : ℕ) where
   create-let-same-length-12 c = search needs
 
   create-let-returns-4 : create-let-lts.Need-returns-4 create-let-callees (create-let-at t) create-let.Post
-  create-let-returns-4 c = 
+  create-let-returns-4 c =
       let s = c .before .before .before .before .before .before .before .before .before .before .before .before .before .before .before .before .before .before .before .before .pre .1 in
       let slots = c .before .before .before .before .before .before .before .before .before .before .before .before .before .slots .ensures in
       let first = c .before .before .before .before .before .before .before .before .before .create-row .ensures in
-      let-full _ _ _ _ _ _ (s .0) _ _ _ (s .1 .0) _ (c .before .before .before .before .before .before .before .before .before .before .before .before .before .before .raw .ensures) _ (slot _ _ 0 slots) _ (slot _ _ 1 slots) _ _ _ _ first
+      let-full _ _ _ _ _ _ (s .0) _ _ _ (s .1 .0) _ (c .before .before .before .before .before .before .before .before .before .before .before .before .before .before .raw .ensures) _ (slot
+      _ _ 0 slots) _ (slot _ _ 1 slots) _ _ _ _ first
       _ (c .before .bound3 .given .1)
 
   abbrev create-row-callees : create-row-lts.Claims
@@ -391,27 +467,28 @@ module _ (t : ℕ) where
   create-row-tag-requires c κs = search needs
 
   create-row-create-encryption-requires : create-row-lts.Need-create-encryption-requires create-row-callees (create-row-at t) create-row.Post
-  create-row-create-encryption-requires c κs = 
+  create-row-create-encryption-requires c κs =
       let s = c .before .before .before .before .before .before .before .before .before .before .before .pre in
       (omega (arith, s .0), (record { here = refl; stands = s .1 .0 }, (sym (c .before .before .before .before .tag .ensures) ∙ c .before .before .before .match .keys1, s .1 .1)))
 
   create-row-create-tuple-requires : create-row-lts.Need-create-tuple-requires create-row-callees (create-row-at t) create-row.Post
-  create-row-create-tuple-requires c κs = 
+  create-row-create-tuple-requires c κs =
       let s = c .before .before .before .before .before .before .before .before .before .before .before .pre in
       (omega (arith, s .0), (record { here = refl; stands = s .1 .0 }, (sym (c .before .before .before .before .tag .ensures) ∙ c .before .before .before .match .keys2, s .1 .1)))
 
   create-row-create-let-requires : create-row-lts.Need-create-let-requires create-row-callees (create-row-at t) create-row.Post
-  create-row-create-let-requires c κs = 
+  create-row-create-let-requires c κs =
       let s = c .before .before .before .before .before .before .before .before .before .before .before .pre in
       (omega (arith, s .0), (record { here = refl; stands = s .1 .0 }, (sym (c .before .before .before .before .tag .ensures) ∙ c .before .before .before .match .keys3, s .1 .1)))
 
   create-row-create-leaf-requires : create-row-lts.Need-create-leaf-requires create-row-callees (create-row-at t) create-row.Post
-  create-row-create-leaf-requires c κs = 
+  create-row-create-leaf-requires c κs =
       let s = c .before .before .before .before .before .before .before .before .before .before .before .pre .1 in
       let tag = c .before .before .before .before .tag .ensures in
-      let other = c .before .before .before .match .rest in
-      (record { here = refl; stands = s .0 },
-      (record { encryption = λ h. other .0 .0 .1 (tag ∙ h); tuple = λ h. other .0 .1 (tag ∙ h); letIn = λ h. other .1 (tag ∙ h) }, (s .1 .0, s .1 .1 .0)))
+      let other = c .before .before .before .match .rest in (
+        record { here = refl; stands = s .0 },
+        (record { encryption = λ h. other .0 .0 .1 (tag ∙ h); tuple = λ h. other .0 .1 (tag ∙ h); letIn = λ h. other .1 (tag ∙ h) }, (s .1 .0, s .1 .1 .0)),
+      )
 
   create-row-same-length : create-row-lts.Need-same-length create-row-callees (create-row-at t) create-row.Post
   create-row-same-length c = search needs
@@ -493,15 +570,25 @@ module _ (t : ℕ) where
   create-tuple-loop-holds c = gathered-none _ _ _ _ _ _ (search needs) (c .before .before .before .before .before .before .before .before .pre .1 .1 .1 .0)
 
   create-tuple-array-read-child : create-tuple-lts.Need-array-read-child create-tuple-callees (create-tuple-at t) create-tuple.Post create-tuple-Inv-loop create-tuple-μ-loop
-  create-tuple-array-read-child c = omega (arith, c .loop-test .taken, tuple-few (c .before .before .before .before .before .before .before .before .before .before .pre .1 .0) (c .before .before .before .before .before .before .before .before .before .before .pre .1 .1 .0) _ (c .before .before .count .ensures))
+  create-tuple-array-read-child c = omega (
+    arith,
+    c .loop-test .taken,
+    tuple-few (c .before .before .before .before .before .before .before .before .before .before .pre .1 .0) (c .before
+        .before .before .before .before .before .before .before .before .before .pre .1 .1 .0) _ (c .before .before .count .ensures),
+  )
 
   create-tuple-create-row-requires : create-tuple-lts.Need-create-row-requires create-tuple-callees (create-tuple-at t) create-tuple.Post create-tuple-Inv-loop create-tuple-μ-loop
-  create-tuple-create-row-requires c κs = 
+  create-tuple-create-row-requires c κs =
       let s = c .before .before .before .before .before .before .before .before .before .before .before .before .before .pre in
       let inv = c .before .before .before .before .loop .inv in
-      let low = part-low (s .1 .0) (s .1 .1 .0) _ (c .before .before .before .before .before .count .ensures) _ _ (slot _ _ _ (c .before .before .before .before .before .before .slots .ensures)) (c .before .before .before .loop-test .taken) in
-      (omega (arith, s .0, low), (stands-below (s .1 .0 .stands) low,
-      (inv .within, (inv .kept .lengths .objects-length ∙ s .1 .1 .1 .1 .0, inv .kept .lengths .messages-length ∙ s .1 .1 .1 .1 .1))))
+      let low = part-low (s .1 .0) (s .1 .1 .0) _ (c .before .before .before .before .before .count .ensures) _ _ (slot _ _ _ (c .before .before .before .before .before .before .slots
+      .ensures)) (c .before .before .before .loop-test .taken) in (
+        omega (arith, s .0, low),
+        (
+          stands-below (s .1 .0 .stands) low,
+          (inv .within, (inv .kept .lengths .objects-length ∙ s .1 .1 .1 .1 .0, inv .kept .lengths .messages-length ∙ s .1 .1 .1 .1 .1)),
+        ),
+      )
 
   create-tuple-enum-known-made : create-tuple-lts.Need-enum-known-made create-tuple-callees (create-tuple-at t) create-tuple.Post create-tuple-Inv-loop create-tuple-μ-loop
   create-tuple-enum-known-made c = search needs
@@ -510,43 +597,82 @@ module _ (t : ℕ) where
   create-tuple-enum-known-made-2 c = search needs
 
   create-tuple-same-length : create-tuple-lts.Need-same-length create-tuple-callees (create-tuple-at t) create-tuple.Post create-tuple-Inv-loop create-tuple-μ-loop
-  create-tuple-same-length c = next-kept (c .before .before .before .before .before .before .before .before .before .create-row .ensures) .lengths .rows-length ∙ c .before .before .before .before .before .before .before .before .before .before .before .before .before .before .loop .inv .kept .lengths .rows-length
+  create-tuple-same-length c = next-kept (c .before .before .before .before .before .before .before .before .before .create-row .ensures) .lengths .rows-length ∙ c .before .before .before
+      .before .before .before .before .before .before .before .before .before .before .before .loop .inv .kept .lengths .rows-length
 
   create-tuple-same-length-2 : create-tuple-lts.Need-same-length-2 create-tuple-callees (create-tuple-at t) create-tuple.Post create-tuple-Inv-loop create-tuple-μ-loop
-  create-tuple-same-length-2 c = next-kept (c .before .before .before .before .before .before .before .before .before .create-row .ensures) .lengths .objects-length ∙ c .before .before .before .before .before .before .before .before .before .before .before .before .before .before .loop .inv .kept .lengths .objects-length
+  create-tuple-same-length-2 c = next-kept (c .before .before .before .before .before .before .before .before .before .create-row .ensures) .lengths .objects-length ∙ c .before .before
+      .before .before .before .before .before .before .before .before .before .before .before .before .loop .inv .kept .lengths .objects-length
 
   create-tuple-same-length-3 : create-tuple-lts.Need-same-length-3 create-tuple-callees (create-tuple-at t) create-tuple.Post create-tuple-Inv-loop create-tuple-μ-loop
-  create-tuple-same-length-3 c = next-kept (c .before .before .before .before .before .before .before .before .before .create-row .ensures) .lengths .messages-length ∙ c .before .before .before .before .before .before .before .before .before .before .before .before .before .before .loop .inv .kept .lengths .messages-length
+  create-tuple-same-length-3 c = next-kept (c .before .before .before .before .before .before .before .before .before .create-row .ensures) .lengths .messages-length ∙ c .before .before
+      .before .before .before .before .before .before .before .before .before .before .before .before .loop .inv .kept .lengths .messages-length
 
   create-tuple-returns : create-tuple-lts.Need-returns create-tuple-callees (create-tuple-at t) create-tuple.Post create-tuple-Inv-loop create-tuple-μ-loop
-  create-tuple-returns c = 
-      let s = c .before .before .before .before .before .before .before .before .before .before .before .before .before .before .before .before .before .before .before .before .before .before .before .pre .1 in
-      tuple-stuck _ _ _ _ _ _ (s .0) (s .1 .0) _ (c .before .before .before .before .before .before .before .before .before .before .before .before .before .before .loop .inv) (omega (arith, c .before .before .before .before .before .before .before .before .before .before .before .before .before .loop-test .taken, c .before .before .before .before .before .before .before .before .before .before .before .before .before .before .before .count .ensures)) _ (slot _ _ _ (c .before .before .before .before .before .before .before .before .before .before .before .before .before .before .before .before .slots .ensures)) _ (c .before .before .before .before .before .before .before .before .before .create-row .ensures)
-      _ (c .before .before .before .before .before .before .before .before .before .before .before .before .before .before .before .before .before .variable .ensures) _ _ (c .before .made2 .given .1)
+  create-tuple-returns c =
+      let s = c .before .before .before .before .before .before .before .before .before .before .before .before .before .before .before .before .before .before .before .before .before
+      .before .before .pre .1 in
+      tuple-stuck _ _ _ _ _ _ (s .0) (s .1 .0) _ (c .before .before .before .before .before .before .before .before .before .before .before .before .before .before .loop .inv) (omega (
+        arith,
+        c .before .before .before .before .before .before .before .before .before .before .before .before .before .loop-test .taken,
+        c .before .before .before .before .before .before
+            .before .before .before .before .before .before .before .before .before .count .ensures,
+      )) _ (slot _ _ _ (c .before .before .before .before .before .before .before .before .before
+      .before .before .before .before .before .before .before .slots .ensures)) _ (c .before .before .before .before .before .before .before .before .before .create-row .ensures)
+      _ (c .before .before .before .before .before .before .before .before .before .before .before .before .before .before .before .before .before .variable .ensures) _ _ (c .before .made2
+      .given .1)
 
   create-tuple-enum-known-made-3 : create-tuple-lts.Need-enum-known-made-3 create-tuple-callees (create-tuple-at t) create-tuple.Post create-tuple-Inv-loop create-tuple-μ-loop
   create-tuple-enum-known-made-3 c = search needs
 
   create-tuple-same-length-4 : create-tuple-lts.Need-same-length-4 create-tuple-callees (create-tuple-at t) create-tuple.Post create-tuple-Inv-loop create-tuple-μ-loop
-  create-tuple-same-length-4 c = next-kept (c .before .before .before .before .before .before .before .before .before .create-row .ensures) .lengths .rows-length ∙ c .before .before .before .before .before .before .before .before .before .before .before .before .before .before .loop .inv .kept .lengths .rows-length
+  create-tuple-same-length-4 c = next-kept (c .before .before .before .before .before .before .before .before .before .create-row .ensures) .lengths .rows-length ∙ c .before .before .before
+      .before .before .before .before .before .before .before .before .before .before .before .loop .inv .kept .lengths .rows-length
 
   create-tuple-same-length-5 : create-tuple-lts.Need-same-length-5 create-tuple-callees (create-tuple-at t) create-tuple.Post create-tuple-Inv-loop create-tuple-μ-loop
-  create-tuple-same-length-5 c = next-kept (c .before .before .before .before .before .before .before .before .before .create-row .ensures) .lengths .objects-length ∙ c .before .before .before .before .before .before .before .before .before .before .before .before .before .before .loop .inv .kept .lengths .objects-length
+  create-tuple-same-length-5 c = next-kept (c .before .before .before .before .before .before .before .before .before .create-row .ensures) .lengths .objects-length ∙ c .before .before
+      .before .before .before .before .before .before .before .before .before .before .before .before .loop .inv .kept .lengths .objects-length
 
   create-tuple-same-length-6 : create-tuple-lts.Need-same-length-6 create-tuple-callees (create-tuple-at t) create-tuple.Post create-tuple-Inv-loop create-tuple-μ-loop
-  create-tuple-same-length-6 c = next-kept (c .before .before .before .before .before .before .before .before .before .create-row .ensures) .lengths .messages-length ∙ c .before .before .before .before .before .before .before .before .before .before .before .before .before .before .loop .inv .kept .lengths .messages-length
+  create-tuple-same-length-6 c = next-kept (c .before .before .before .before .before .before .before .before .before .create-row .ensures) .lengths .messages-length ∙ c .before .before
+      .before .before .before .before .before .before .before .before .before .before .before .before .loop .inv .kept .lengths .messages-length
 
   create-tuple-returns-2 : create-tuple-lts.Need-returns-2 create-tuple-callees (create-tuple-at t) create-tuple.Post create-tuple-Inv-loop create-tuple-μ-loop
-  create-tuple-returns-2 c = 
-      let s = c .before .before .before .before .before .before .before .before .before .before .before .before .before .before .before .before .before .before .before .before .before .before .before .pre .1 in
-      tuple-full _ _ _ _ _ _ (s .0) (s .1 .0) _ (c .before .before .before .before .before .before .before .before .before .before .before .before .before .before .loop .inv) (omega (arith, c .before .before .before .before .before .before .before .before .before .before .before .before .before .loop-test .taken, c .before .before .before .before .before .before .before .before .before .before .before .before .before .before .before .count .ensures)) _ (slot _ _ _ (c .before .before .before .before .before .before .before .before .before .before .before .before .before .before .before .before .slots .ensures)) _ (c .before .before .before .before .before .before .before .before .before .create-row .ensures)
-      _ (c .before .before .before .before .before .before .before .before .before .before .before .before .before .before .before .before .before .variable .ensures) _ (c .before .made3 .given .1)
+  create-tuple-returns-2 c =
+      let s = c .before .before .before .before .before .before .before .before .before .before .before .before .before .before .before .before .before .before .before .before .before
+      .before .before .pre .1 in
+      tuple-full _ _ _ _ _ _ (s .0) (s .1 .0) _ (c .before .before .before .before .before .before .before .before .before .before .before .before .before .before .loop .inv) (omega (
+        arith,
+        c .before .before .before .before .before .before .before .before .before .before .before .before .before .loop-test .taken,
+        c .before .before .before .before .before .before
+            .before .before .before .before .before .before .before .before .before .count .ensures,
+      )) _ (slot _ _ _ (c .before .before .before .before .before .before .before .before .before
+      .before .before .before .before .before .before .before .slots .ensures)) _ (c .before .before .before .before .before .before .before .before .before .create-row .ensures)
+      _ (c .before .before .before .before .before .before .before .before .before .before .before .before .before .before .before .before .before .variable .ensures) _ (c .before .made3
+      .given .1)
 
   create-tuple-mul-parts : create-tuple-lts.Need-mul-parts create-tuple-callees (create-tuple-at t) create-tuple.Post create-tuple-Inv-loop create-tuple-μ-loop
-  create-tuple-mul-parts c = omega (arith, c .before .before .before .before .before .before .before .before .before .before .before .before .before .before .loop-test .taken, tuple-few (c .before .before .before .before .before .before .before .before .before .before .before .before .before .before .before .before .before .before .before .before .before .before .before .before .pre .1 .0) (c .before .before .before .before .before .before .before .before .before .before .before .before .before .before .before .before .before .before .before .before .before .before .before .before .pre .1 .1 .0) _ (c .before .before .before .before .before .before .before .before .before .before .before .before .before .before .before .before .count .ensures))
+  create-tuple-mul-parts c = omega (
+    arith,
+    c .before .before .before .before .before .before .before .before .before .before .before .before .before .before .loop-test .taken,
+    tuple-few (c
+        .before .before .before .before .before .before .before .before .before .before .before .before .before .before .before .before .before .before .before .before .before .before .before
+        .before .pre .1 .0) (c .before .before .before .before .before .before .before .before .before .before .before .before .before .before .before .before .before .before .before .before
+        .before .before .before .before .pre .1 .1 .0) _ (c .before .before .before .before .before .before .before .before .before .before .before .before .before .before .before .before
+        .count .ensures),
+  )
 
   create-tuple-array-write-parts : create-tuple-lts.Need-array-write-parts create-tuple-callees (create-tuple-at t) create-tuple.Post create-tuple-Inv-loop create-tuple-μ-loop
-  create-tuple-array-write-parts c = omega (arith, c .before .before .before .before .before .before .before .before .before .before .before .before .before .before .loop-test .taken, tuple-few (c .before .before .before .before .before .before .before .before .before .before .before .before .before .before .before .before .before .before .before .before .before .before .before .before .pre .1 .0) (c .before .before .before .before .before .before .before .before .before .before .before .before .before .before .before .before .before .before .before .before .before .before .before .before .pre .1 .1 .0) _ (c .before .before .before .before .before .before .before .before .before .before .before .before .before .before .before .before .count .ensures), c .before .before .before .before .before .before .before .before .before .before .before .before .before .before .before .loop .inv .four)
+  create-tuple-array-write-parts c = omega (
+    arith,
+    c .before .before .before .before .before .before .before .before .before .before .before .before .before .before .loop-test
+        .taken,
+    tuple-few (c .before .before .before .before .before .before .before .before .before .before .before .before .before .before .before .before .before .before .before .before
+        .before .before .before .before .pre .1 .0) (c .before .before .before .before .before .before .before .before .before .before .before .before .before .before .before .before .before
+        .before .before .before .before .before .before .before .pre .1 .1 .0) _ (c .before .before .before .before .before .before .before .before .before .before .before .before .before
+        .before .before .before .count .ensures),
+    c .before .before .before .before .before .before .before .before .before .before .before .before .before .before .before .loop .inv .four,
+  )
 
   create-tuple-add-k : create-tuple-lts.Need-add-k create-tuple-callees (create-tuple-at t) create-tuple.Post create-tuple-Inv-loop create-tuple-μ-loop
   create-tuple-add-k c = search needs
@@ -555,30 +681,55 @@ module _ (t : ℕ) where
   create-tuple-loop-less c = search needs
 
   create-tuple-loop-again : create-tuple-lts.Need-loop-again create-tuple-callees (create-tuple-at t) create-tuple.Post create-tuple-Inv-loop create-tuple-μ-loop
-  create-tuple-loop-again c = 
-      let s = c .before .before .before .before .before .before .before .before .before .before .before .before .before .before .before .before .before .before .before .before .before .before .before .before .pre .1 in
-      gathered-more _ _ _ _ _ _ (s .0) (s .1 .0) _ (c .before .before .before .before .before .before .before .before .before .before .before .before .before .before .before .loop .inv) (omega (arith, c .before .before .before .before .before .before .before .before .before .before .before .before .before .before .loop-test .taken, c .before .before .before .before .before .before .before .before .before .before .before .before .before .before .before .before .count .ensures)) _ (slot _ _ _ (c .before .before .before .before .before .before .before .before .before .before .before .before .before .before .before .before .before .slots .ensures)) _ (c .before .before .before .before .before .before .before .before .before .before .create-row .ensures)
+  create-tuple-loop-again c =
+      let s = c .before .before .before .before .before .before .before .before .before .before .before .before .before .before .before .before .before .before .before .before .before
+      .before .before .before .pre .1 in
+      gathered-more _ _ _ _ _ _ (s .0) (s .1 .0) _ (c .before .before .before .before .before .before .before .before .before .before .before .before .before .before .before .loop .inv)
+      (omega (
+        arith,
+        c .before .before .before .before .before .before .before .before .before .before .before .before .before .before .loop-test .taken,
+        c .before .before .before .before
+            .before .before .before .before .before .before .before .before .before .before .before .before .count .ensures,
+      )) _ (slot _ _ _ (c .before .before .before .before .before .before
+      .before .before .before .before .before .before .before .before .before .before .before .slots .ensures)) _ (c .before .before .before .before .before .before .before .before .before
+      .before .create-row .ensures)
       _ (c .before .before .made .given .1)
 
   create-tuple-tuple-requires : create-tuple-lts.Need-tuple-requires create-tuple-callees (create-tuple-at t) create-tuple.Post create-tuple-Inv-loop create-tuple-μ-loop
-  create-tuple-tuple-requires c κs = tuple-few (c .before .before .before .before .before .before .before .before .before .before .before .before .pre .1 .0) (c .before .before .before .before .before .before .before .before .before .before .before .before .pre .1 .1 .0) _ (c .before .before .before .before .count .ensures)
+  create-tuple-tuple-requires c κs = tuple-few (c .before .before .before .before .before .before .before .before .before .before .before .before .pre .1 .0) (c .before .before .before
+      .before .before .before .before .before .before .before .before .before .pre .1 .1 .0) _ (c .before .before .before .before .count .ensures)
 
   create-tuple-make-value-requires : create-tuple-lts.Need-make-value-requires create-tuple-callees (create-tuple-at t) create-tuple.Post create-tuple-Inv-loop create-tuple-μ-loop
-  create-tuple-make-value-requires c κs = (c .before .before .before .before .loop .inv .within, omega (arith, c .before .before .before .before .loop .inv .kept .lengths .objects-length, c .before .before .before .before .before .before .before .before .before .before .before .before .before .pre .1 .1 .1 .1 .0, variable-low _ _ (c .before .before .before .before .before .before .before .variable .ensures)))
+  create-tuple-make-value-requires c κs = (
+    c .before .before .before .before .loop .inv .within,
+    omega (
+      arith,
+      c .before .before .before .before .loop .inv .kept .lengths .objects-length,
+      c
+          .before .before .before .before .before .before .before .before .before .before .before .before .before .pre .1 .1 .1 .1 .0,
+      variable-low _ _ (c .before .before .before .before .before
+          .before .before .variable .ensures),
+    ),
+  )
 
   create-tuple-same-length-7 : create-tuple-lts.Need-same-length-7 create-tuple-callees (create-tuple-at t) create-tuple.Post create-tuple-Inv-loop create-tuple-μ-loop
-  create-tuple-same-length-7 c = next-kept (c .before .before .before .before .make-value .ensures (λ v. 0) _ (c .before .before .before .before .before .tuple .ensures) (slices [] [] [] [])) .lengths .rows-length ∙ c .before .before .before .before .before .before .before .before .before .loop .inv .kept .lengths .rows-length
+  create-tuple-same-length-7 c = next-kept (c .before .before .before .before .make-value .ensures (λ v. 0) _ (c .before .before .before .before .before .tuple .ensures)
+      (slices [] [] [] [])) .lengths .rows-length ∙ c .before .before .before .before .before .before .before .before .before .loop .inv .kept .lengths .rows-length
 
   create-tuple-same-length-8 : create-tuple-lts.Need-same-length-8 create-tuple-callees (create-tuple-at t) create-tuple.Post create-tuple-Inv-loop create-tuple-μ-loop
-  create-tuple-same-length-8 c = next-kept (c .before .before .before .before .make-value .ensures (λ v. 0) _ (c .before .before .before .before .before .tuple .ensures) (slices [] [] [] [])) .lengths .objects-length ∙ c .before .before .before .before .before .before .before .before .before .loop .inv .kept .lengths .objects-length
+  create-tuple-same-length-8 c = next-kept (c .before .before .before .before .make-value .ensures (λ v. 0) _ (c .before .before .before .before .before .tuple .ensures)
+      (slices [] [] [] [])) .lengths .objects-length ∙ c .before .before .before .before .before .before .before .before .before .loop .inv .kept .lengths .objects-length
 
   create-tuple-same-length-9 : create-tuple-lts.Need-same-length-9 create-tuple-callees (create-tuple-at t) create-tuple.Post create-tuple-Inv-loop create-tuple-μ-loop
   create-tuple-same-length-9 c = c .before .before .before .before .before .before .before .before .before .loop .inv .kept .lengths .messages-length
 
   create-tuple-returns-3 : create-tuple-lts.Need-returns-3 create-tuple-callees (create-tuple-at t) create-tuple.Post create-tuple-Inv-loop create-tuple-μ-loop
-  create-tuple-returns-3 c = 
+  create-tuple-returns-3 c =
       let s = c .before .before .before .before .before .before .before .before .before .before .before .before .before .before .before .before .before .before .pre .1 in
-      tuple-made _ _ _ _ _ _ (s .0) (s .1 .0) _ (c .before .before .before .before .before .before .before .before .before .loop .inv) _ (c .before .before .before .before .before .before .before .before .before .before .count .ensures) (c .before .before .before .before .before .before .before .before .loop-test .left) _ (c .before .before .before .before .before .before .before .before .before .before .before .before .variable .ensures) _ (c .before .before .before .before .before .tuple .ensures) (c .before .before .before .before .make-value .ensures)
+      tuple-made _ _ _ _ _ _ (s .0) (s .1 .0) _ (c .before .before .before .before .before .before .before .before .before .loop .inv) _ (c .before .before .before .before .before .before
+      .before .before .before .before .count .ensures) (c .before .before .before .before .before .before .before .before .loop-test .left) _ (c .before .before .before .before .before
+      .before .before .before .before .before .before .before .variable .ensures) _ (c .before .before .before .before .before .tuple .ensures) (c .before .before .before .before .make-value
+      .ensures)
 
 pub +create-encryption+create-let+create-row+create-tuple-spec : {M : Type 1} → statement M
 +create-encryption+create-let+create-row+create-tuple-spec =
