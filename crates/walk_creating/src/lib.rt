@@ -156,23 +156,14 @@ fn create_tuple(
     let children = patterns::slots(word);
     let count = patterns::count(word) as usize;
     let mut parts = [0u16; MOST_PARTS];
-    let mut current = walk;
+    let mut here = walk;
     let mut k: usize = 0;
     while k < count {
-        let child = children[k];
-        let made = create_row(
-            rows,
-            kinds,
-            certificates,
-            terms,
-            objects,
-            named,
-            current,
-            child,
-        );
+        let p = children[k];
+        let made = create_row(rows, kinds, certificates, terms, objects, named, here, p);
         match made {
             Walked::Next(next) => {
-                current = next;
+                here = next;
             }
             Walked::Stuck(place, reason) => {
                 return Walked::Stuck(place, reason);
@@ -181,11 +172,11 @@ fn create_tuple(
                 return Walked::NoRoom(place);
             }
         }
-        let part = current.message;
+        let part = here.message;
         parts[k] = part.0;
         k += 1;
     }
-    make_value(terms, objects, current, row, t, world::tuple(parts, count))
+    make_value(terms, objects, here, row, t, world::tuple(parts, count))
 }
 
 // let r = p1 in p2: p1, then r, then p2.
@@ -210,18 +201,9 @@ fn create_let(
 {
     let r = patterns::raw(word);
     let children = patterns::slots(word);
-    let first = children[0];
-    let second = children[1];
-    let bound = create_row(
-        rows,
-        kinds,
-        certificates,
-        terms,
-        objects,
-        named,
-        walk,
-        first,
-    );
+    let p1 = children[0];
+    let p2 = children[1];
+    let bound = create_row(rows, kinds, certificates, terms, objects, named, walk, p1);
     match bound {
         Walked::Next(next) => {
             let known = message_at(named, r);
@@ -230,16 +212,7 @@ fn create_let(
             }
             let message = next.message;
             set_message(named, r, message);
-            create_row(
-                rows,
-                kinds,
-                certificates,
-                terms,
-                objects,
-                named,
-                next,
-                second,
-            )
+            create_row(rows, kinds, certificates, terms, objects, named, next, p2)
         }
         Walked::Stuck(place, reason) => Walked::Stuck(place, reason),
         Walked::NoRoom(place) => Walked::NoRoom(place),

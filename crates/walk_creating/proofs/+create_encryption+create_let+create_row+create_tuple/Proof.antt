@@ -101,11 +101,11 @@ create-tuple-below t =
     create-tuple.Pre
 
 abbrev create-tuple-Inv-loop : create-tuple-lts.InvT-loop
-create-tuple-Inv-loop rows kinds certificates terms₀ objects₀ named₀ row word t children count parts₀ current₀ k₀ terms objects named parts current k =
-    Gathered rows kinds word current₀ (slices objects₀ named₀ terms₀ certificates) k parts current (slices objects named terms certificates)
+create-tuple-Inv-loop rows kinds certificates terms₀ objects₀ named₀ row word t children count parts₀ here₀ k₀ terms objects named parts here k =
+    Gathered rows kinds word here₀ (slices objects₀ named₀ terms₀ certificates) k parts here (slices objects named terms certificates)
 
 abbrev create-tuple-μ-loop : create-tuple-lts.MeasureT-loop
-create-tuple-μ-loop rows kinds certificates terms₀ objects₀ named₀ row word t children count parts₀ current₀ k₀ terms objects named parts current k = count - k
+create-tuple-μ-loop rows kinds certificates terms₀ objects₀ named₀ row word t children count parts₀ here₀ k₀ terms objects named parts here k = count - k
 
 module _ (t : ℕ) where
   abbrev create-encryption-callees : create-encryption-lts.Claims
@@ -305,11 +305,11 @@ module _ (t : ℕ) where
   create-let-slots-requires : create-let-lts.Need-slots-requires create-let-callees (create-let-at t) create-let.Post
   create-let-slots-requires c κs = search needs
 
-  create-let-array-read-first : create-let-lts.Need-array-read-first create-let-callees (create-let-at t) create-let.Post
-  create-let-array-read-first c = search needs
+  create-let-array-read-p1 : create-let-lts.Need-array-read-p1 create-let-callees (create-let-at t) create-let.Post
+  create-let-array-read-p1 c = search needs
 
-  create-let-array-read-second : create-let-lts.Need-array-read-second create-let-callees (create-let-at t) create-let.Post
-  create-let-array-read-second c = search needs
+  create-let-array-read-p2 : create-let-lts.Need-array-read-p2 create-let-callees (create-let-at t) create-let.Post
+  create-let-array-read-p2 c = search needs
 
   create-let-create-row-requires : create-let-lts.Need-create-row-requires create-let-callees (create-let-at t) create-let.Post
   create-let-create-row-requires c κs =
@@ -569,8 +569,8 @@ module _ (t : ℕ) where
   create-tuple-loop-holds : create-tuple-lts.Need-loop-holds create-tuple-callees (create-tuple-at t) create-tuple.Post create-tuple-Inv-loop create-tuple-μ-loop
   create-tuple-loop-holds c = gathered-none _ _ _ _ _ _ (search needs) (c .before .before .before .before .before .before .before .before .pre .1 .1 .1 .0)
 
-  create-tuple-array-read-child : create-tuple-lts.Need-array-read-child create-tuple-callees (create-tuple-at t) create-tuple.Post create-tuple-Inv-loop create-tuple-μ-loop
-  create-tuple-array-read-child c = omega (
+  create-tuple-array-read-p : create-tuple-lts.Need-array-read-p create-tuple-callees (create-tuple-at t) create-tuple.Post create-tuple-Inv-loop create-tuple-μ-loop
+  create-tuple-array-read-p c = omega (
     arith,
     c .loop-test .taken,
     tuple-few (c .before .before .before .before .before .before .before .before .before .before .pre .1 .0) (c .before
@@ -777,8 +777,8 @@ pub +create-encryption+create-let+create-row+create-tuple-spec : {M : Type 1} �
     create-let.Post
     (create-let-raw-requires t)
     (create-let-slots-requires t)
-    (create-let-array-read-first t)
-    (create-let-array-read-second t)
+    (create-let-array-read-p1 t)
+    (create-let-array-read-p2 t)
     (create-let-create-row-requires t)
     (create-let-enum-known-bound t)
     (create-let-message-at-requires t)
@@ -838,7 +838,7 @@ pub +create-encryption+create-let+create-row+create-tuple-spec : {M : Type 1} �
     (create-tuple-count-requires t)
     (create-tuple-cast-count t)
     (create-tuple-loop-holds t)
-    (create-tuple-array-read-child t)
+    (create-tuple-array-read-p t)
     (create-tuple-create-row-requires t)
     (create-tuple-enum-known-made t)
     (create-tuple-enum-known-made-2 t)
