@@ -77,10 +77,12 @@ pub ruleset name-ways = (name-none, name-kept)
 
 -- a variable
 module _ {used : ℕ} {before after : Slices} {answer : Walked} (kind : ℕ → ℕ) (row v : ℕ) (n : Stores rowWorld) where
-  gives-known : {o : Option ℕ} {m : ℕ} → o ≡ some m → Comes message-and-stores used before (made rowWorld kind m n) answer after → Comes message-and-stores used before (getVariable rowWorld kind row v o n) answer after
+  gives-known : {o : Option ℕ} {m : ℕ} → o ≡ some m
+      → Comes message-and-stores used before (made rowWorld kind m n) answer after → Comes message-and-stores used before (getVariable rowWorld kind row v o n) answer after
   gives-known e h = rw e h
 
-  gives-created : {o : Option ℕ} → o ≡ none → creatable (kind v) ≡ true → Comes message-and-stores used before (names row v (kind v) n) answer after → Comes message-and-stores used before (getVariable rowWorld kind row v o n) answer after
+  gives-created : {o : Option ℕ} → o ≡ none → creatable (kind v) ≡ true
+      → Comes message-and-stores used before (names row v (kind v) n) answer after → Comes message-and-stores used before (getVariable rowWorld kind row v o n) answer after
   gives-created e can h = rw (e, can) h
 
 module _ {used : ℕ} {before : Slices} (kind : ℕ → ℕ) (row v : ℕ) (n : Stores rowWorld) where
@@ -163,7 +165,8 @@ module _ (w : Walk) (kinds certificates rows objects : List ℕ) (row word form 
     key-opposite e h = key-as (opKey (key .0) (other .0)) (rw (sym read ∙ e, first, second)) (λ x. h (withCertificates x certificates))
 
     pub key-certified : patternFields word .f < 3 → (form ≡ 0 → ⊥) → (form ≡ 1 → ⊥)
-        → WalksBy message-and-stores (createKey rowWorld (kindIn kinds) row (certifiedKey (key .0) (other .0))) w (λ x. withAll certificates objects rows x) answer (λ x. withAll certificates objects′ rows′ x)
+        → WalksBy message-and-stores (createKey rowWorld (kindIn kinds) row (certifiedKey (key .0) (other .0))) w
+        (λ x. withAll certificates objects rows x) answer (λ x. withAll certificates objects′ rows′ x)
         → Keys (keyBy (patternFields word)) answer objects′ rows′
     unfolding keyRule
     key-certified few n₀ n₁ h =

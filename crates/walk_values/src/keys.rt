@@ -1,6 +1,6 @@
 // A variable is read, or created where it can be; a key is one, or is made of one.
 ghost use mathlib.Core.Path.{_≡_};
-ghost use Prim.Native.Nat.{ℕ, _<_};
+ghost use Prim.Native.Nat.{_<_};
 ghost use lib.ListN.{length};
 ghost use Rattle.numbers.specs.Limits.{variables};
 ghost use Rattle.patterns.specs.Pattern.{plainKey, opKey};

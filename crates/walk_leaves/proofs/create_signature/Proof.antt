@@ -28,9 +28,11 @@ same-length-2 : tie.Need-same-length-2
 same-length-2 c = search needs
 
 returns : tie.Need-returns
-returns c = 
+returns c =
     let s = c .before .before .before .before .before .before .before .before .before .before .before .before .before .before .before .before .before .before .before .before .before .pre in
-    sign-unset _ _ _ _ _ _ _ (s .0) (s .1 .0) _ (c .before .before .before .before .before .before .before .before .before .before .before .before .before .before .before .variable .ensures) _ (c .before .before .before .before .before .before .before .before .before .before .before .before .before .before .raw .ensures) _ _ _ _ _ (c .before .before .before .before .before .before .before .before .before .before .before .create-key .ensures)
+    sign-unset _ _ _ _ _ _ _ (s .0) (s .1 .0) _ (c .before .before .before .before .before .before .before .before .before .before .before .before .before .before .before .variable
+    .ensures) _ (c .before .before .before .before .before .before .before .before .before .before .before .before .before .before .raw .ensures) _ _ _ _ _ (c .before .before .before .before
+    .before .before .before .before .before .before .before .create-key .ensures)
     _ (c .before .before .before .before .before .keyed .given .1) _ (c .before .before .message-at .ensures) (c .if1 .taken)
 
 sign-requires : tie.Need-sign-requires
@@ -38,9 +40,18 @@ sign-requires c κs = search needs
 
 seal-requires : tie.Need-seal-requires
 seal-requires c κs =
-    let s = c .before .before .before .before .before .before .before .before .before .before .before .before .before .before .before .before .before .before .before .before .before .before .before .before .pre in
-    let asked = key-asks _ _ _ _ _ _ _ _ _ _ (c .before .before .before .before .before .before .before .before .before .before .before .before .before .before .create-key .ensures) _ (c .before .before .before .before .before .before .before .before .keyed .given .1) (s .1 .1 .0) (s .1 .1 .1) in
-    (asked .0, omega (arith, asked .1, variable-low _ _ (c .before .before .before .before .before .before .before .before .before .before .before .before .before .before .before .before .before .before .variable .ensures)))
+    let s = c .before .before .before .before .before .before .before .before .before .before .before .before .before .before .before .before .before .before .before .before .before .before
+    .before .before .pre in
+    let asked = key-asks _ _ _ _ _ _ _ _ _ _ (c .before .before .before .before .before .before .before .before .before .before .before .before .before .before .create-key .ensures) _ (c
+    .before .before .before .before .before .before .before .before .keyed .given .1) (s .1 .1 .0) (s .1 .1 .1) in (
+      asked .0,
+      omega (
+        arith,
+        asked .1,
+        variable-low _ _ (c .before .before .before .before .before .before .before .before .before .before .before .before .before .before .before .before
+            .before .before .variable .ensures),
+      ),
+    )
 
 enum-known-keyed-2 : tie.Need-enum-known-keyed-2
 enum-known-keyed-2 c = search needs
@@ -55,10 +66,16 @@ same-length-4 : tie.Need-same-length-4
 same-length-4 c = search needs
 
 returns-2 : tie.Need-returns-2
-returns-2 c = 
-    let s = c .before .before .before .before .before .before .before .before .before .before .before .before .before .before .before .before .before .before .before .before .before .before .before .before .before .before .before .before .before .pre in
-    sign-sealed _ _ _ _ _ _ _ (s .0) (s .1 .0) _ (c .before .before .before .before .before .before .before .before .before .before .before .before .before .before .before .before .before .before .before .before .before .before .before .variable .ensures) _ (c .before .before .before .before .before .before .before .before .before .before .before .before .before .before .before .before .before .before .before .before .before .before .raw .ensures) _ _ _ _ _ (c .before .before .before .before .before .before .before .before .before .before .before .before .before .before .before .before .before .before .before .create-key .ensures)
-    _ (c .before .before .before .before .before .before .before .before .before .before .before .before .before .keyed .given .1) _ (c .before .before .before .before .before .before .before .before .before .before .message-at .ensures) (c .before .before .before .before .before .before .before .before .if1 .left) _ (c .before .before .before .before .before .sign .ensures) (c .before .before .before .before .seal .ensures)
+returns-2 c =
+    let s = c .before .before .before .before .before .before .before .before .before .before .before .before .before .before .before .before .before .before .before .before .before .before
+    .before .before .before .before .before .before .before .pre in
+    sign-sealed _ _ _ _ _ _ _ (s .0) (s .1 .0) _ (c .before .before .before .before .before .before .before .before .before .before .before .before .before .before .before .before .before
+    .before .before .before .before .before .before .variable .ensures) _ (c .before .before .before .before .before .before .before .before .before .before .before .before .before .before
+    .before .before .before .before .before .before .before .before .raw .ensures) _ _ _ _ _ (c .before .before .before .before .before .before .before .before .before .before .before
+    .before .before .before .before .before .before .before .before .create-key .ensures)
+    _ (c .before .before .before .before .before .before .before .before .before .before .before .before .before .keyed .given .1) _ (c .before .before .before .before .before .before
+    .before .before .before .before .message-at .ensures) (c .before .before .before .before .before .before .before .before .if1 .left) _ (c .before .before .before .before .before .sign
+    .ensures) (c .before .before .before .before .seal .ensures)
 
 same-length-5 : tie.Need-same-length-5
 same-length-5 c = search needs
@@ -67,9 +84,10 @@ same-length-6 : tie.Need-same-length-6
 same-length-6 c = search needs
 
 returns-3 : tie.Need-returns-3
-returns-3 c = 
+returns-3 c =
     let s = c .before .before .before .before .before .before .before .before .before .before .before .before .before .before .before .before .before .pre in
-    sign-stuck _ _ _ _ _ _ _ (s .0) (s .1 .0) _ (c .before .before .before .before .before .before .before .before .before .before .before .variable .ensures) _ (c .before .before .before .before .before .before .before .before .before .before .raw .ensures) _ _ _ _ _ (c .before .before .before .before .before .before .before .create-key .ensures)
+    sign-stuck _ _ _ _ _ _ _ (s .0) (s .1 .0) _ (c .before .before .before .before .before .before .before .before .before .before .before .variable .ensures) _ (c .before .before .before
+    .before .before .before .before .before .before .before .raw .ensures) _ _ _ _ _ (c .before .before .before .before .before .before .before .create-key .ensures)
     _ _ (c .before .keyed2 .given .1)
 
 same-length-7 : tie.Need-same-length-7
@@ -79,9 +97,10 @@ same-length-8 : tie.Need-same-length-8
 same-length-8 c = search needs
 
 returns-4 : tie.Need-returns-4
-returns-4 c = 
+returns-4 c =
     let s = c .before .before .before .before .before .before .before .before .before .before .before .before .before .before .before .before .before .pre in
-    sign-full _ _ _ _ _ _ _ (s .0) (s .1 .0) _ (c .before .before .before .before .before .before .before .before .before .before .before .variable .ensures) _ (c .before .before .before .before .before .before .before .before .before .before .raw .ensures) _ _ _ _ _ (c .before .before .before .before .before .before .before .create-key .ensures)
+    sign-full _ _ _ _ _ _ _ (s .0) (s .1 .0) _ (c .before .before .before .before .before .before .before .before .before .before .before .variable .ensures) _ (c .before .before .before
+    .before .before .before .before .before .before .before .raw .ensures) _ _ _ _ _ (c .before .before .before .before .before .before .before .create-key .ensures)
     _ (c .before .keyed3 .given .1)
 
 pub create-signature-spec : {M : Type 1} → statement M

@@ -11,7 +11,8 @@ enum-known-got : tie.Need-enum-known-got
 enum-known-got c = search needs
 
 opposite-key-requires : tie.Need-opposite-key-requires
-opposite-key-requires c κs = opposite-asks _ _ _ _ _ _ _ _ _ _ (c .before .before .before .before .before .before .before .before .before .before .get-variable .ensures) _ (c .before .before .before .before .got .given .1) (c .before .before .before .before .before .before .before .before .before .before .before .before .before .before .before .before .pre)
+opposite-key-requires c κs = opposite-asks _ _ _ _ _ _ _ _ _ _ (c .before .before .before .before .before .before .before .before .before .before .get-variable .ensures) _ (c .before .before
+    .before .before .got .given .1) (c .before .before .before .before .before .before .before .before .before .before .before .before .before .before .before .before .pre)
 
 enum-known-got-2 : tie.Need-enum-known-got-2
 enum-known-got-2 c = search needs
@@ -27,7 +28,8 @@ same-length-2 c = search needs
 
 returns : tie.Need-returns
 returns c =
-    opposite-made _ _ _ _ _ _ _ _ _ _ (c .before .before .before .before .before .before .before .before .before .before .before .before .before .before .before .get-variable .ensures) _ (c .before .before .before .before .before .before .before .before .before .got .given .1)
+    opposite-made _ _ _ _ _ _ _ _ _ _ (c .before .before .before .before .before .before .before .before .before .before .before .before .before .before .before .get-variable .ensures) _ (c
+    .before .before .before .before .before .before .before .before .before .got .given .1)
     (c .before .before .before .before .opposite-key .ensures)
 
 same-length-3 : tie.Need-same-length-3

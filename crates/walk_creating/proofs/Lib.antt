@@ -1,0 +1,3 @@
+-- Laws of the forms with parts.
+pub mod ChildLaws
+pub mod PartLaws
