@@ -36,10 +36,11 @@ impl Tally {
         }
     }
 
-    /// Both run; the answers and every lent byte afterwards have to agree.
+    /// Both run, and plain Rust with an index too; the answers and every lent byte afterwards have to agree.
     pub fn run(&mut self, lent: &RunInput) {
         let mut expected = lent.clone();
         let answer = expected.call(&plain::ENGINE);
+        assert_eq!(lent.clone().call(&plain::HASHED), answer, "the hashed check's answer for {:?}", lent);
         let (ours, left) = run_fenced(lent, self.inputs);
         assert_eq!(ours, answer, "run's answer for {:?}", lent);
         assert_eq!(left, expected, "bytes after run of {:?}", lent);

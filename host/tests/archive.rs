@@ -1,11 +1,18 @@
 //! The archive against the worked cases, and against the second implementation on inputs made from seeds.
 //! Each test also asserts that its inputs met what they are meant to meet.
+use cram_host::case::Case;
 use cram_host::compare::Tally;
 use cram_host::every::every_form;
 use cram_host::generator::{self, flip_bit, Random};
-use cram_host::limits::CODE_WORDS;
+use cram_host::input::RunInput;
+use cram_host::limits::{CODE_WORDS, TERM_ROWS};
 use cram_host::plain::patterns::{ENCRYPTED, LET, OBJECT, SIGNED};
+<<<<<<< HEAD
 use cram_host::{edges, examples, forms, plain, worked, ARCHIVE};
+=======
+use cram_host::plain::terms::{atom, AGENT, BYTE};
+use cram_host::{examples, plain, worked, ARCHIVE};
+>>>>>>> a3check
 
 #[test]
 fn worked_cases() {
@@ -114,6 +121,46 @@ fn every_bit() {
 fn runs_over_full_tables() {
     let tally = tally(4, 80, generator::full_run, Tally::run);
     assert_met("answers", &answers(&tally, &[0, 1, 2, 10, 11]), 4);
+}
+
+/// A run of no code over agents, of which some rows are replaced by others.
+fn agents_but(rows: usize, replaced: &[(usize, u64)]) -> RunInput {
+    let mut case = Case::new(false);
+    case.terms = (0..rows as u64).map(|i| atom(AGENT, i)).collect();
+    for &(at, term) in replaced {
+        case.terms[at] = term;
+    }
+    case.lend_run(rows, &[])
+}
+
+/// Of two equal rows the later is bad, unless a row before it is: in small tables, which are searched, in the first with
+/// chains, and in full ones.
+#[test]
+fn equal_rows() {
+    let mut tally = Tally::default();
+    let mut refused_at = |place: usize, lent: &RunInput| {
+        let answer = lent.clone().call(&plain::ENGINE);
+        assert_eq!((answer.number, answer.place), (2, place as u32));
+        tally.run(lent);
+    };
+    for rows in [2, 31, 32, 33, 64] {
+        for later in 1..rows {
+            for earlier in 0..later {
+                let again = (later, atom(AGENT, earlier as u64));
+                refused_at(later, &agents_but(rows, &[again]));
+                refused_at(later, &agents_but(rows, &[again, (rows - 1, again.1)]));
+                refused_at(earlier, &agents_but(rows, &[again, (earlier, atom(BYTE, 256))]));
+            }
+        }
+    }
+    for (earlier, later) in [(0, 1), (0, 4095), (2047, 2048), (1, 4000), (4094, 4095)] {
+        refused_at(later, &agents_but(TERM_ROWS, &[(later, atom(AGENT, earlier as u64))]));
+    }
+    for rows in [1, 31, 32, 33, 512, TERM_ROWS] {
+        tally.run(&agents_but(rows, &[]));
+    }
+    println!("{:?}", tally);
+    assert_eq!(tally.answers[0], 6);
 }
 
 #[test]

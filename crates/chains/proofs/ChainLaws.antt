@@ -1,5 +1,5 @@
 -- A walk along the chain of a word meets every earlier row that equals it, and each row that is noted keeps the chains so.
-use Prim.Native.Nat.{ℕ, _+_, _/_, _<_, _≤_}
+use Prim.Native.Nat.{ℕ, _+_, _*_, _<_, _≤_}
 use mathlib.Core.Path.{_≡_, sym, _∙_, ap}
 use mathlib.Core.Logic.{_≢_}
 use mathlib.Core.List.{List}
@@ -17,9 +17,8 @@ chain-bound word = omega arith
 pub chain-below : (word chain : ℕ) → chain ≡ chainOf word → chain < 4096
 chain-below word chain is = rw is (chain-bound word)
 
--- what is taken of the two products
-pub mixes-fit : (low high : ℕ) → low < 18446744073709551616 → high < 18446744073709551616 → low / 1048576 + high / 1048576 < 18446744073709551616
-mixes-fit low high l h = omega arith
+pub product-fits : (halves : ℕ) → halves < 8589934592 → halves * 1327217885 < 18446744073709551616
+product-fits halves h = omega arith
 
 -- a row is noted: it is linked to the newest of its chain, and is then the newest itself
 module _ (rows newest older : List ℕ) (row chain : ℕ) (is : chain ≡ chainOf (getD rows row 0)) (headed : Headed rows newest row) where

@@ -6,15 +6,13 @@ use lib.ListN.{getD}
 use Rattle.numbers.specs.Limits.{mostTermRows}
 use Rattle.terms.specs.Row.{rowAt}
 
-abbrev pub lowMix : ℕ
-lowMix = 2654435761
+-- what the two halves of a row, added, are multiplied by
+abbrev pub mix : ℕ
+mix = 1327217885
 
-abbrev pub highMix : ℕ
-highMix = 2246822519
-
--- the chain of a row: its two halves, multiplied and added
+-- the chain of a row, one of as many as there may be rows
 unfoldable pub chainOf : ℕ → ℕ
-chainOf word = ((word % 4294967296) * lowMix / 1048576 + word / 4294967296 * highMix / 1048576) % mostTermRows
+chainOf word = (word % 4294967296 + word / 4294967296) * mix / 1048576 % mostTermRows
 
 -- the newest row of a chain before a place, where the chain has one there
 abbrev pub Newest : List ℕ → ℕ → ℕ → ℕ → Type 0

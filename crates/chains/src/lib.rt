@@ -13,18 +13,15 @@ use word::Place;
 // In fewer rows equal ones are searched for: to clear the arrays of chains takes longer.
 const FEW_ROWS: usize = 32;
 
-// What the two halves of a row are multiplied by.
-const LOW_MIX: u64 = 2654435761;
-
-const HIGH_MIX: u64 = 2246822519;
+// What the two halves of a row, added, are multiplied by.
+const MIX: u64 = 1327217885;
 
 // The chain of a row, one of as many as there may be rows. All bits are mixed, and a bad mix costs time only.
 fn chain_of(word: u64) -> usize
     ensures { λ r. ⌜ r ≡ chainOf word ⌝ }
 {
-    let low = (word % 4294967296) * LOW_MIX / 1048576;
-    let high = (word / 4294967296) * HIGH_MIX / 1048576;
-    ((low + high) % 4096) as usize
+    let halves = word % 4294967296 + word / 4294967296;
+    (halves * MIX / 1048576 % 4096) as usize
 }
 
 // Of a large array only the length is promised: what stands in it before a row is noted is never believed.

@@ -47,8 +47,8 @@ fn main() {
     for (name, lent) in measured::rounds() {
         print(name, medians(&lent, engines, |lent, engine| lent.call(engine).place));
     }
-    println!("\nThe check of a table by its used rows, plain Rust with a search for each row and with an index of hashes:");
-    println!("{:<45}{:>12}{:>12}{:>12}{:>8}", "used rows", "archive", "search", "hashed", "ratio");
+    println!("\nThe check of a table; plain Rust searches for each row, and then has an index of hashes.");
+    println!("{:<45}{:>12}{:>12}{:>12}{:>8}", "used rows", "archive", "plain Rust", "hashed", "ratio");
     for (used, lent) in measured::checks() {
         let engines = [&ARCHIVE, &plain::ENGINE, &plain::HASHED];
         let [ours, searched, hashed] = medians(&lent, engines, |lent, engine| lent.call(engine).place);
