@@ -7,12 +7,8 @@ use cram_host::generator::{self, flip_bit, Random};
 use cram_host::input::RunInput;
 use cram_host::limits::{CODE_WORDS, TERM_ROWS};
 use cram_host::plain::patterns::{ENCRYPTED, LET, OBJECT, SIGNED};
-<<<<<<< HEAD
-use cram_host::{edges, examples, forms, plain, worked, ARCHIVE};
-=======
 use cram_host::plain::terms::{atom, AGENT, BYTE};
-use cram_host::{examples, plain, worked, ARCHIVE};
->>>>>>> a3check
+use cram_host::{edges, examples, forms, plain, worked, ARCHIVE};
 
 #[test]
 fn worked_cases() {
