@@ -1,6 +1,6 @@
 -- The forms with no part, a way out at a time.
-use Prim.Native.Nat.{ℕ, _<_, _≤_}
-use mathlib.Core.Path.{_≡_, refl, sym, ap, subst, _∙_}
+use Prim.Native.Nat.{ℕ, _<_}
+use mathlib.Core.Path.{_≡_, refl, ap, subst, _∙_}
 use mathlib.Core.Option.{Option}
 use mathlib.Core.List.{List, []}
 use native.Mathlib.Decide.{ℕ-discrete}
@@ -60,7 +60,8 @@ module _ (w : Walk) (kinds rows objects : List ℕ) (row : ℕ) (v : Object) (kn
   MatchesObject answer objects′ = WalksBy stores-alone (meets (kindIn kinds) (object row (v .0)) w) w (λ x. over objects rows x) answer (λ x. over objects′ rows x)
 
   by-variable : (x : Slices) {o : Option ℕ} → storesAt w (over objects rows x) .σ (v .0) ≡ o
-      → meets (kindIn kinds) (object row (v .0)) w (storesAt w (over objects rows x)) ≡ matchObject rowWorld (kindIn kinds) row (v .0) o (held (w .message .0)) (storesAt w (over objects rows x))
+      → meets (kindIn kinds) (object row (v .0)) w (storesAt w (over objects rows x)) ≡ matchObject rowWorld (kindIn kinds) row (v .0) o (held (w .message .0)) (storesAt w
+      (over objects rows x))
   by-variable x e = ap (λ (o : Option ℕ). matchObject rowWorld (kindIn kinds) row (v .0) o (held (w .message .0)) (storesAt w (over objects rows x))) e
 
   pub object-decodes : known .0 ≡ unset → {answer : Walked} {objects′ : List ℕ}
@@ -75,7 +76,8 @@ module _ (w : Walk) (kinds rows objects : List ℕ) (row : ℕ) (v : Object) (kn
     pub object-no-message : w .message .0 ≡ unset → MatchesObject (Stuck row Unset) objects
     object-no-message e x = comes-as (by-variable x (object-row _ _ _ _ (v .0) read isRow)) (unset-sticks row _ (held-unset _ e))
 
-    pub object-same : (w .message .0 ≡ unset → ⊥) → Within rows (w .used) → (w′ : Walk) → w′ ≡ meeting w known → {answer : Walked} → ComparesTo row (w .message .0) (Next w′) answer → MatchesObject answer objects
+    pub object-same : (w .message .0 ≡ unset → ⊥) → Within rows (w .used) → (w′ : Walk) → w′ ≡ meeting w known → {answer : Walked} → ComparesTo row (w .message .0) (Next w′) answer
+        → MatchesObject answer objects
     object-same isMessage within w′ met same x =
         let n = storesAt w (over objects rows x) in
         let start : Comes message-and-stores (w .used) (over objects rows x) (done (known .0, n)) (Next w′) (over objects rows x) =
@@ -97,7 +99,8 @@ module _ (w : Walk) (named : List ℕ) (row : ℕ) (r : Raw) (below : r .0 < nam
   pub raw-no-message : w .message .0 ≡ unset → MatchesRaw (Stuck row Unset) named
   raw-no-message e = record { walks = λ x l. by x (ℕ-discrete (known .0) unset) }
     where
-      by : (x : Slices) → Dec (known .0 ≡ unset) → Comes stores-alone (w .used) (withMessages x named) (meets kind (raw row (r .0)) w (storesAt w (withMessages x named))) (Stuck row Unset) (withMessages x named)
+      by : (x : Slices) → Dec (known .0 ≡ unset) → Comes stores-alone (w .used) (withMessages x named) (meets kind (raw row (r .0)) w (storesAt w (withMessages x named)))
+          (Stuck row Unset) (withMessages x named)
       by x (yes none) =
           comes-as (by-cell x (named-unset _ _ _ _ (r .0) below read none)) (frees row _ (named-unset _ _ _ _ (r .0) below read none) (unset-sticks row _ (held-unset _ e)))
       by x (no isRow) = comes-as (by-cell x (named-row _ _ _ _ (r .0) below read isRow)) (unset-sticks row _ (held-unset _ e))
@@ -105,19 +108,23 @@ module _ (w : Walk) (named : List ℕ) (row : ℕ) (r : Raw) (below : r .0 < nam
   module _ (isMessage : w .message .0 ≡ unset → ⊥) where
     pub raw-stored : known .0 ≡ unset → r .0 < length named → {named′ : List ℕ} → named′ ≡ set named (r .0) (w .message .0) → MatchesRaw (Next w) named′
     raw-stored none inside put =
-        rw put (record { walks = λ x l. comes-as (by-cell x (named-unset _ _ _ _ (r .0) below read none))
-        (frees row _ (named-unset _ _ _ _ (r .0) below read none)
-        (reads row _ (held-set _ isMessage)
-        (goes (stores-named _ _ _ _ _ (w .message .0) isMessage (r .0) below inside)
-        (record { message = isMessage; more = le-refl (w .used); inside = l })
-        (record { lengths = messages-lengths (withMessages x named) (r .0) (w .message .0); rows = refl })))) })
+        rw put (record {
+          walks = λ x l. comes-as (by-cell x (named-unset _ _ _ _ (r .0) below read none))
+              (frees row _ (named-unset _ _ _ _ (r .0) below read none)
+              (reads row _ (held-set _ isMessage)
+              (goes (stores-named _ _ _ _ _ (w .message .0) isMessage (r .0) below inside)
+              (record { message = isMessage; more = le-refl (w .used); inside = l })
+              (record { lengths = messages-lengths (withMessages x named) (r .0) (w .message .0); rows = refl }))));
+        })
 
     pub raw-same : (known .0 ≡ unset → ⊥) → {answer : Walked} → ComparesTo row (known .0) (Next w) answer → MatchesRaw answer named
     raw-same isRow same =
-        record { walks = λ x l. comes-as (by-cell x (named-row _ _ _ _ (r .0) below read isRow))
-        (reads row _ (held-set _ isMessage)
-        (same kind .walks (withMessages x named) (withMessages x named) (w .used) (done (w .message .0, storesAt w (withMessages x named)))
-        (goes refl (record { message = isMessage; more = le-refl (w .used); inside = l }) kept-same))) }
+        record {
+          walks = λ x l. comes-as (by-cell x (named-row _ _ _ _ (r .0) below read isRow))
+              (reads row _ (held-set _ isMessage)
+              (same kind .walks (withMessages x named) (withMessages x named) (w .used) (done (w .message .0, storesAt w (withMessages x named)))
+              (goes refl (record { message = isMessage; more = le-refl (w .used); inside = l }) kept-same)));
+        }
 
 pub ruleset raw-ways = (raw-no-message, raw-stored, raw-same)
 
@@ -168,12 +175,14 @@ module _ (w : Walk) (kind : ℕ → ℕ) (rows objects : List ℕ) (row v : ℕ)
     (decoded : WalksBy message-and-stores (λ n. decodes rowWorld kind row v (held (w .message .0)) n (made rowWorld kind)) w
     (λ x. over objects rows x) came (λ x. over objects′ rows x)) where
   pub decoded-inside : Within rows (w .used) → Inside rows came
-  decoded-inside within = record { within = λ w′ e. record {
-    used-rows = comes-onward (subst (λ (c : Walked). Comes message-and-stores (w .used) (over objects rows (slices [] [] [] []))
-        (decodes rowWorld kind row v (held (w .message .0)) (storesAt w (over objects rows (slices [] [] [] []))) (made rowWorld kind)) c
-        (over objects′ rows (slices [] [] [] []))) e (decoded (slices [] [] [] []))) .inside;
-    few-rows = within .few-rows;
-  } }
+  decoded-inside within = record {
+    within = λ w′ e. record {
+      used-rows = comes-onward (subst (λ (c : Walked). Comes message-and-stores (w .used) (over objects rows (slices [] [] [] []))
+          (decodes rowWorld kind row v (held (w .message .0)) (storesAt w (over objects rows (slices [] [] [] []))) (made rowWorld kind)) c
+          (over objects′ rows (slices [] [] [] []))) e (decoded (slices [] [] [] []))) .inside;
+      few-rows = within .few-rows;
+    };
+  }
 
   pub decoded-low : {i : ℕ} → i < length objects → i < length objects′
   decoded-low l = omega (arith, comes-kept (decoded (slices [] [] [] [])) .lengths .objects-length, l)

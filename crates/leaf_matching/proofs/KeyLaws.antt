@@ -1,10 +1,10 @@
 -- The key of a matched signature, a way out at a time.
-use Prim.Native.Nat.{ℕ, _<_, _≤_}
+use Prim.Native.Nat.{ℕ, _<_}
 use mathlib.Core.Path.{_≡_, sym, ap, _∙_}
 use mathlib.Core.List.{List}
 use native.Mathlib.Nat.{le-refl}
 use native.Mathlib.Omega.{arith}
-use lib.ListN.{length, getD}
+use lib.ListN.{getD}
 use Rattle.answers.specs.declared.Reason.the-variants.{Unset}
 use Rattle.numbers.specs.declared.Object.{Object}
 use Rattle.numbers.specs.declared.TermRow.{TermRow}
@@ -36,8 +36,10 @@ module _ (objects : List ℕ) (w : Walk) (row : ℕ) (key : Object) (known : Ter
 
   pub held-key-row : (known .0 ≡ unset → ⊥) → (w′ : Walk) → w′ ≡ meeting w known → Holds (Next w′)
   held-key-row isRow w′ met =
-      rw met (record { walks = λ x l. reads row _ (object-row _ _ _ _ (key .0) read isRow)
-      (goes (ap (message-and-stores (known .0)) (stores-any _ _ _ _ _)) (record { message = isRow; more = le-refl (w .used); inside = l }) kept-same) })
+      rw met (record {
+        walks = λ x l. reads row _ (object-row _ _ _ _ (key .0) read isRow)
+            (goes (ap (message-and-stores (known .0)) (stores-any _ _ _ _ _)) (record { message = isRow; more = le-refl (w .used); inside = l }) kept-same);
+      })
 
 pub ruleset held-key-ways = (held-key-unset, held-key-row)
 
@@ -74,7 +76,8 @@ module _ {came : Walked} (kind : ℕ → ℕ) (certificates rows objects : List 
       → Signs answer objects rows
   signing-held h held =
       let is : keyBy (patternFields word) ≡ plainKey (key .0) = rw (sym by ∙ h, first) in
-      stage-next w next (λ x on. comes-as (ap (λ (k : Key). keyed kind row k (storesAt w (over objects rows x))) is) (held kind .walks (withCertificates (withTermRows x rows) certificates) (on .inside)))
+      stage-next w next (λ x on. comes-as (ap (λ (k : Key). keyed kind row k (storesAt w (over objects rows x))) is) (held kind .walks (withCertificates
+      (withTermRows x rows) certificates) (on .inside)))
 
   pub signing-opposite : form ≡ 1 → {answer : Walked} {objects′ rows′ : List ℕ}
       → ((kind : ℕ → ℕ) → WalksBy message-and-stores (opposed kind row (key .0) (second .0)) w

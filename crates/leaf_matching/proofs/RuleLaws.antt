@@ -6,7 +6,7 @@ use native.Mathlib.Decide.{ℕ-discrete}
 use native.Mathlib.Omega.{arith}
 use Rattle.patterns.specs.Pattern.{Key, plainKey, opKey, certifiedKey}
 use Rattle.stores.specs.Cells.{unset, held}
-use Rattle.theory.specs.Outcome.{Outcome, done, stuck, room, bind, at, need, free, Answer, got, not, full}
+use Rattle.theory.specs.Outcome.{Outcome, done, bind, at, need, free, Answer, got, not, full}
 use Rattle.theory.specs.World.{Op, op, keyOf, decrypt, is}
 use Rattle.theory.specs.RowModel.{Table, rowWorld}
 use Rattle.theory.specs.Machine.{Stores, setObject, setMemory}
@@ -73,7 +73,8 @@ module _ {D : Type 0} (kind : ℕ → ℕ) (row v : ℕ) where
       decoded-by row (n .σ v) (held m) (λ m. rowWorld .test (is (kind v) m) (n .memory)) (λ m. setObject rowWorld n v m) f (λ r. f m (r .1))
       (λ m′ e. ap (λ (k : ℕ). f k (setObject rowWorld n v m′)) (sym (held-some m m′ e)))
 
-  pub makes-then : (o : Op ℕ) (n : Stores rowWorld) (f : ℕ → Stores rowWorld → Outcome D) → makes rowWorld kind row v o n f ≡ bind (makes rowWorld kind row v o n (made rowWorld kind)) (λ r. f (r .0) (r .1))
+  pub makes-then : (o : Op ℕ) (n : Stores rowWorld) (f : ℕ → Stores rowWorld → Outcome D) → makes rowWorld kind row v o n f ≡ bind (makes rowWorld kind row v o n (made rowWorld kind))
+      (λ r. f (r .0) (r .1))
   makes-then o n f =
       made-by row (n .σ v) (rowWorld .apply o (n .memory)) (λ r. (r .0, setObject rowWorld (setMemory rowWorld n (r .1)) v (r .0))) (λ r. f (r .0) (r .1))
 
@@ -115,14 +116,16 @@ module _ (kind : ℕ → ℕ) (row : ℕ) where
       ∙ sym (bind-assoc (need row (n .σ K)) (λ a. makes rowWorld kind row k (op a) n (made rowWorld kind)) (λ r. f (r .0) (r .1)))
 
   -- the key of a matched S, and what follows
-  pub keyed-then : (key : Key) (n : Stores rowWorld) (f : ℕ → Stores rowWorld → Outcome (Stores rowWorld)) → matchKey rowWorld kind row key n f ≡ bind (keyed kind row key n) (λ r. f (r .0) (r .1))
+  pub keyed-then : (key : Key) (n : Stores rowWorld) (f : ℕ → Stores rowWorld → Outcome (Stores rowWorld)) → matchKey rowWorld kind row key n f ≡ bind (keyed kind row key n) (λ r. f
+      (r .0) (r .1))
   keyed-then (plainKey v) n f = sym (bind-assoc (need row (n .σ v)) (λ k. done (k, n)) (λ r. f (r .0) (r .1)))
   keyed-then (opKey k K) n f = opposed-then k K n f
   keyed-then (certifiedKey k a) n f =
       ap (bind (need row (n .σ a)))
       (fun-ext λ x. ap (bind (at row (rowWorld .apply (keyOf x) (n .memory)))) (fun-ext λ r. decodes-then kind row k (some (r .0)) (setMemory rowWorld n (r .1)) f)
       ∙ sym (bind-assoc (at row (rowWorld .apply (keyOf x) (n .memory))) (λ r. Decoded kind row k (some (r .0)) (setMemory rowWorld n (r .1))) (λ r. f (r .0) (r .1))))
-      ∙ sym (bind-assoc (need row (n .σ a)) (λ x. bind (at row (rowWorld .apply (keyOf x) (n .memory))) λ r. Decoded kind row k (some (r .0)) (setMemory rowWorld n (r .1))) (λ r. f (r .0) (r .1)))
+      ∙ sym (bind-assoc (need row (n .σ a)) (λ x. bind (at row (rowWorld .apply (keyOf x) (n .memory))) λ r. Decoded kind row k (some (r .0)) (setMemory rowWorld n (r .1))) (λ r. f
+      (r .0) (r .1)))
 
   -- what is decoded, with the key that follows, is verified
   pub verified-stages : (v : ℕ) (key : Key) (r m : ℕ) (n : Stores rowWorld)

@@ -33,10 +33,12 @@ use Rattle.walks.proofs.StoreLaws.{named-unset, named-row, stores-made}
 use Rattle.leaf_matching.specs.Stages.{GoesOnBy, Inside, asked, verifies}
 
 -- what a walk that goes on has, and what any walk keeps
-pub comes-onward : {A : Type 0} {seen : ℕ → Stores rowWorld → A} {used : ℕ} {before after : Slices} {o : Outcome A} {w : Walk} → Comes seen used before o (Next w) after → Onward (w .used) w after
+pub comes-onward : {A : Type 0} {seen : ℕ → Stores rowWorld → A} {used : ℕ} {before after : Slices} {o : Outcome A} {w : Walk} → Comes seen used before o (Next w) after → Onward
+    (w .used) w after
 comes-onward {w = w} (goes e on kept) = record { message = on .message; more = le-refl (w .used); inside = on .inside }
 
-pub comes-kept : {A : Type 0} {seen : ℕ → Stores rowWorld → A} {used : ℕ} {before after : Slices} {o : Outcome A} {answer : Walked} → Comes seen used before o answer after → Kept used before after
+pub comes-kept : {A : Type 0} {seen : ℕ → Stores rowWorld → A} {used : ℕ} {before after : Slices} {o : Outcome A} {answer : Walked} → Comes seen used before o answer after
+    → Kept used before after
 comes-kept (goes e on kept) = kept
 comes-kept (sticks e kept) = kept
 comes-kept (fills kept) = kept

@@ -17,7 +17,7 @@ use Rattle.walks.specs.declared.Walk.{Walk}
 use Rattle.walks.specs.declared.Walked.{Walked}
 
 -- a cell for every variable, and the used rows within the table
-pub record Ready (used : ℕ) (x : Slices) : Type 0 where
+pub record WalkReady (used : ℕ) (x : Slices) : Type 0 where
   pub objects : length (x .objects) ≡ variables
   pub named : length (x .messages) ≡ namedCells
   pub within : Within (x .rows) used

@@ -17,11 +17,13 @@ use Rattle.walks.specs.declared.Walked.{Walked}
 use Rattle.walks.specs.declared.Walked.the-variants.{Next}
 
 -- a function that sees no rows walks by a rule where the used rows are within the table
-pub record WalksInside {A : Type 0} (seen : ℕ → Stores rowWorld → A) (rule : Stores rowWorld → Outcome A) (w : Walk) (before : Slices → Slices) (answer : Walked) (after : Slices → Slices) : Type 0 where
+pub record WalksInside {A : Type 0} (seen : ℕ → Stores rowWorld → A) (rule : Stores rowWorld → Outcome A) (w : Walk) (before : Slices → Slices) (answer : Walked) (after : Slices
+    → Slices) : Type 0 where
   pub walks : (x : Slices) → w .used ≤ length (x .rows) → Comes seen (w .used) (before x) (rule (storesAt w (before x))) answer (after x)
 
 -- a walk that came to a message goes on by a rule; one that ended stays so
-pub record GoesOnBy {B : Type 0} (later : ℕ → Stores rowWorld → B) (rule : ℕ × Stores rowWorld → Outcome B) (came : Walked) (mid : Slices → Slices) (answer : Walked) (after : Slices → Slices) : Type 0 where
+pub record GoesOnBy {B : Type 0} (later : ℕ → Stores rowWorld → B) (rule : ℕ × Stores rowWorld → Outcome B) (came : Walked) (mid : Slices → Slices) (answer : Walked) (after : Slices
+    → Slices) : Type 0 where
   pub walks : (x before : Slices) (used : ℕ) (o : Outcome (ℕ × Stores rowWorld)) → Comes message-and-stores used before o came (mid x) → Comes later used before (bind o rule) answer (after x)
 
 -- a walk that goes on has its used rows within the table

@@ -1,5 +1,5 @@
 -- Rows with no children, by their tags.
-use Prim.Native.Nat.{ℕ, _<_, _≤_}
+use Prim.Native.Nat.{ℕ, _<_}
 use mathlib.Core.Path.{_≡_, refl, sym, ap, _∙_}
 use mathlib.Core.List.{List}
 use native.Mathlib.Omega.{arith}
@@ -18,10 +18,10 @@ use Rattle.walks.specs.declared.Walk.{Walk}
 use Rattle.walks.specs.declared.Walked.{Walked}
 use Rattle.walks.proofs.ComesLaws.{comes-as}
 use Rattle.leaf_matching.specs.Stages.{WalksInside}
-use Rattle.leaf_matching.specs.Matched.{Ready, meets, WalkMatches}
+use Rattle.leaf_matching.specs.Matched.{WalkReady, meets, WalkMatches}
 
 -- what the forms ask for
-module _ {objects named rows certificates : List ℕ} {used : ℕ} (ready : Ready used (slices objects named rows certificates)) where
+module _ {objects named rows certificates : List ℕ} {used : ℕ} (ready : WalkReady used (slices objects named rows certificates)) where
   pub ready-within : Within rows used
   ready-within = ready .within
 
@@ -47,7 +47,8 @@ raw-named word r e = rw e (raw-below word)
 
 pub ruleset leaf-asks = (ready-within, variable-inside, raw-inside, field-inside, key-inside, key-form-low, raw-named)
 
-module _ (patterns : List ℕ) (kind : ℕ → ℕ) (certificates rows objects named : List ℕ) (row word : ℕ) (w : Walk) (asked : StandsAt patterns row word) (tag : ℕ) (read : tag ≡ patternFields word .tag) where
+module _ (patterns : List ℕ) (kind : ℕ → ℕ) (certificates rows objects named : List ℕ) (row word : ℕ) (w : Walk) (asked : StandsAt patterns row word) (tag : ℕ)
+    (read : tag ≡ patternFields word .tag) where
   abbrev before : Slices
   before = slices objects named rows certificates
 
@@ -65,13 +66,15 @@ module _ (patterns : List ℕ) (kind : ℕ → ℕ) (certificates rows objects n
     leaf-object h walked = as-form (object row (v .0)) (object-row asked (sym read ∙ h) ∙ rw variable) (walked before)
 
     pub leaf-constant : {rows′ : List ℕ} (x : ℕ) → x ≡ patternFields word .x → tag ≡ 2
-        → ((kind : ℕ → ℕ) → WalksBy stores-alone (meets kind (constant row (v .0) x) w) w (λ x. withTermRows (withObjects x objects) rows) answer (λ x. withTermRows (withObjects x objects′) rows′))
+        → ((kind : ℕ → ℕ) → WalksBy stores-alone (meets kind (constant row (v .0) x) w) w (λ x. withTermRows (withObjects x objects) rows) answer (λ x. withTermRows
+        (withObjects x objects′) rows′))
         → Matches answer objects′ named rows′
     leaf-constant x second h walked = as-form (constant row (v .0) x) (constant-row asked (sym read ∙ h) ∙ rw (variable, second)) (walked kind before)
 
     module _ (y : Object) (second : y .0 ≡ patternFields word .y) where
       pub leaf-opposite : {rows′ : List ℕ} → tag ≡ 3
-          → ((kind : ℕ → ℕ) → WalksBy stores-alone (meets kind (opposite row (v .0) (y .0)) w) w (λ x. withTermRows (withObjects x objects) rows) answer (λ x. withTermRows (withObjects x objects′) rows′))
+          → ((kind : ℕ → ℕ) → WalksBy stores-alone (meets kind (opposite row (v .0) (y .0)) w) w (λ x. withTermRows (withObjects x objects) rows) answer (λ x. withTermRows
+          (withObjects x objects′) rows′))
           → Matches answer objects′ named rows′
       leaf-opposite h walked = as-form (opposite row (v .0) (y .0)) (opposite-row asked (sym read ∙ h) ∙ rw (variable, second)) (walked kind before)
 
@@ -92,7 +95,7 @@ module _ (patterns : List ℕ) (kind : ℕ → ℕ) (certificates rows objects n
         let seven = seven-left (patternFields word .tag) (omega arith) low (leaf .encryption) (λ h. n₆ (read ∙ h)) (leaf .tuple) (leaf .letIn) in
         as-form (hash row (v .0) (r .0)) (hash-row asked seven ∙ rw (variable, second)) (walked before)
 
-  pub leaf-raw : {answer : Walked} {named′ : List ℕ} (r : Raw) → r .0 ≡ patternFields word .r → tag ≡ 1 → Ready (w .used) before
+  pub leaf-raw : {answer : Walked} {named′ : List ℕ} (r : Raw) → r .0 ≡ patternFields word .r → tag ≡ 1 → WalkReady (w .used) before
       → ((kind : ℕ → ℕ) → WalksInside stores-alone (meets kind (raw row (r .0)) w) w (λ x. withMessages x named) answer (λ x. withMessages x named′))
       → Matches answer objects named′ rows
   leaf-raw r second h ready walked = as-form (raw row (r .0)) (raw-row asked (sym read ∙ h) ∙ rw second) (walked kind .walks before (ready .within .used-rows))

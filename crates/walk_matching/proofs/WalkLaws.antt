@@ -16,7 +16,7 @@ use Rattle.numbers.specs.declared.TermRow.{TermRow}
 use Rattle.word.specs.Fields.{split, at}
 use Rattle.patterns.specs.Pattern.{Pattern, plainKey, opKey, certifiedKey, encryption, tuple, letIn, Parts, end, part, count}
 use Rattle.patterns.specs.Row.{patternFields, childrenOf}
-use Rattle.patterns.specs.Standing.{patternIn, Stands, StandsAt}
+use Rattle.patterns.specs.Standing.{patternIn, StandsAt}
 use Rattle.patterns.specs.Tree.{partsBy}
 use Rattle.patterns.proofs.RowLaws.{children-count, raw-below}
 use Rattle.patterns.proofs.TreeLaws.{parts-count}
@@ -45,21 +45,23 @@ use Rattle.walks.specs.declared.Walked.the-variants.{Next, Stuck, NoRoom}
 use Rattle.walks.proofs.ComesLaws.{kept-same, reads, frees, gets, unset-sticks, set-sticks, not-sticks, then-goes, then-sticks, then-fills, comes-as}
 use Rattle.walks.proofs.StoreLaws.{named-unset, named-row, stores-any}
 use Rattle.leaf_matching.specs.Stages.{asked}
-use Rattle.leaf_matching.specs.Matched.{Ready, meets, WalkMatches}
+use Rattle.leaf_matching.specs.Matched.{WalkReady, meets, WalkMatches}
 use Rattle.leaf_matching.proofs.StageLaws.{comes-onward, comes-kept}
 use Rattle.leaf_matching.proofs.RuleLaws.{decodes-held, opened-stages}
 use Rattle.walk_matching.specs.MatchedParts.{PartsStand, WalkMatchesParts}
 
 -- an answer that is told
-told : {A : Type 0} {seen : ℕ → Stores rowWorld → A} {used : ℕ} {before after : Slices} {o : Outcome A} {came answer : Walked} → came ≡ answer → Comes seen used before o came after → Comes seen used before o answer after
+told : {A : Type 0} {seen : ℕ → Stores rowWorld → A} {used : ℕ} {before after : Slices} {o : Outcome A} {came answer : Walked} → came ≡ answer → Comes seen used before o came after
+    → Comes seen used before o answer after
 told {seen = seen} {used} {before} {after} {o} e h = subst (λ (c : Walked). Comes seen used before o c after) e h
 
 -- a walk that goes on has a message, and is ready for what follows
-module _ {A : Type 0} {seen : ℕ → Stores rowWorld → A} {used : ℕ} {before after : Slices} {o : Outcome A} {came : Walked} (h : Comes seen used before o came after) (w : Walk) (next : came ≡ Next w) where
+module _ {A : Type 0} {seen : ℕ → Stores rowWorld → A} {used : ℕ} {before after : Slices} {o : Outcome A} {came : Walked} (h : Comes seen used before o came after) (w : Walk)
+    (next : came ≡ Next w) where
   pub in-hand : w .message .0 ≡ unset → ⊥
   in-hand = comes-onward (told next h) .message
 
-  pub ready-next : Ready used before → Ready (w .used) after
+  pub ready-next : WalkReady used before → WalkReady (w .used) after
   ready-next ready =
       let lengths = comes-kept h .lengths in
       record {
@@ -68,7 +70,7 @@ module _ {A : Type 0} {seen : ℕ → Stores rowWorld → A} {used : ℕ} {befor
         within = record { used-rows = comes-onward (told next h) .inside; few-rows = omega (arith, lengths .rows-length, ready .within .few-rows) };
       }
 
-pub ready-met : {x : Slices} {message : TermRow} {used counter : ℕ} {w : Walk} → w ≡ record { message = message; used = used; counter = counter } → Ready used x → Ready (w .used) x
+pub ready-met : {x : Slices} {message : TermRow} {used counter : ℕ} {w : Walk} → w ≡ record { message = message; used = used; counter = counter } → WalkReady used x → WalkReady (w .used) x
 ready-met met ready = rw met ready
 
 module _ (patterns : List ℕ) (kind : ℕ → ℕ) (row : ℕ) (w : Walk) where
@@ -82,7 +84,8 @@ module _ (patterns : List ℕ) (kind : ℕ → ℕ) (row : ℕ) (w : Walk) where
   with-message {before} isRow h = comes-as (ap (λ (o : Option ℕ). match rowWorld kind (patternIn patterns row) o (storesAt w before)) (sym (held-set _ isRow))) h
 
 -- a pattern against a message that comes into hand
-met-message : (patterns : List ℕ) (kind : ℕ → ℕ) (row : ℕ) (w : Walk) {w′ : Walk} {before after : Slices} {answer : Walked} (message : TermRow) → (message .0 ≡ unset → ⊥) → w′ ≡ meeting w message
+met-message : (patterns : List ℕ) (kind : ℕ → ℕ) (row : ℕ) (w : Walk) {w′ : Walk} {before after : Slices} {answer : Walked} (message : TermRow) → (message .0 ≡ unset → ⊥)
+    → w′ ≡ meeting w message
     → WalkMatches patterns kind row w′ before answer after
     → Comes stores-alone (w .used) before (match rowWorld kind (patternIn patterns row) (some (message .0)) (storesAt w before)) answer after
 met-message patterns kind row w {before = before} {after} {answer} message isRow met h =
@@ -103,10 +106,12 @@ module _ (patterns : List ℕ) (kind : ℕ → ℕ) (certificates rows objects n
       by : (f : ℕ) → patternFields word .f ≡ f → WalkMatches patterns kind row w sealed (Stuck row Unset) sealed
       by zero h = absurd (other (read ∙ h))
       by (suc zero) h =
-          as-pattern patterns kind row w (encryption row (patternFields word .v) (opKey (patternFields word .x) (patternFields word .y)) (patternIn patterns (getD (patternFields word .slots) 0 0)))
+          as-pattern patterns kind row w (encryption row (patternFields word .v) (opKey (patternFields word .x) (patternFields word .y)) (patternIn patterns (getD
+          (patternFields word .slots) 0 0)))
           (encryption-row asks _ refl five ∙ rw h) (sticks refl kept-same)
       by (suc (suc zero)) h =
-          as-pattern patterns kind row w (encryption row (patternFields word .v) (certifiedKey (patternFields word .x) (patternFields word .y)) (patternIn patterns (getD (patternFields word .slots) 0 0)))
+          as-pattern patterns kind row w (encryption row (patternFields word .v) (certifiedKey (patternFields word .x) (patternFields word .y)) (patternIn patterns (getD
+          (patternFields word .slots) 0 0)))
           (encryption-row asks _ refl five ∙ rw h) (sticks refl kept-same)
       by (suc (suc (suc f))) h = absurd (omega (arith, encryption-key asks five))
 
@@ -131,10 +136,11 @@ module _ (patterns : List ℕ) (kind : ℕ → ℕ) (certificates rows objects n
     encryption-full place h = encryption-is _ refl (then-fills _ (told h (opened sealed)))
 
     module _ (w′ : Walk) (next : came ≡ Next w′) where
-      pub encryption-ready : Ready (w .used) sealed → Ready (w′ .used) opening
+      pub encryption-ready : WalkReady (w .used) sealed → WalkReady (w′ .used) opening
       encryption-ready ready = ready-next (opened sealed) w′ next ready
 
-      pub encryption-done : (children : List ℕ) → children ≡ patternFields word .slots → {answer : Walked} {after : Slices} → WalkMatches patterns kind (getD children 0 0) w′ opening answer after
+      pub encryption-done : (children : List ℕ) → children ≡ patternFields word .slots → {answer : Walked} {after : Slices} → WalkMatches patterns kind
+          (getD children 0 0) w′ opening answer after
           → WalkMatches patterns kind row w sealed answer after
       encryption-done children slots h =
           encryption-is (getD children 0 0) (slot children word 0 slots)
@@ -181,7 +187,7 @@ module _ (patterns : List ℕ) (kind : ℕ → ℕ) (certificates rows objects n
   tuple-full place h = tuple-is (then-fills _ (told h (decoded whole)))
 
   module _ (w′ : Walk) (next : came ≡ Next w′) where
-    pub tuple-ready : Ready (w .used) whole → Ready (w′ .used) taken-apart
+    pub tuple-ready : WalkReady (w .used) whole → WalkReady (w′ .used) taken-apart
     tuple-ready ready = ready-next (decoded whole) w′ next ready
 
     pub tuple-in-hand : w′ .message .0 ≡ unset → ⊥
@@ -233,14 +239,15 @@ module _ {patterns : List ℕ} {row : ℕ} {children : List ℕ} {n k : ℕ} (as
   parts-further = record { stands = asks .stands; four = asks .four; few = asks .few; low = omega (arith, less); below = asks .below }
 
 -- the parts from the kth on
-module _ (patterns : List ℕ) (kind : ℕ → ℕ) (certificates rows objects named : List ℕ) (row : ℕ) (children : List ℕ) (parts n k : ℕ) (w : Walk) (asks : PartsStand patterns row children n k) where
+module _ (patterns : List ℕ) (kind : ℕ → ℕ) (certificates rows objects named : List ℕ) (row : ℕ) (children : List ℕ) (parts n k : ℕ) (w : Walk)
+    (asks : PartsStand patterns row children n k) where
   abbrev halfway : Slices
   halfway = slices objects named rows certificates
 
   length-front : length (take n children) ≡ n
   length-front = length-take-le n children (omega (arith, asks .four, asks .few))
 
-  pub parts-end : n ≤ k → Ready (w .used) halfway → (w .message .0 ≡ unset → ⊥) → WalkMatchesParts patterns kind children parts n k w halfway (Next w) halfway
+  pub parts-end : n ≤ k → WalkReady (w .used) halfway → (w .message .0 ≡ unset → ⊥) → WalkMatchesParts patterns kind children parts n k w halfway (Next w) halfway
   parts-end ge ready isMessage g each =
       let last : k ≡ length (take n children) = omega (arith, length-front, asks .low) in
       let none : partsBy (patternIn patterns) (drop k (take n children)) ≡ end =
@@ -276,13 +283,14 @@ module _ (patterns : List ℕ) (kind : ℕ → ℕ) (certificates rows objects n
       parts-full place h g each = parts-are g (each k (omega (arith, less))) (then-fills _ (told h first))
 
       module _ (w′ : Walk) (next : came ≡ Next w′) where
-        pub parts-ready : Ready (w .used) halfway → Ready (w′ .used) mid
+        pub parts-ready : WalkReady (w .used) halfway → WalkReady (w′ .used) mid
         parts-ready ready = ready-next first w′ next ready
 
         pub parts-in-hand : w′ .message .0 ≡ unset → ⊥
         parts-in-hand = in-hand first w′ next
 
-        pub parts-done : {answer : Walked} {after : Slices} → WalkMatchesParts patterns kind children parts n (k + 1) w′ mid answer after → WalkMatchesParts patterns kind children parts n k w halfway answer after
+        pub parts-done : {answer : Walked} {after : Slices} → WalkMatchesParts patterns kind children parts n (k + 1) w′ mid answer after
+            → WalkMatchesParts patterns kind children parts n k w halfway answer after
         parts-done {answer} {after} h g each =
             parts-are g (each k (omega (arith, less)))
             (then-goes _ (told next first)
@@ -299,7 +307,8 @@ module _ (patterns : List ℕ) (kind : ℕ → ℕ) (certificates rows objects n
   low = rw binds (raw-below word)
 
   let-is : {answer : Walked} {after : Slices} (children : List ℕ) → children ≡ patternFields word .slots
-      → Comes stores-alone (w .used) unbound (meets kind (letIn row (r .0) (patternIn patterns (getD children 0 0)) (patternIn patterns (getD children 1 0))) w (storesAt w unbound)) answer after
+      → Comes stores-alone (w .used) unbound (meets kind (letIn row (r .0) (patternIn patterns (getD children 0 0)) (patternIn patterns (getD children 1 0))) w
+      (storesAt w unbound)) answer after
       → WalkMatches patterns kind row w unbound answer after
   let-is children slots h =
       as-pattern patterns kind row w (letIn row (r .0) (patternIn patterns (getD children 0 0)) (patternIn patterns (getD children 1 0)))
@@ -326,7 +335,7 @@ module _ (patterns : List ℕ) (kind : ℕ → ℕ) (certificates rows objects n
     let-full place h = let-freed (then-fills _ (told h walked))
 
     module _ (w′ : Walk) (next : came ≡ Next w′) where
-      pub let-ready : Ready (w .used) unbound → Ready (w′ .used) mid
+      pub let-ready : WalkReady (w .used) unbound → WalkReady (w′ .used) mid
       let-ready ready = ready-next walked w′ next ready
 
       module _ (bound : TermRow) (again : bound .0 ≡ getD named′ (r .0) unset) where

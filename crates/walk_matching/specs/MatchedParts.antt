@@ -7,7 +7,6 @@ use Rattle.numbers.specs.Limits.{mostParts}
 use Rattle.word.specs.Fields.{split, at}
 use Rattle.patterns.specs.Standing.{patternIn, Stands}
 use Rattle.patterns.specs.Tree.{partsBy}
-use Rattle.stores.specs.Cells.{unset}
 use Rattle.terms.specs.Row.{termWidths}
 use Rattle.theory.specs.RowModel.{rowWorld}
 use Rattle.theory.specs.Rules.{matchParts}

@@ -12,14 +12,13 @@ use walks::Walked;
 use walks::making::decode;
 use world::Parted;
 ghost use mathlib.Core.Path.{_≡_};
-ghost use lib.ListN.{length};
 ghost use Rattle.numbers.specs.Kinds.{kindIn};
 ghost use Rattle.patterns.specs.Forms.{encryptionForm, tupleForm, letForm};
 ghost use Rattle.patterns.specs.Row.{patternFields};
 ghost use Rattle.patterns.specs.Standing.{Stands, StandsAt, Leaf};
 ghost use Rattle.stores.specs.Cells.{unset};
 ghost use Rattle.machine.specs.Machine.{slices};
-ghost use Rattle.leaf_matching.specs.Matched.{Ready, WalkMatches};
+ghost use Rattle.leaf_matching.specs.Matched.{WalkReady, WalkMatches};
 ghost use Rattle.walk_matching.specs.MatchedParts.{PartsStand, WalkMatchesParts};
 
 // The pattern's rows, and zero rows behind them.
@@ -39,7 +38,7 @@ fn match_leaf(
 ) -> Walked
     requires { ⌜ StandsAt (now rows) row word ⌝ }
     requires { ⌜ Leaf (patternFields word .tag) ⌝ }
-    requires { ⌜ Ready (walk .used) (slices (now objects) (now named) (now terms) (now certificates)) ⌝ }
+    requires { ⌜ WalkReady (walk .used) (slices (now objects) (now named) (now terms) (now certificates)) ⌝ }
     ensures { λ r. ⌜ WalkMatches (now (rows .entry)) (kindIn (now (kinds .entry))) row walk
         (slices (now (objects .entry)) (now (named .entry)) (now (terms .entry)) (now (certificates .entry))) r
         (slices (now (objects .exit)) (now (named .exit)) (now (terms .exit)) (now (certificates .entry))) ⌝ }
@@ -80,7 +79,7 @@ pub fn match_row(
     row: u8,
 ) -> Walked
     requires { ⌜ Stands (now rows) row ⌝ }
-    requires { ⌜ Ready (walk .used) (slices (now objects) (now named) (now terms) (now certificates)) ⌝ }
+    requires { ⌜ WalkReady (walk .used) (slices (now objects) (now named) (now terms) (now certificates)) ⌝ }
     ensures { λ r. ⌜ WalkMatches (now (rows .entry)) (kindIn (now (kinds .entry))) row walk
         (slices (now (objects .entry)) (now (named .entry)) (now (terms .entry)) (now (certificates .entry))) r
         (slices (now (objects .exit)) (now (named .exit)) (now (terms .exit)) (now (certificates .entry))) ⌝ }
@@ -149,7 +148,7 @@ fn match_encryption(
 ) -> Walked
     requires { ⌜ StandsAt (now rows) row word ⌝ }
     requires { ⌜ patternFields word .tag ≡ encryptionForm ⌝ }
-    requires { ⌜ Ready (walk .used) (slices (now objects) (now named) (now terms) (now certificates)) ⌝ }
+    requires { ⌜ WalkReady (walk .used) (slices (now objects) (now named) (now terms) (now certificates)) ⌝ }
     ensures { λ r. ⌜ WalkMatches (now (rows .entry)) (kindIn (now (kinds .entry))) row walk
         (slices (now (objects .entry)) (now (named .entry)) (now (terms .entry)) (now (certificates .entry))) r
         (slices (now (objects .exit)) (now (named .exit)) (now (terms .exit)) (now (certificates .entry))) ⌝ }
@@ -192,7 +191,7 @@ fn match_tuple(
 ) -> Walked
     requires { ⌜ StandsAt (now rows) row word ⌝ }
     requires { ⌜ patternFields word .tag ≡ tupleForm ⌝ }
-    requires { ⌜ Ready (walk .used) (slices (now objects) (now named) (now terms) (now certificates)) ⌝ }
+    requires { ⌜ WalkReady (walk .used) (slices (now objects) (now named) (now terms) (now certificates)) ⌝ }
     ensures { λ r. ⌜ WalkMatches (now (rows .entry)) (kindIn (now (kinds .entry))) row walk
         (slices (now (objects .entry)) (now (named .entry)) (now (terms .entry)) (now (certificates .entry))) r
         (slices (now (objects .exit)) (now (named .exit)) (now (terms .exit)) (now (certificates .entry))) ⌝ }
@@ -243,7 +242,7 @@ fn match_parts(
     k: u8,
 ) -> Walked
     requires { ⌜ PartsStand (now rows) row children n k ⌝ }
-    requires { ⌜ Ready (walk .used) (slices (now objects) (now named) (now terms) (now certificates)) ⌝ }
+    requires { ⌜ WalkReady (walk .used) (slices (now objects) (now named) (now terms) (now certificates)) ⌝ }
     requires { ⌜ (walk .message .0 ≡ unset → ⊥) ⌝ }
     ensures { λ r. ⌜ WalkMatchesParts (now (rows .entry)) (kindIn (now (kinds .entry))) children parts n k walk
         (slices (now (objects .entry)) (now (named .entry)) (now (terms .entry)) (now (certificates .entry))) r
@@ -298,7 +297,7 @@ fn match_let(
 ) -> Walked
     requires { ⌜ StandsAt (now rows) row word ⌝ }
     requires { ⌜ patternFields word .tag ≡ letForm ⌝ }
-    requires { ⌜ Ready (walk .used) (slices (now objects) (now named) (now terms) (now certificates)) ⌝ }
+    requires { ⌜ WalkReady (walk .used) (slices (now objects) (now named) (now terms) (now certificates)) ⌝ }
     ensures { λ r. ⌜ WalkMatches (now (rows .entry)) (kindIn (now (kinds .entry))) row walk
         (slices (now (objects .entry)) (now (named .entry)) (now (terms .entry)) (now (certificates .entry))) r
         (slices (now (objects .exit)) (now (named .exit)) (now (terms .exit)) (now (certificates .entry))) ⌝ }

@@ -35,10 +35,27 @@ match-key-of-requires : tie.Need-match-key-of-requires
 match-key-of-requires c κs = search leaf-asks
 
 match-signature-requires : tie.Need-match-signature-requires
-match-signature-requires c κs = (ready-within (c .before .before .before .before .before .before .before .before .before .before .before .before .before .pre .1 .1), (field-inside (c .before .before .before .before .before .before .before .before .before .before .before .before .before .pre .1 .1) _, (key-inside (c .before .before .before .before .before .before .before .before .before .before .before .before .before .pre .1 .1) _ (c .before .before .before .before .before .before .before .before .before .before .before .before .before .pre .0) (c .before .before .before .before .before .before .before .tag .ensures) (c .before .before .before .match .keys6), key-form-low (c .before .before .before .before .before .before .before .before .before .before .before .before .before .pre .1 .1) _ (c .before .before .before .before .before .before .before .before .before .before .before .before .before .pre .0) (c .before .before .before .before .before .before .before .tag .ensures) (c .before .before .before .match .keys6))))
+match-signature-requires c κs =
+    let start = c .before .before .before .before .before .before .before .before .before .before .before .before .before .pre in
+    let tag = c .before .before .before .before .before .before .before .tag in
+    let arm = c .before .before .before .match in (
+      ready-within (start .1 .1),
+      (
+        field-inside (start .1 .1) _,
+        (
+          key-inside (start .1 .1) _ (start .0) (tag .ensures) (arm .keys6),
+          key-form-low (start .1 .1) _ (start .0)
+              (tag .ensures) (arm .keys6),
+        ),
+      ),
+    )
 
 match-hash-requires : tie.Need-match-hash-requires
-match-hash-requires c κs = (ready-within (c .before .before .before .before .before .before .before .before .before .before .before .before .before .pre .1 .1), (variable-inside (c .before .before .before .before .before .before .before .before .before .before .before .before .before .pre .1 .1) _ _ (c .before .before .before .before .before .before .variable .ensures), raw-named _ _ (c .before .before .before .before .before .raw .ensures)))
+match-hash-requires c κs =
+    let start = c .before .before .before .before .before .before .before .before .before .before .before .before .before .pre in
+    let variable = c .before .before .before .before .before .before .variable in
+    let raw = c .before .before .before .before .before .raw in
+    (ready-within (start .1 .1), (variable-inside (start .1 .1) _ _ (variable .ensures), raw-named _ _ (raw .ensures)))
 
 same-length : tie.Need-same-length
 same-length c = search needs

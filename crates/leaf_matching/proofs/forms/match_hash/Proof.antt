@@ -9,7 +9,11 @@ decode-requires : tie.Need-decode-requires
 decode-requires c κs = search needs
 
 hashed-requires : tie.Need-hashed-requires
-hashed-requires c κs = (c .before .before .before .before .before .before .before .before .before .before .before .pre .1 .1, decoded-inside _ (kindIn (c .before .before .before .before .before .before .before .before .before .before .before .args .kinds .now)) _ _ _ _ (c .before .before .before .decode .ensures) (c .before .before .before .before .before .before .before .before .before .before .before .pre .0))
+hashed-requires c κs =
+    let start = c .before .before .before .before .before .before .before .before .before .before .before .pre in
+    let inputs = c .before .before .before .before .before .before .before .before .before .before .before .args in
+    let decode = c .before .before .before .decode in
+    (start .1 .1, decoded-inside _ (kindIn (inputs .kinds .now)) _ _ _ _ (decode .ensures) (start .0))
 
 same-as-requires : tie.Need-same-as-requires
 same-as-requires c κs = search needs

@@ -20,7 +20,11 @@ same-length-2 : tie.Need-same-length-2
 same-length-2 c = search needs
 
 returns-2 : tie.Need-returns-2
-returns-2 c = λ kind. opposite-same _ _ _ _ _ _ kind (c .before .before .before .before .before .before .before .before .if1 .left) (c .before .before .before .before .before .opposite-of .ensures) (c .same-as .ensures)
+returns-2 c =
+    let if1 = c .before .before .before .before .before .before .before .before .if1 in
+    let opposite-of = c .before .before .before .before .before .opposite-of in
+    let same-as = c .same-as in
+    λ kind. opposite-same _ _ _ _ _ _ kind (if1 .left) (opposite-of .ensures) (same-as .ensures)
 
 pub match-opposite-spec : {M : Type 1} → statement M
 match-opposite-spec =

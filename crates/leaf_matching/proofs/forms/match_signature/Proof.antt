@@ -12,7 +12,13 @@ decode-requires : tie.Need-decode-requires
 decode-requires c κs = search needs
 
 signing-key-requires : tie.Need-signing-key-requires
-signing-key-requires c κs = (decoded-inside _ (kindIn (c .before .before .before .before .before .before .before .before .before .before .before .before .before .before .args .kinds .now)) _ _ _ _ (c .before .before .before .before .decode .ensures) (c .before .before .before .before .before .before .before .before .before .before .before .before .before .before .pre .0), (decoded-low _ (kindIn (c .before .before .before .before .before .before .before .before .before .before .before .before .before .before .args .kinds .now)) _ _ _ _ (c .before .before .before .before .decode .ensures) (c .before .before .before .before .before .before .before .before .before .before .before .before .before .before .pre .1 .1 .0), c .before .before .before .before .before .before .before .before .before .before .before .before .before .before .pre .1 .1 .1))
+signing-key-requires c κs =
+    let inputs = c .before .before .before .before .before .before .before .before .before .before .before .before .before .before .args in
+    let decode = c .before .before .before .before .decode in
+    let start = c .before .before .before .before .before .before .before .before .before .before .before .before .before .before .pre in (
+      decoded-inside _ (kindIn (inputs .kinds .now)) _ _ _ _ (decode .ensures) (start .0),
+      (decoded-low _ (kindIn (inputs .kinds .now)) _ _ _ _ (decode .ensures) (start .1 .1 .0), start .1 .1 .1),
+    )
 
 raw-requires : tie.Need-raw-requires
 raw-requires c κs = search needs
@@ -27,7 +33,15 @@ same-length-2 : tie.Need-same-length-2
 same-length-2 c = search needs
 
 returns : tie.Need-returns
-returns c = signature-verified _ (kindIn (c .before .before .before .before .before .before .before .before .before .before .before .before .before .before .before .before .before .before .before .before .before .before .args .kinds .now)) _ _ _ _ (c .before .before .before .before .before .before .before .before .before .before .before .before .decode .ensures) _ (c .before .before .before .before .before .before .before .before .before .before .before .before .before .variable .ensures) _ (c .before .raw .ensures) _ _ (c .before .before .before .before .before .before .before .signing-key .ensures) (c .verified .ensures)
+returns c =
+    let inputs = c .before .before .before .before .before .before .before .before .before .before .before .before .before .before .before .before .before .before .before .before
+    .before .before .args in
+    let decode = c .before .before .before .before .before .before .before .before .before .before .before .before .decode in
+    let variable = c .before .before .before .before .before .before .before .before .before .before .before .before .before .variable in
+    let raw = c .before .raw in
+    let signing-key = c .before .before .before .before .before .before .before .signing-key in
+    let verified = c .verified in
+    signature-verified _ (kindIn (inputs .kinds .now)) _ _ _ _ (decode .ensures) _ (variable .ensures) _ (raw .ensures) _ _ (signing-key .ensures) (verified .ensures)
 
 pub match-signature-spec : {M : Type 1} → statement M
 match-signature-spec =

@@ -15,7 +15,11 @@ same-length : tie.Need-same-length
 same-length c = search needs
 
 returns : tie.Need-returns
-returns c = open-done _ (kindIn (c .before .before .before .before .before .before .before .before .before .args .kinds .now)) _ _ _ _ (c .before .before .before .before .decode .ensures) _ (c .opened-by .ensures)
+returns c =
+    let inputs = c .before .before .before .before .before .before .before .before .before .args in
+    let decode = c .before .before .before .before .decode in
+    let opened-by = c .opened-by in
+    open-done _ (kindIn (inputs .kinds .now)) _ _ _ _ (decode .ensures) _ (opened-by .ensures)
 
 pub open-spec : {M : Type 1} → statement M
 open-spec = tie.close (tie.spec decode-requires opened-by-requires same-length returns)

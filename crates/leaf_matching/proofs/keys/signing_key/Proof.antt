@@ -42,7 +42,15 @@ same-length : tie.Need-same-length
 same-length c = search needs
 
 returns-3 : tie.Need-returns-3
-returns-3 c = signing-held _ _ _ _ _ _ (c .before .before .before .before .before .before .before .before .before .before .before .before .before .pre .1 .1) _ (c .before .before .before .before .before .before .before .came3 .given .1) _ _ (c .before .before .before .before .before .key .ensures) (c .before .before .before .before .y .ensures) _ (c .before .before .before .key-form .ensures) (c .before .before .match2 .keys1) (c .held-key .ensures)
+returns-3 c =
+    let start = c .before .before .before .before .before .before .before .before .before .before .before .before .before .pre in
+    let came3 = c .before .before .before .before .before .before .before .came3 in
+    let key = c .before .before .before .before .before .key in
+    let y = c .before .before .before .before .y in
+    let key-form = c .before .before .before .key-form in
+    let inner-arm = c .before .before .match2 in
+    let held-key = c .held-key in
+    signing-held _ _ _ _ _ _ (start .1 .1) _ (came3 .given .1) _ _ (key .ensures) (y .ensures) _ (key-form .ensures) (inner-arm .keys1) (held-key .ensures)
 
 same-length-2 : tie.Need-same-length-2
 same-length-2 c = search needs
@@ -51,7 +59,15 @@ same-length-3 : tie.Need-same-length-3
 same-length-3 c = search needs
 
 returns-4 : tie.Need-returns-4
-returns-4 c = signing-opposite _ _ _ _ _ _ (c .before .before .before .before .before .before .before .before .before .before .before .before .before .before .before .before .before .before .pre .1 .1) _ (c .before .before .before .before .before .before .before .before .before .before .before .before .came3 .given .1) _ _ (c .before .before .before .before .before .before .before .before .before .before .key .ensures) (c .before .before .before .before .before .before .before .before .before .y .ensures) _ (c .before .before .before .before .before .before .before .before .key-form .ensures) (c .before .before .before .before .before .before .before .match2 .keys2) (c .before .before .before .before .opposite-of .ensures)
+returns-4 c =
+    let start = c .before .before .before .before .before .before .before .before .before .before .before .before .before .before .before .before .before .before .pre in
+    let came3 = c .before .before .before .before .before .before .before .before .before .before .before .before .came3 in
+    let key = c .before .before .before .before .before .before .before .before .before .before .key in
+    let y = c .before .before .before .before .before .before .before .before .before .y in
+    let key-form = c .before .before .before .before .before .before .before .before .key-form in
+    let inner-arm = c .before .before .before .before .before .before .before .match2 in
+    let opposite-of = c .before .before .before .before .opposite-of in
+    signing-opposite _ _ _ _ _ _ (start .1 .1) _ (came3 .given .1) _ _ (key .ensures) (y .ensures) _ (key-form .ensures) (inner-arm .keys2) (opposite-of .ensures)
 
 same-length-4 : tie.Need-same-length-4
 same-length-4 c = search needs
@@ -60,7 +76,16 @@ same-length-5 : tie.Need-same-length-5
 same-length-5 c = search needs
 
 returns-5 : tie.Need-returns-5
-returns-5 c = signing-certified _ _ _ _ _ _ (c .before .before .before .before .before .before .before .before .before .before .before .before .before .before .before .before .pre .1 .1) _ (c .before .before .before .before .before .before .before .before .before .before .came3 .given .1) _ _ (c .before .before .before .before .before .before .before .before .key .ensures) (c .before .before .before .before .before .before .before .y .ensures) _ (c .before .before .before .before .before .before .key-form .ensures) (c .before .before .before .before .before .match2 .rest .0 .1) (c .before .before .before .before .before .match2 .rest .1) (c .before .before .certified-key .ensures)
+returns-5 c =
+    let start = c .before .before .before .before .before .before .before .before .before .before .before .before .before .before .before .before .pre in
+    let came3 = c .before .before .before .before .before .before .before .before .before .before .came3 in
+    let key = c .before .before .before .before .before .before .before .before .key in
+    let y = c .before .before .before .before .before .before .before .y in
+    let key-form = c .before .before .before .before .before .before .key-form in
+    let inner-arm = c .before .before .before .before .before .match2 in
+    let certified-key = c .before .before .certified-key in
+    signing-certified _ _ _ _ _ _ (start .1 .1) _ (came3 .given .1) _ _ (key .ensures) (y .ensures) _ (key-form .ensures) (inner-arm .rest .0 .1) (inner-arm .rest .1)
+    (certified-key .ensures)
 
 pub signing-key-spec : {M : Type 1} → statement M
 signing-key-spec =

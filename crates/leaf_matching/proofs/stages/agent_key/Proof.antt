@@ -38,10 +38,23 @@ returns-3 : tie.Need-returns-3
 returns-3 c = search (stage-full)
 
 returns-4 : tie.Need-returns-4
-returns-4 c = agent-not _ _ _ _ _ (c .before .before .before .before .before .before .before .before .came3 .given .1) _ (c .before .before .before .before .before .before .object-at .ensures) (c .before .before .before .before .if1 .left) (c .before .before .before .key-of .ensures) _ (c .before .opened .given .1)
+returns-4 c =
+    let came3 = c .before .before .before .before .before .before .before .before .came3 in
+    let object-at = c .before .before .before .before .before .before .object-at in
+    let if1 = c .before .before .before .before .if1 in
+    let key-of = c .before .before .before .key-of in
+    let opened = c .before .opened in
+    agent-not _ _ _ _ _ (came3 .given .1) _ (object-at .ensures) (if1 .left) (key-of .ensures) _ (opened .given .1)
 
 returns-5 : tie.Need-returns-5
-returns-5 c = agent-row _ _ _ _ _ (c .before .before .before .before .before .before .before .before .before .came3 .given .1) _ (c .before .before .before .before .before .before .before .object-at .ensures) (c .before .before .before .before .before .if1 .left) (c .before .before .before .before .key-of .ensures) _ _ (c .before .before .opened2 .given .1) (c .meeting .ensures)
+returns-5 c =
+    let came3 = c .before .before .before .before .before .before .before .before .before .came3 in
+    let object-at = c .before .before .before .before .before .before .before .object-at in
+    let if1 = c .before .before .before .before .before .if1 in
+    let key-of = c .before .before .before .before .key-of in
+    let opened2 = c .before .before .opened2 in
+    let meeting = c .meeting in
+    agent-row _ _ _ _ _ (came3 .given .1) _ (object-at .ensures) (if1 .left) (key-of .ensures) _ _ (opened2 .given .1) (meeting .ensures)
 
 pub agent-key-spec : {M : Type 1} → statement M
 agent-key-spec =

@@ -17,7 +17,12 @@ message-at-requires : tie.Need-message-at-requires
 message-at-requires c κs = search needs
 
 returns : tie.Need-returns
-returns c = hash-unset _ _ _ _ (c .before .before .before .before .before .before .before .before .pre .0) _ (c .before .before .before .before .came3 .given .1) _ (c .before .before .message-at .ensures) (c .if1 .taken)
+returns c =
+    let start = c .before .before .before .before .before .before .before .before .pre in
+    let came3 = c .before .before .before .before .came3 in
+    let message-at = c .before .before .message-at in
+    let if1 = c .if1 in
+    hash-unset _ _ _ _ (start .0) _ (came3 .given .1) _ (message-at .ensures) (if1 .taken)
 
 hash-requires : tie.Need-hash-requires
 hash-requires c κs = search needs
@@ -35,7 +40,14 @@ same-length : tie.Need-same-length
 same-length c = search needs
 
 returns-4 : tie.Need-returns-4
-returns-4 c = hash-made _ _ _ _ (c .before .before .before .before .before .before .before .before .before .before .before .before .before .pre .0) _ (c .before .before .before .before .before .before .before .before .before .came3 .given .1) _ (c .before .before .before .before .before .before .before .message-at .ensures) (c .before .before .before .before .before .if1 .left) (c .before .before .before .hash .ensures) (c .before .before .make .ensures)
+returns-4 c =
+    let start = c .before .before .before .before .before .before .before .before .before .before .before .before .before .pre in
+    let came3 = c .before .before .before .before .before .before .before .before .before .came3 in
+    let message-at = c .before .before .before .before .before .before .before .message-at in
+    let if1 = c .before .before .before .before .before .if1 in
+    let hash = c .before .before .before .hash in
+    let make = c .before .before .make in
+    hash-made _ _ _ _ (start .0) _ (came3 .given .1) _ (message-at .ensures) (if1 .left) (hash .ensures) (make .ensures)
 
 pub hashed-spec : {M : Type 1} → statement M
 hashed-spec =

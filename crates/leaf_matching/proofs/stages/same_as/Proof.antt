@@ -29,10 +29,18 @@ returns-2 : tie.Need-returns-2
 returns-2 c = search (stage-full)
 
 returns-3 : tie.Need-returns-3
-returns-3 c = λ kind. same-not _ _ kind _ (c .before .before .before .before .before .came3 .given .1) (c .before .before .before .same .ensures) _ (c .before .tested .given .1)
+returns-3 c =
+    let came3 = c .before .before .before .before .before .came3 in
+    let same = c .before .before .before .same in
+    let tested = c .before .tested in
+    λ kind. same-not _ _ kind _ (came3 .given .1) (same .ensures) _ (tested .given .1)
 
 returns-4 : tie.Need-returns-4
-returns-4 c = λ kind. same-holds _ _ kind _ (c .before .before .before .before .came3 .given .1) (c .before .before .same .ensures) (c .enum-told .given .1)
+returns-4 c =
+    let came3 = c .before .before .before .before .came3 in
+    let same = c .before .before .same in
+    let enum-told = c .enum-told in
+    λ kind. same-holds _ _ kind _ (came3 .given .1) (same .ensures) (enum-told .given .1)
 
 pub same-as-spec : {M : Type 1} → statement M
 same-as-spec =

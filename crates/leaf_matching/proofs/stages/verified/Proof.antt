@@ -17,7 +17,12 @@ message-at-requires : tie.Need-message-at-requires
 message-at-requires c κs = search needs
 
 returns : tie.Need-returns
-returns c = verify-unset _ _ _ _ (c .before .before .before .before .before .before .before .before .pre) _ _ (c .before .before .before .before .came3 .given .1) _ (c .before .before .message-at .ensures) (c .if1 .taken)
+returns c =
+    let start = c .before .before .before .before .before .before .before .before .pre in
+    let came3 = c .before .before .before .before .came3 in
+    let message-at = c .before .before .message-at in
+    let if1 = c .if1 in
+    verify-unset _ _ _ _ (start) _ _ (came3 .given .1) _ (message-at .ensures) (if1 .taken)
 
 verify-requires : tie.Need-verify-requires
 verify-requires c κs = search needs
@@ -35,10 +40,24 @@ returns-3 : tie.Need-returns-3
 returns-3 c = search (stage-full)
 
 returns-4 : tie.Need-returns-4
-returns-4 c = verify-not _ _ _ _ (c .before .before .before .before .before .before .before .before .before .before .before .before .pre) _ _ (c .before .before .before .before .before .before .before .before .came3 .given .1) _ (c .before .before .before .before .before .before .message-at .ensures) (c .before .before .before .before .if1 .left) (c .before .before .before .verify .ensures) _ (c .before .tested .given .1)
+returns-4 c =
+    let start = c .before .before .before .before .before .before .before .before .before .before .before .before .pre in
+    let came3 = c .before .before .before .before .before .before .before .before .came3 in
+    let message-at = c .before .before .before .before .before .before .message-at in
+    let if1 = c .before .before .before .before .if1 in
+    let verify = c .before .before .before .verify in
+    let tested = c .before .tested in
+    verify-not _ _ _ _ (start) _ _ (came3 .given .1) _ (message-at .ensures) (if1 .left) (verify .ensures) _ (tested .given .1)
 
 returns-5 : tie.Need-returns-5
-returns-5 c = verify-holds _ _ _ _ (c .before .before .before .before .before .before .before .before .before .before .before .pre) _ _ (c .before .before .before .before .before .before .before .came3 .given .1) _ (c .before .before .before .before .before .message-at .ensures) (c .before .before .before .if1 .left) (c .before .before .verify .ensures) (c .enum-told .given .1)
+returns-5 c =
+    let start = c .before .before .before .before .before .before .before .before .before .before .before .pre in
+    let came3 = c .before .before .before .before .before .before .before .came3 in
+    let message-at = c .before .before .before .before .before .message-at in
+    let if1 = c .before .before .before .if1 in
+    let verify = c .before .before .verify in
+    let enum-told = c .enum-told in
+    verify-holds _ _ _ _ (start) _ _ (came3 .given .1) _ (message-at .ensures) (if1 .left) (verify .ensures) (enum-told .given .1)
 
 pub verified-spec : {M : Type 1} → statement M
 verified-spec =
