@@ -1,11 +1,12 @@
 -- The rules of a row, a way out of the code at a time.
 use Prim.Native.Nat.{ℕ, suc, _+_, _<_, _≤_}
 use mathlib.Core.Path.{_≡_, refl, sym, _∙_, ap}
-use mathlib.Core.Bool.{Bool, true, false, not, _&&_, _||_}
-use mathlib.Core.Option.{Option, none, some}
+use mathlib.Core.Bool.{Bool, true, false, not, _&&_}
+use mathlib.Core.Option.{Option, some}
 use mathlib.Core.List.{List, [], _∷_}
 use native.Mathlib.Omega.{arith}
 use lib.ListN.{length, getD, take, drop}
+use lib.Seq.{getD-take, length-take-le}
 use lib.Dec.{eqb, leb, ltb}
 use borrow.Author.Tests.{eq-eqb, ne-eqb, le-leb, lt-leb, lt-ltb, le-ltb}
 use Rattle.word.specs.Fields.{at}
@@ -13,11 +14,14 @@ use Rattle.word.specs.Lowest.{each, oneOf, lowestFrom, placeOf}
 use Rattle.word.specs.declared.Place.{Place}
 use Rattle.word.specs.declared.Place.the-variants.{At, Nowhere}
 use Rattle.word.proofs.OneOfLaws.{one-here, one-later, one-last}
+use Rattle.word.proofs.LowestLaws.{one-of}
+use Rattle.word.proofs.TestLaws.{is-true, is-false}
 use Rattle.word.proofs.ScanLaws.{placed-at, placed-nowhere, Left, scan-hit, scan-miss, each-stop, each-next, each-end}
 use Rattle.terms.specs.declared.Checked.the-variants.{Bad, Used}
 use Rattle.terms.specs.Shape.{Shape, atom, encrypted, signed, hashed, tupled, partsOf}
 use Rattle.terms.specs.Row.{rowOf, tagOf, shapeOf}
 use Rattle.terms.specs.Finder.{equalRow}
+use Rattle.terms.proofs.FinderLaws.{equal-last, equal-absent}
 use Rattle.terms.specs.Rules.{knownTag, isPacked, numberFits, partsBelow, keyKindFits, earlierEqual, usedRows, fits, badTermRow, nonzeroRow, badTerm, checkedBy, checked}
 use Rattle.terms.proofs.TableLaws.{used-rows}
 use Rattle.terms.proofs.ShapeLaws.{field, slotsOf, numberOf, Plain, shape-encrypted, shape-signed, shape-hashed, shape-tupled, shape-atom, by-tag, parts-taken, parts-at}
@@ -145,30 +149,22 @@ module _ (rows : List ℕ) (key word tag kind : ℕ) (row : word ≡ getD rows k
 pub ruleset kind-ways = (kind-first, kind-second)
 
 -- the rule of equal rows
-module _ (word : ℕ) where
-  abbrev there : Option ℕ → Bool
-  there none = false
-  there (some place) = true
+module _ (word : ℕ) (rows : List ℕ) (row : ℕ) (place : Place) (is : place ≡ placeOf (equalRow rows row word)) (inside : row ≤ length rows) where
+  among : length (take row rows) ≡ row
+  among = length-take-le row rows inside
 
-  one-of-step : (from : ℕ) (hit rest : Bool) (answer : Option ℕ) → rest ≡ there answer
-      → hit || rest ≡ there (elim hit [ true ↦ some from | false ↦ answer ])
-  one-of-step from true rest answer e = refl
-  one-of-step from false rest answer e = e
+  pub earlier-there : (found : ℕ) → place ≡ At found → true ≡ earlierEqual rows row word
+  unfolding earlierEqual
+  earlier-there found e =
+      let last = equal-last rows row word inside found .0 (placed-at _ is e) in
+      sym (is-true (oneOf (take row rows) word) (one-of (take row rows) word .1 (found, omega (arith, among, last .within), getD-take row rows found 0 (last .within) ∙ last .equals)))
 
-  one-of-lowest : (from : ℕ) (rows : List ℕ) → oneOf rows word ≡ there (lowestFrom from (λ row other. eqb other word) rows)
-  unfolding oneOf lowestFrom
-  one-of-lowest from [] = refl
-  one-of-lowest from (other ∷ rows) = one-of-step from (eqb other word) (oneOf rows word) _ (one-of-lowest (suc from) rows)
-
-  pub earlier-there : (rows : List ℕ) (row first : ℕ) (place : Place) → place ≡ placeOf (equalRow rows row word) → place ≡ At first
-      → true ≡ earlierEqual rows row word
-  unfolding earlierEqual equalRow
-  earlier-there rows row first place is e = rw (one-of-lowest 0 (take row rows), placed-at (equalRow rows row word) is e)
-
-  pub earlier-nowhere : (rows : List ℕ) (row : ℕ) (place : Place) → place ≡ placeOf (equalRow rows row word) → place ≡ Nowhere
-      → false ≡ earlierEqual rows row word
-  unfolding earlierEqual equalRow
-  earlier-nowhere rows row place is e = rw (one-of-lowest 0 (take row rows), placed-nowhere (equalRow rows row word) is e)
+  pub earlier-nowhere : place ≡ Nowhere → false ≡ earlierEqual rows row word
+  unfolding earlierEqual
+  earlier-nowhere e = sym (is-false (oneOf (take row rows) word) λ t.
+      let (at, low, same) = one-of (take row rows) word .0 t in
+      let before : at < row = omega (arith, among, low) in
+      equal-absent rows row word inside .0 (placed-nowhere _ is e) at before (sym (getD-take row rows at 0 before) ∙ same))
 
 pub ruleset earlier-ways = (earlier-there, earlier-nowhere)
 
