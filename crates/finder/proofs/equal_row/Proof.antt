@@ -51,7 +51,7 @@ loop-again c =
 returns-2 : tie.Need-returns-2 Inv-loop μ-loop
 returns-2 c =
     let s = c .before .before .before .before in
-    ap placeOf (sym (left-none (s .args .rows .now) (s .args .word) (c .before .loop .inv .1) (c .loop-test .left)))
+    ap placeOf (sym (left-none (s .args .rows .now) (s .args .word) (c .before .loop .inv .1) (omega (arith, c .loop-test .left))))
 
 pub equal-row-spec : {M : Type 1} → statement M
 equal-row-spec =
