@@ -5,6 +5,7 @@ ghost use lib.ListN.{length};
 ghost use Rattle.word.specs.Bytes.{elements};
 ghost use Rattle.numbers.specs.Limits.{mostTermRows};
 ghost use Rattle.calls.specs.Round.{round};
+ghost use Rattle.looking.specs.Front.{ZeroFrom};
 ghost use Rattle.lending.specs.RoundEntry.{roundRowsSpelled};
 use answers::Rounded;
 use answers::Session;
@@ -21,7 +22,7 @@ pub struct RoundLeft {
     pub messages: [u16; MESSAGE_CELLS],
 }
 
-// The rows are room for the table.
+// The rows are room for the table: they are zero.
 fn over_rows(
     session: Session,
     rounds: u32,
@@ -33,7 +34,7 @@ fn over_rows(
     rows: &mut [u64],
     words: &[u32],
 ) -> RoundLeft
-    requires { ⌜ (length (now terms) ≡ 8 * length (now rows)) × (length (now rows) ≤ mostTermRows) ⌝ }
+    requires { ⌜ (length (now terms) ≡ 8 * length (now rows)) × (length (now rows) ≤ mostTermRows) × ZeroFrom 0 (now rows) ⌝ }
     ensures { λ r. ⌜ record { answer = r .answer; session = r .session; objects = r .objects; messages = r .messages; terms = now (terms .exit) }
         ≡ roundRowsSpelled (round (record {
           session = session;
@@ -47,8 +48,8 @@ fn over_rows(
 {
     let mut new_objects = objects;
     let mut new_messages = messages;
-    word::unpack_words(terms, rows);
-    let ended = rounds::round_of(
+    let read = lending::rows::unpack(terms, rows);
+    let ended = rounds::round_front(
         session,
         rounds,
         kinds,
@@ -56,11 +57,13 @@ fn over_rows(
         &mut new_messages,
         certificates,
         rows,
+        read.front,
         words,
     );
-    word::pack_words(rows, terms);
     let answer = ended.answer;
     let after = ended.session;
+    let used = after.used as usize;
+    lending::rows::pack_new(rows, read.used, used, terms);
     RoundLeft {
         answer: answer,
         session: after,

@@ -6,6 +6,7 @@ ghost use Rattle.word.specs.Bytes.{elements};
 ghost use Rattle.numbers.specs.Limits.{mostTermRows};
 ghost use Rattle.calls.specs.Run.{run};
 ghost use Rattle.looking.specs.Found.{usedWith};
+ghost use Rattle.looking.specs.Front.{ZeroFrom};
 ghost use Rattle.lending.specs.Entries.{rowsSpelled};
 use lending::arrays;
 use lending::arrays::FEW_ROWS;
@@ -13,7 +14,7 @@ use numbers::limits::MESSAGE_CELLS;
 use numbers::limits::VARIABLES;
 use running::Outcome;
 
-// The rows are room for the table.
+// The rows are room for the table: they are zero.
 fn over_rows(
     kinds: &[u8],
     objects: [u16; VARIABLES],
@@ -25,7 +26,7 @@ fn over_rows(
     counter: u32,
     words: &[u32],
 ) -> Outcome
-    requires { ⌜ (length (now terms) ≡ 8 * length (now rows)) × (length (now rows) ≤ mostTermRows) ⌝ }
+    requires { ⌜ (length (now terms) ≡ 8 * length (now rows)) × (length (now rows) ≤ mostTermRows) × ZeroFrom 0 (now rows) ⌝ }
     ensures { λ r. ⌜ (let o = run (record {
       kinds = now (kinds .entry);
       objects = objects;
@@ -38,7 +39,7 @@ fn over_rows(
         (record { answer = r .answer; objects = r .objects; messages = r .messages; accumulator = r .accumulator; terms = now (terms .exit); counter = r .counter } ≡ rowsSpelled o)
         × (r .used ≡ usedWith (o .answer) (o .terms))) ⌝ }
 {
-    word::unpack_words(terms, rows);
+    let read = lending::rows::unpack(terms, rows);
     let left = running::run_cells(
         kinds,
         objects,
@@ -46,10 +47,12 @@ fn over_rows(
         certificates,
         accumulator,
         rows,
+        read.front,
         counter,
         words,
     );
-    word::pack_words(rows, terms);
+    let used = left.used as usize;
+    lending::rows::pack_new(rows, read.used, used, terms);
     left
 }
 

@@ -1,14 +1,13 @@
 -- Compile over lent bytes: what fits or is refused, and words that come to the code's bytes.
 use Prim.Native.Nat.{ℕ, _*_, _/_, _%_, _<_, _≤_}
-use mathlib.Core.Path.{_≡_, refl, sym, _∙_, ap}
+use mathlib.Core.Path.{_≡_, refl, _∙_, ap}
 use mathlib.Core.Bool.{Bool, true, false, _&&_}
 use mathlib.Core.List.{List, _++_}
 use native.Mathlib.Omega.{arith}
 use lib.Dec.{T, eqb, leb}
-use lib.ListN.{length, take, drop, take-append-drop}
-use lib.Seq.{drop-at, length-take-le}
+use lib.ListN.{length, take, drop}
 use Rattle.word.specs.Bytes.{elements, spelled}
-use Rattle.word.proofs.ByteLaws.{Below, length-words, length-spelled, spelled-append, spelled-elements}
+use Rattle.word.proofs.ByteLaws.{Below, length-words, spelled-append, spelled-elements}
 use Rattle.word.proofs.TestLaws.{both, equals, at-most, is-false}
 use Rattle.answers.specs.Numbers.{compiledNumber, compiledPlace}
 use Rattle.answers.specs.declared.Compiled.{Compiled}
@@ -21,6 +20,7 @@ use Rattle.compiler.proofs.OverCells.{Compiles}
 use Rattle.looking.proofs.LookLaws.{true-holds}
 use Rattle.lending.specs.Entries.{CompileLeft, compiledNumbers, compileSpelled, compileRefused, compileWhole, compileEntry}
 use Rattle.lending.proofs.ChoiceLaws.{where-true, either-way}
+use Rattle.lending.proofs.SplitLaws.{spelled-rest}
 
 -- words that come to bytes
 module _ (words code : List ℕ) (exact : length code % 4 ≡ 0) (below : Below 256 code) where
@@ -37,10 +37,7 @@ module _ (words code : List ℕ) (exact : length code % 4 ≡ 0) (below : Below 
   bytes-short less = rw same at (ap compileSpelled (too-short words all (rw count less)))
 
   rest : length words ≤ length code / 4 → spelled 4 (drop (length words) all) ≡ drop (4 * length words) code
-  rest most =
-      sym (drop-at (spelled 4 (take (length words) all)) (spelled 4 (drop (length words) all)) (4 * length words)
-      (length-spelled 4 _ ∙ ap (λ (n : ℕ). 4 * n) (length-take-le (length words) all (rw count most))))
-      ∙ ap (drop (4 * length words)) (sym (spelled-append 4 (take (length words) all) (drop (length words) all)) ∙ ap (spelled 4) (take-append-drop (length words) all) ∙ same)
+  rest most = spelled-rest 4 code (equals (length code % 4) 0 .1 exact) below (length words) (rw count most)
 
   pub bytes-fit : {after : List ℕ} → length words ≤ length code / 4 → after ≡ spelled 4 words ++ drop (4 * length words) code
       → record { answer = compiledNumbers (Done (length words)); code = after } ≡ compileSpelled (written words all)

@@ -145,7 +145,7 @@ pub round-elements : (x : RoundBytes) (code : List ℕ) {session : Session} {obj
 round-elements x code s o m p q = rw (s, o, m, p, q)
 
 -- a round over unpacked rows, which are packed back
-abbrev withRows : RoundLent → List ℕ → RoundLent
+abbrev pub withRows : RoundLent → List ℕ → RoundLent
 withRows x rows = record {
   session = x .session;
   rounds = x .rounds;

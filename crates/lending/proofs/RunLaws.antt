@@ -68,7 +68,7 @@ pub lent-elements : (x : Lent) (code : List ℕ) {objects messages pairs words :
 lent-elements x code o m p q = rw (o, m, p, q)
 
 -- a run over unpacked rows, which are packed back
-abbrev withRows : Lent → List ℕ → Lent
+abbrev pub withRows : Lent → List ℕ → Lent
 withRows x rows = record {
   kinds = x .kinds;
   objects = x .objects;

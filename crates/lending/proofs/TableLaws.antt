@@ -48,17 +48,15 @@ unfolding number
 zero-number [] zeros = refl
 zero-number (byte ∷ bytes) zeros = rw (zeros 0 (omega arith), zero-number bytes λ i l. zeros (suc i) (omega arith)) (omega arith)
 
-module _ (bytes before : List ℕ) (long : length bytes ≡ 8 * length before) where
-  row-count : length (elements 8 bytes) ≡ length before
+module _ (bytes : List ℕ) {count : ℕ} (long : length bytes ≡ 8 * count) where
+  row-count : length (elements 8 bytes) ≡ count
   row-count = length-words 8 (length bytes / 8) bytes ∙ omega arith
 
-  pub used-few : {used : ℕ} → used ≡ usedRows (elements 8 bytes) → used ≤ length before
+  pub used-few : {used : ℕ} → used ≡ usedRows (elements 8 bytes) → used ≤ count
   used-few is = omega (arith, is, row-count, used-rows (elements 8 bytes) .inside)
 
-pub all-rows : (bytes : List ℕ) {count : ℕ} → length bytes ≡ 8 * count → Front (elements 8 bytes) count
-all-rows bytes {count} long =
-    let rows : length (elements 8 bytes) ≡ count = length-words 8 (length bytes / 8) bytes ∙ omega arith in
-    rw rows at (whole-front (elements 8 bytes))
+  pub all-rows : Front (elements 8 bytes) count
+  all-rows = rw row-count at (whole-front (elements 8 bytes))
 
 -- what is left of bytes from a place on
 pub bytes-behind : (place : ℕ) (bytes : List ℕ) → take (length bytes - place) (drop place bytes) ≡ drop place bytes
@@ -77,7 +75,7 @@ module _ {bytes before out : List ℕ} {place : ℕ} (long : length bytes ≡ 8 
   Ends = (place ≡ usedRows (elements 8 bytes)) × (out ≡ words 8 place bytes ++ drop place before)
 
   count : length (elements 8 bytes) ≡ length before
-  count = row-count bytes before long
+  count = row-count bytes long
 
   ends : place ≤ length before → getD (elements 8 bytes) place 0 ≡ 0 → Ends
   ends inside zero-row =
@@ -113,10 +111,10 @@ module _ (bytes before : List ℕ) (used : ℕ) (long : length bytes ≡ 8 * len
   all = elements 8 bytes
 
   rows : length all ≡ length before
-  rows = row-count bytes before long
+  rows = row-count bytes long
 
   used-inside : used ≤ length before
-  used-inside = used-few bytes before long is
+  used-inside = used-few bytes long is
 
   byte-zero : (i : ℕ) → 8 * used ≤ i → getD bytes i 0 ≡ 0
   byte-zero i behind =
@@ -191,3 +189,16 @@ module _ (rows bytes : List ℕ) {from to : ℕ} (long : length bytes ≡ 8 * le
       let rest = spelled-rest 8 bytes exact below place (omega (arith, same .long, so-far .within)) in
       so-far .written
       ∙ rw (← rest, same-rest same place past, ← (spelled-append 8 (take place rows) (drop place rows)), take-append-drop place rows)
+
+-- the front of zero rows
+pub zero-part : (count : ℕ) (rows : List ℕ) → ZeroFrom 0 rows → ZeroFrom 0 (take count rows)
+zero-part count rows clear row l = go (decLt row count)
+  where
+    go : Dec (row < count) → getD (take count rows) row 0 ≡ 0
+    go (yes inside) = getD-take count rows row 0 inside ∙ clear row l
+    go (no outside) = List·getD-eq-default (take count rows) 0 (omega (arith, length-take count rows))
+
+-- rows that were unpacked, and then differ in new rows alone
+pub new-rows : (bytes : List ℕ) {rows after : List ℕ} {from to end : ℕ} → rows ≡ elements 8 bytes → from ≡ usedRows (elements 8 bytes) → to ≡ end
+    → SameBut rows after (usedRows rows) end → SameBut (elements 8 bytes) after from to
+new-rows bytes r f t same = rw (f, t, ← r) same

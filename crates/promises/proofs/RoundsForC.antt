@@ -1,19 +1,19 @@
 -- The entries of a round over bytes: what they leave is what round and take leave of the elements, spelled.
-use Prim.Native.Nat.{ℕ, zero, suc, _*_, _/_, _<_}
+use Prim.Native.Nat.{ℕ, _/_}
 use mathlib.Core.Path.{_≡_, sym, _∙_, ap}
 use mathlib.Core.Logic.{_↔_, _≢_}
 use mathlib.Core.List.{List, [], _∷_, _++_}
-use native.Mathlib.Nat.{add-comm, mul-zero, mul-suc}
 use native.Mathlib.Omega.{arith}
 use lib.Dec.{T}
-use lib.ListN.{length, getD, take, drop, length-drop}
-use lib.Seq.{take-at, take-all, drop-drop}
-use Rattle.word.specs.Bytes.{number, words, elements, spelled}
+use lib.ListN.{length, take, drop, length-drop}
+use lib.Seq.{take-at, take-all}
+use Rattle.word.specs.Bytes.{number, elements, spelled}
 use Rattle.word.proofs.TestLaws.{both, equals, stable, is-true, is-false}
 use Rattle.word.proofs.ByteLaws.{length-spelled, spelled-append}
 use Rattle.stores.specs.Cells.{unset}
 use Rattle.lending.specs.RoundEntry.{recordBytes, sessionFields, sessionOf, RoundBytes, roundSpelled, roundRefused, roundWhole, roundElements, roundEntry}
 use Rattle.lending.proofs.RoundLaws.{record-back, whole-parts, take-limit, take-whole}
+use Rattle.lending.proofs.TableLaws.{word-at}
 use Rattle.promises.specs.ForC.{Bytes}
 use Rattle.promises.specs.Rounds.{RoundAnswers}
 use Rattle.promises.specs.RoundsForC.{roundMeans, RoundWhole, RoundComes, RoundAsLent, RoundForC, TakeForC, RoundsForC}
@@ -97,14 +97,6 @@ module _ (x : RoundBytes) (code : List ℕ) where
               let s = entry-whole (done-whole e) in
               record { session = ap (λ o. o .session) s; objects = ap (λ o. o .objects) s; messages = ap (λ o. o .messages) s; terms = ap (λ o. o .terms) s };
         }
-
--- a word of a slice is the number of its bytes
-word-at : (size count place : ℕ) (bytes : List ℕ) → place < count
-    → getD (words size count bytes) place 0 ≡ number (take size (drop (size * place) bytes))
-unfolding words
-word-at size zero place bytes less = absurd (omega arith)
-word-at size (suc count) zero bytes less = rw mul-zero
-word-at size (suc count) (suc place) bytes less = word-at size count place (drop size bytes) (omega arith) ∙ rw (drop-drop, mul-suc, add-comm size)
 
 module _ (session : List ℕ) (bytes : Bytes session) where
   module _ (long : length session ≡ recordBytes) where

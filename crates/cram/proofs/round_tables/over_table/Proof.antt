@@ -1,6 +1,9 @@
+use Prim.Native.Nat.{_/_}
 use mathlib.Core.Path.{sym}
+use lib.ListN.{length}
 use lib.Seq.{length-take-le}
 use borrow.Author.Needs.{needs}
+use Rattle.lending.proofs.TableLaws.{zero-part}
 use Rattle.cram.proofs.round_tables.over_table.Statement.{statement}
 use Rattle.cram.proofs.round_tables.over_table.Tie as tie
 
@@ -16,7 +19,8 @@ slice-aggregate-over-rows c = sym (length-take-le _ _ (array-borrow-prefix-few (
 over-rows-requires : tie.Need-over-rows-requires
 over-rows-requires c κs =
     let room = array-borrow-prefix-few (c .before) in
-    (rw length-take-le (search needs), rw length-take-le (search needs))
+    let lent = length (c .before .before .before .before .before .before .before .before .args .terms .now) / 8 in
+    (rw length-take-le (search needs), rw length-take-le (search needs), zero-part lent (c .before .before .few-rows .result) (c .before .before .few-rows .ensures .1))
 
 same-length : tie.Need-same-length
 same-length c = search needs
@@ -36,7 +40,8 @@ slice-aggregate-over-rows-2 c = sym (length-take-le _ _ (array-borrow-prefix-row
 over-rows-requires-2 : tie.Need-over-rows-requires-2
 over-rows-requires-2 c κs =
     let room = array-borrow-prefix-rows (c .before) in
-    (rw length-take-le (search needs), rw length-take-le (search needs))
+    let lent = length (c .before .before .before .before .before .before .before .before .args .terms .now) / 8 in
+    (rw length-take-le (search needs), rw length-take-le (search needs), zero-part lent (c .before .before .no-rows .result) (c .before .before .no-rows .ensures .1))
 
 same-length-2 : tie.Need-same-length-2
 same-length-2 c = search needs

@@ -1,9 +1,15 @@
-use mathlib.Core.Path.{_∙_}
-use native.Mathlib.Omega.{arith}
+use Prim.Native.Nat.{ℕ}
+use mathlib.Core.Path.{_≡_}
+use mathlib.Core.List.{List}
 use borrow.Author.Needs.{needs}
-use Rattle.word.proofs.ByteLaws.{filled}
-use Rattle.calls.specs.Run.{Lent}
-use Rattle.lending.proofs.RunLaws.{rows-packed}
+use Rattle.word.specs.Bytes.{elements}
+use Rattle.terms.specs.Rules.{usedRows}
+use Rattle.calls.specs.Run.{Lent, RunOutcome, run}
+use Rattle.looking.specs.Found.{usedWith}
+use Rattle.looking.specs.Front.{SameBut}
+use Rattle.looking.proofs.NewRowLaws.{run-new-rows}
+use Rattle.lending.proofs.RunLaws.{withRows, rows-packed}
+use Rattle.lending.proofs.TableLaws.{used-few, new-rows}
 use Rattle.cram.proofs.tables.over_rows.Statement.{statement}
 use Rattle.cram.proofs.tables.over_rows.Tie as tie
 
@@ -18,14 +24,29 @@ lent s = record {
   counter = s .args .counter;
 }
 
-unpack-words-requires : tie.Need-unpack-words-requires
-unpack-words-requires c κs = search needs
+-- the rows that a run writes
+new : (x : Lent) (words : List ℕ) {ran : RunOutcome} {rows : List ℕ} {from to : ℕ} → rows ≡ elements 8 (x .terms) → ran ≡ run (withRows x rows) words
+    → from ≡ usedRows (elements 8 (x .terms)) → to ≡ usedWith (ran .answer) (ran .terms) → SameBut (elements 8 (x .terms)) (ran .terms) from to
+new x words {rows = rows} r e f t = new-rows (x .terms) r f t (rw e (run-new-rows (withRows x rows) words))
+
+unpack-requires : tie.Need-unpack-requires
+unpack-requires c κs = c .before .before .before .before .before .before .before .pre
 
 run-cells-requires : tie.Need-run-cells-requires
-run-cells-requires c κs = search needs
+run-cells-requires c κs = let read = c .before .before .before .unpack .ensures in rw (read .0) (read .2)
 
-pack-words-requires : tie.Need-pack-words-requires
-pack-words-requires c κs = search needs
+cast-used : tie.Need-cast-used
+cast-used c = search needs
+
+pack-new-requires : tie.Need-pack-new-requires
+pack-new-requires c κs =
+    let ran = c .before .before .before .before .before in
+    let read = ran .before .before .before .before .unpack .ensures in
+    let s = ran .before .before .before .before .before .before .before .before .before .before .before .before in (
+      search needs,
+      used-few (s .args .terms .now) (search needs) (read .1),
+      new (lent s) (s .args .words .now) (read .0) (ran .run-cells .ensures .0) (read .1) (ran .run-cells .ensures .1),
+    )
 
 same-length : tie.Need-same-length
 same-length c = search needs
@@ -36,13 +57,11 @@ same-length-2 c = search needs
 returns : tie.Need-returns
 returns c =
     let packed = c .before .before in
-    let ran = packed .before .before .before .before .before in
-    let unpacked = ran .before .before .before .before in
-    let s = unpacked .before .before .before .before .before .before .before .before in
-    rows-packed (lent s) (s .args .words .now)
-    (unpacked .unpack-words .ensures ∙ filled 8 (s .args .terms .now) (s .args .rows .now) (omega arith))
-    (ran .run-cells .ensures .0) (ran .run-cells .ensures .1) (packed .pack-words .ensures)
+    let ran = packed .before .before .before .before .before .before in
+    let read = ran .before .before .before .before .unpack .ensures in
+    let s = ran .before .before .before .before .before .before .before .before .before .before .before .before in
+    rows-packed (lent s) (s .args .words .now) (read .0) (ran .run-cells .ensures .0) (ran .run-cells .ensures .1) (packed .pack-new .ensures)
 
 pub over-rows-spec : {M : Type 1} → statement M
 over-rows-spec =
-    tie.close (tie.spec unpack-words-requires run-cells-requires pack-words-requires same-length same-length-2 returns)
+    tie.close (tie.spec unpack-requires run-cells-requires cast-used pack-new-requires same-length same-length-2 returns)

@@ -18,7 +18,7 @@ module _ (c : tie.After-slice-known2) where
   start = c .before .before .before .before .before .before
 
   used-inside : c .before .before .unpack-used .result ≤ length (start .args .rows .now)
-  used-inside = used-few (start .args .bytes .now) (start .args .rows .now) (start .pre .0) (c .before .before .unpack-used .ensures .0)
+  used-inside = used-few (start .args .bytes .now) (start .pre .0) (c .before .before .unpack-used .ensures .0)
 
 mul-behind : tie.Need-mul-behind
 mul-behind c = omega (arith, used-inside c, start c .pre .1)
