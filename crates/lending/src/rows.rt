@@ -69,11 +69,7 @@ pub fn unpack(bytes: &[u8], rows: &mut [u64]) -> RowsRead
 fn lesser(one: usize, other: usize) -> usize
     ensures { λ r. ⌜ r ≡ min one other ⌝ }
 {
-    if one < other {
-        one
-    } else {
-        other
-    }
+    if one < other { one } else { other }
 }
 
 // The rows from one place up to another, where the bytes hold all the others.
