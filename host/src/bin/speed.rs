@@ -33,7 +33,8 @@ fn main() {
     }
     for (name, searching, checking) in measured::searches() {
         let words = (searching.code.len() / 4) as f64;
-        let [all, check] = [searching, checking].map(|lent| medians(&lent, engines, |lent, engine| lent.call(engine).place));
+        let [all, check] =
+            [searching, checking].map(|lent| medians(&lent, engines, |lent, engine| lent.call(engine).place));
         print(name, [0, 1].map(|i| (all[i] - check[i]) / words));
     }
     let engines = [&ROLES, &plain::ROLES];
