@@ -1,6 +1,6 @@
 -- The invariant: the search over all rows is the search over those that are left.
-use Prim.Native.Nat.{suc, _-_, _≤_}
-use mathlib.Core.Path.{_≡_, sym, _∙_, ap}
+use Prim.Native.Nat.{_≤_}
+use mathlib.Core.Path.{_≡_, sym, ap}
 use native.Mathlib.Omega.{arith}
 use borrow.Author.Needs.{needs, scaled-fits}
 use Rattle.word.specs.Lowest.{placeOf}
@@ -37,7 +37,7 @@ returns : tie.Need-returns Inv-loop μ-loop
 returns c =
     let s = c .before .before .before .before .before .before in
     let l = c .before .before .before .loop in
-    ap placeOf (sym (left-here (s .args .rows .now) (s .args .word) (l .inv .1) (c .before .before .loop-test .taken) (c .if1 .taken)))
+    ap placeOf (sym (left-here (s .args .rows .now) (s .args .word) (l .inv .1) (omega (arith, c .before .before .loop-test .taken)) (c .if1 .taken)))
 
 loop-less : tie.Need-loop-less Inv-loop μ-loop
 loop-less c = omega arith
@@ -46,7 +46,7 @@ loop-again : tie.Need-loop-again Inv-loop μ-loop
 loop-again c =
     let s = c .before .before .before .before .before .before in
     let l = c .before .before .before .loop in
-    (omega arith, left-lower (s .args .rows .now) (s .args .word) (l .inv .1) (c .before .before .loop-test .taken) (c .if1 .left))
+    (omega arith, left-lower (s .args .rows .now) (s .args .word) (l .inv .1) (omega (arith, c .before .before .loop-test .taken)) (c .if1 .left))
 
 returns-2 : tie.Need-returns-2 Inv-loop μ-loop
 returns-2 c =
