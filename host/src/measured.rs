@@ -32,14 +32,24 @@ pub fn runs() -> Vec<(&'static str, RunInput)> {
         ("run the listing's code, 64 rows", greeting.lend_run(64, &code)),
         ("unpack 4,096 rows: no used row, no code", Case::new(false).lend_run(TERM_ROWS, &[])),
         ("768 words that make new terms", hashes_of_hashes()),
-        (FULL_TABLE, full_table(&[])),
-        (SEARCHES, full_table(&[STORE_CONST; CODE_WORDS])),
+        ("check 4,096 used rows, no code", agents(TERM_ROWS).lend_run(TERM_ROWS, &[])),
     ]
 }
 
 /// The check of a table by its used rows, of which there are no others.
 pub fn checks() -> Vec<(usize, RunInput)> {
     (4..=TERM_ROWS.trailing_zeros()).map(|bits| (1 << bits, agents(1 << bits).lend_run(1 << bits, &[]))).collect()
+}
+
+/// Searches by what they are called: a run whose words search the table, each as far as the others, and the same run without words.
+pub fn searches() -> Vec<(&'static str, RunInput, RunInput)> {
+    let named = [
+        ("one search that finds the last of 4,096 rows", agents(TERM_ROWS), STORE_CONST),
+        ("one search that finds the first of 4,096 rows", byte_first(), STORE_CONST),
+        ("one search of 3,328 rows and more in vain", with_room(), HASHING),
+    ];
+    let lend = |case: &Case, operations: &[u8]| case.lend_run(TERM_ROWS, &words(operations));
+    named.map(|(name, case, operation)| (name, lend(&case, &[operation; CODE_WORDS]), lend(&case, &[]))).to_vec()
 }
 
 /// Compiles of roles by what they are called.
@@ -63,10 +73,6 @@ pub fn rounds() -> Vec<(&'static str, RoundInput)> {
         ("a round of 2 words over 4,096 used rows", round_of(agents(TERM_ROWS), &[])),
     ]
 }
-
-pub const FULL_TABLE: &str = "check 4,096 used rows, no code";
-/// The check and then 768 searches, each of which finds the last row.
-pub const SEARCHES: &str = "check 4,096 used rows, then 768 searches";
 
 /// Sixteen lets around tuples of one part in each other.
 fn deep(create: bool) -> Case {
@@ -109,17 +115,26 @@ fn hash_of_byte() -> Case {
     case
 }
 
-/// A full table, for whose last row `operations` look.
-fn full_table(operations: &[u8]) -> RunInput {
-    agents(TERM_ROWS).lend_run(TERM_ROWS, &words(operations))
-}
-
 /// Agents, and a byte in the last row.
 fn agents(rows: usize) -> Case {
     let mut case = Case::new(false);
     case.declare(&[BYTE]);
     case.terms = (1..rows as u64).map(|i| atom(AGENT, i)).collect();
     case.term(atom(BYTE, 0));
+    case
+}
+
+/// The same, with the byte in row 0.
+fn byte_first() -> Case {
+    let mut case = agents(TERM_ROWS);
+    case.terms.rotate_right(1);
+    case
+}
+
+/// Agents and a byte to be hashed, with room for the hashes of as many words as there may be.
+fn with_room() -> Case {
+    let mut case = hash_of_byte();
+    case.terms.extend((case.terms.len()..TERM_ROWS - CODE_WORDS).map(|i| atom(AGENT, i as u64)));
     case
 }
 

@@ -15,7 +15,8 @@ use Rattle.word.specs.Lowest.{lowestFrom, each, oneOf}
 use Rattle.word.proofs.LowestLaws.{one-of}
 use Rattle.word.proofs.ScanLaws.{scan-hit, scan-miss, scan-end, each-none, each-more}
 use Rattle.terms.specs.Rules.{nonzeroRow}
-use Rattle.terms.proofs.FinderLaws.{Absent}
+use Rattle.terms.specs.Finder.{equalRow}
+use Rattle.terms.proofs.FinderLaws.{Absent, equal-end, equal-here, equal-lower}
 
 -- one of the first so many, as the code compares them
 abbrev pub oneOfFirst : ℕ → List ℕ → ℕ → Bool
@@ -68,6 +69,46 @@ absent-block rows word i end inside absent differs row l e = go (decLt row i)
         let same : getD block (row - i) 0 ≡ word = block-at rows i end row (omega arith) l ∙ e in
         let found : T (oneOf block word) = one-of block word .1 (row - i, omega (arith, length-block rows i end inside), same) in
         rw differs at found
+
+-- the search from the newest row down passes rows that differ
+module _ (rows : List ℕ) (word : ℕ) where
+  passes-down : (n start : ℕ) → ((row : ℕ) → start ≤ row → row < start + n → getD rows row 0 ≡ word → ⊥) → equalRow rows (start + n) word ≡ equalRow rows start word
+  passes-down zero start differ = rw add-zero
+  passes-down (suc n) start differ =
+      rw add-suc (equal-lower rows word (start + n) (differ (start + n) (omega arith) (omega arith)) ∙ passes-down n start λ row low high. differ row low (omega arith))
+
+  -- a block of them
+  pub passes-block : (start end : ℕ) → start ≤ end → end ≤ length rows → oneOf (take (end - start) (drop start rows)) word ≡ false
+      → equalRow rows end word ≡ equalRow rows start word
+  passes-block start end low inside differ =
+      let there : start + (end - start) ≡ end = omega arith in
+      rw there at (passes-down (end - start) start λ row past before e. absent row past (omega arith) e)
+    where
+      block : List ℕ
+      block = take (end - start) (drop start rows)
+
+      absent : (row : ℕ) → start ≤ row → row < end → getD rows row 0 ≡ word → ⊥
+      absent row past before e =
+          let same : getD block (row - start) 0 ≡ word = block-at rows start end row past before ∙ e in
+          let found : T (oneOf block word) = one-of block word .1 (row - start, omega (arith, length-block rows start end inside), same) in
+          rw differ at found
+
+-- a row at a time
+module _ (rows : List ℕ) (word : ℕ) {left : ℕ} {answer : Option ℕ} (is : answer ≡ equalRow rows left word) where
+  pub left-here : 0 < left → getD rows (left - 1) 0 ≡ word → answer ≡ some (left - 1)
+  left-here some-left e =
+      let newest : suc (left - 1) ≡ left = omega arith in
+      is ∙ (rw newest at (equal-here rows word (left - 1) e))
+
+  pub left-lower : 0 < left → (getD rows (left - 1) 0 ≡ word → ⊥) → answer ≡ equalRow rows (left - 1) word
+  left-lower some-left other =
+      let newest : suc (left - 1) ≡ left = omega arith in
+      is ∙ (rw newest at (equal-lower rows word (left - 1) other))
+
+  pub left-none : left ≤ 0 → answer ≡ none
+  left-none past =
+      let all : left ≡ 0 = omega arith in
+      is ∙ rw all (equal-end rows word)
 
 -- each of the first so many, as the code looks at them
 abbrev pub eachFirst : (ℕ → Bool) → ℕ → List ℕ → Bool

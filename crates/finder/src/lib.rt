@@ -41,17 +41,34 @@ pub fn rows_passed(rows: &[u64], used: usize, word: u64) -> usize
     i
 }
 
-// The row that equals a term, among the first so many.
+// As many first rows are left to search; those behind them, in blocks of eight from the newest down, do not equal a word.
+fn rows_left(rows: &[u64], used: usize, word: u64) -> usize
+    requires { ⌜ used ≤ length (now rows) ⌝ }
+    ensures { λ r. ⌜ (r ≤ used) × (equalRow (now (rows .entry)) used word ≡ equalRow (now (rows .entry)) r word) ⌝ }
+{
+    let mut left = used;
+    while 8 <= left {
+        let start = left - 8;
+        if one_of_eight(&rows[start..left], word) {
+            return left;
+        }
+        left = start;
+    }
+    left
+}
+
+// The row that equals a term, among the first so many: what was made last is found first.
 pub fn equal_row(rows: &[u64], used: usize, word: u64) -> Place
     requires { ⌜ (used ≤ length (now rows)) × (length (now rows) ≤ mostTermRows) ⌝ }
     ensures { λ r. ⌜ r ≡ placeOf (equalRow (now (rows .entry)) used word) ⌝ }
 {
-    let mut i = rows_passed(rows, used, word);
-    while i < used {
-        if rows[i] == word {
-            return Place::At(i as u32);
+    let mut left = rows_left(rows, used, word);
+    while 0 < left {
+        let row = left - 1;
+        if rows[row] == word {
+            return Place::At(row as u32);
         }
-        i += 1;
+        left = row;
     }
     Place::Nowhere
 }

@@ -1,20 +1,20 @@
 -- Which row the finder answers, and what is written.
-use Prim.Native.Nat.{ℕ, _+_, _<_, _≤_}
+use Prim.Native.Nat.{ℕ, zero, suc, _+_, _<_, _≤_}
 use mathlib.Core.Path.{_≡_, refl, sym, _∙_, ap, subst}
 use mathlib.Core.Logic.{_↔_}
 use mathlib.Core.Bool.{Bool, not}
 use mathlib.Core.Option.{Option, none, some}
 use mathlib.Core.List.{List}
-use native.Mathlib.Decide.{decLt}
+use native.Mathlib.Decide.{decLt, ℕ-discrete}
 use native.Mathlib.Omega.{arith}
 use lib.ListN.{length, getD, take, set, length-set}
 use lib.Seq.{length-take-le, getD-take, getD-set-same, getD-set-other}
-use lib.Dec.{T, T-not, not-T, eqb}
-use borrow.Author.Tests.{lt-ltb, le-ltb}
+use lib.Dec.{T, not-T, eqb}
+use borrow.Author.Tests.{eq-eqb, ne-eqb, lt-ltb, le-ltb}
 use Rattle.word.proofs.TestLaws.{equals}
 use Rattle.word.proofs.LowestLaws.{lowest-none, lowest-some}
 use Rattle.word.proofs.ScanLaws.{placed-at, placed-nowhere}
-use Rattle.word.specs.Lowest.{placeOf}
+use Rattle.word.specs.Lowest.{lowest, placeOf}
 use Rattle.word.specs.declared.Place.{Place}
 use Rattle.word.specs.declared.Place.the-variants as places
 use Rattle.terms.specs.declared.Found.{Found}
@@ -30,18 +30,75 @@ Absent rows used word = (row : ℕ) → row < used → getD rows row 0 ≡ word 
 abbrev pub Distinct : List ℕ → ℕ → Type 0
 Distinct rows used = (a b : ℕ) → a < used → b < used → getD rows a 0 ≡ getD rows b 0 → a ≡ b
 
--- the first row that equals the term is among the used ones
-pub record First (rows : List ℕ) (used word row : ℕ) : Type 0 where
+-- the last row that equals the term, among the used ones
+pub record Last (rows : List ℕ) (used word row : ℕ) : Type 0 where
   pub within : row < used
   pub equals : getD rows row 0 ≡ word
-  pub before : Absent rows row word
+  pub after : (later : ℕ) → row < later → later < used → getD rows later 0 ≡ word → ⊥
 
--- where no two are equal, the row that equals the term is the first
-pub first-of-distinct : (rows : List ℕ) (used word row : ℕ) → Distinct rows used → row < used → getD rows row 0 ≡ word → First rows used word row
-first-of-distinct rows used word row distinct h e =
-    record { within = h; equals = e; before = λ lower l q. let one = distinct lower row (omega arith) h (q ∙ sym e) in omega arith }
+-- where no two are equal, the row that equals the term is the last
+pub last-of-distinct : (rows : List ℕ) (used word row : ℕ) → Distinct rows used → row < used → getD rows row 0 ≡ word → Last rows used word row
+last-of-distinct rows used word row distinct h e =
+    record { within = h; equals = e; after = λ later l k q. let one = distinct later row k h (q ∙ sym e) in omega arith }
+
+module _ (rows : List ℕ) (word : ℕ) where
+  -- the search looks at the newest row, and then at those before it
+  pub equal-end : equalRow rows 0 word ≡ none
+  unfolding equalRow
+  equal-end = refl
+
+  pub equal-here : (row : ℕ) → getD rows row 0 ≡ word → equalRow rows (suc row) word ≡ some row
+  unfolding equalRow
+  equal-here row e = rw (eq-eqb (getD rows row 0) word e, equalRow)
+
+  pub equal-lower : (row : ℕ) → (getD rows row 0 ≡ word → ⊥) → equalRow rows (suc row) word ≡ equalRow rows row word
+  unfolding equalRow
+  equal-lower row other = rw (ne-eqb (getD rows row 0) word other, equalRow)
+
+  abbrev Says : ℕ → Option ℕ → Type 0
+  Says used (some row) = Last rows used word row
+  Says used none = Absent rows used word
+
+  -- one row more, which does not equal the term
+  says-more : (used : ℕ) → (getD rows used 0 ≡ word → ⊥) → (o : Option ℕ) → Says used o → Says (suc used) o
+  says-more used other (some row) s =
+      record { within = omega (arith, s .within); equals = s .equals; after = λ later l k e. go later l e (decLt later used) k }
+    where
+      go : (later : ℕ) → row < later → getD rows later 0 ≡ word → Dec (later < used) → later < suc used → ⊥
+      go later l e (yes h) k = s .after later l h e
+      go later l e (no h) k = let newest : later ≡ used = omega arith in other (rw newest at e)
+  says-more used other none s = λ row l e. go row e (decLt row used) l
+    where
+      go : (row : ℕ) → getD rows row 0 ≡ word → Dec (row < used) → row < suc used → ⊥
+      go row e (yes h) k = s row h e
+      go row e (no h) k = let newest : row ≡ used = omega arith in other (rw newest at e)
+
+  says : (used : ℕ) → Says used (equalRow rows used word)
+  says zero = rw equal-end (λ row l. absurd (omega arith))
+  says (suc used) = go (ℕ-discrete (getD rows used 0) word) (says used)
+    where
+      go : Dec (getD rows used 0 ≡ word) → Says used (equalRow rows used word) → Says (suc used) (equalRow rows (suc used) word)
+      go (yes e) before = rw (equal-here used e) (record { within = omega arith; equals = e; after = λ later l k. absurd (omega arith) })
+      go (no other) before = rw (equal-lower used other) (says-more used other (equalRow rows used word) before)
 
 module _ (rows : List ℕ) (used word : ℕ) (fits : used ≤ length rows) where
+  pub equal-last : (row : ℕ) → (equalRow rows used word ≡ some row) ↔ Last rows used word row
+  equal-last row = (λ e. rw e at (says rows word used), λ last. go last (equalRow rows used word) (says rows word used))
+    where
+      go : Last rows used word row → (o : Option ℕ) → Says rows word used o → o ≡ some row
+      go last none s = absurd (s row (last .within) (last .equals))
+      go last (some other) s =
+          let not-before : ¬ (other < row) = λ l. s .after row l (last .within) (last .equals) in
+          let not-after : ¬ (row < other) = λ l. last .after other l (s .within) (s .equals) in
+          ap some (omega arith)
+
+  pub equal-absent : (equalRow rows used word ≡ none) ↔ Absent rows used word
+  equal-absent = (λ e. rw e at (says rows word used), λ absent. go absent (equalRow rows used word) (says rows word used))
+    where
+      go : Absent rows used word → (o : Option ℕ) → Says rows word used o → o ≡ none
+      go absent none s = refl
+      go absent (some row) s = absurd (absent row (s .within) (s .equals))
+
   length-used : length (take used rows) ≡ used
   length-used = length-take-le used rows fits
 
@@ -52,40 +109,22 @@ module _ (rows : List ℕ) (used word : ℕ) (fits : used ≤ length rows) where
   here : (row : ℕ) → row < used → T (same row (getD (take used rows) row 0)) ↔ (getD rows row 0 ≡ word)
   here row h = rw (getD-take used rows row 0 h) (equals (getD rows row 0) word)
 
-  elsewhere : (row : ℕ) → row < used → T (not (same row (getD (take used rows) row 0))) ↔ (getD rows row 0 ≡ word → ⊥)
-  elsewhere row h =
-      let test = same row (getD (take used rows) row 0) in
-      (λ n q. T-not test n (here row h .1 q), λ n. not-T test (λ t. n (here row h .0 t)))
+  elsewhere : (row : ℕ) → row < used → (getD rows row 0 ≡ word → ⊥) → T (not (same row (getD (take used rows) row 0)))
+  elsewhere row h n = not-T (same row (getD (take used rows) row 0)) (λ t. n (here row h .0 t))
 
-  pub equal-first : (row : ℕ) → (equalRow rows used word ≡ some row) ↔ First rows used word row
-  unfolding equalRow
-  equal-first row = (
-    λ e.
-        let found = lowest-some same 0 (take used rows) row .0 e in
-        let inside : row < used = omega (arith, length-used, found .inside) in
-        record {
-          within = inside;
-          equals = here row inside .0 (found .holds);
-          before = λ lower l. elsewhere lower (omega arith) .0 (found .earlier lower l);
-        },
-    λ first.
-        let inside : row < used = first .within in
-        lowest-some same 0 (take used rows) row .1 (record {
-          inside = omega (arith, length-used);
-          holds = here row inside .1 (first .equals);
-          earlier = λ lower l. elsewhere lower (omega arith) .1 (first .before lower l);
-        }),
-  )
-
-  pub equal-absent : (equalRow rows used word ≡ none) ↔ Absent rows used word
-  unfolding equalRow
-  equal-absent = (
-    λ e row h. elsewhere row h .0 (lowest-none same 0 (take used rows) .0 e row (omega (arith, length-used))),
-    λ absent.
-        lowest-none same 0 (take used rows) .1 λ row l.
-        let inside : row < used = omega (arith, length-used) in
-        elsewhere row inside .1 (absent row inside),
-  )
+  -- from either end it is the same row, where no two are equal
+  pub either-end : Distinct rows used → equalRow rows used word ≡ lowest (λ row other. eqb other word) (take used rows)
+  either-end distinct = go (equalRow rows used word) (says rows word used)
+    where
+      go : (o : Option ℕ) → Says rows word used o → o ≡ lowest same (take used rows)
+      go none absent = sym (lowest-none same 0 (take used rows) .1 λ row l. let inside : row < used = omega (arith, length-used) in elsewhere row inside (absent row inside))
+      go (some row) last =
+          let inside : row < used = last .within in
+          sym (lowest-some same 0 (take used rows) row .1 (record {
+            inside = omega (arith, length-used);
+            holds = here row inside .1 (last .equals);
+            earlier = λ lower l. elsewhere lower (omega arith) λ q. let one = distinct lower row (omega arith) inside (q ∙ sym (last .equals)) in omega arith;
+          }))
 
 -- the cases of `locate`
 module _ (rows : List ℕ) (used word : ℕ) where
@@ -112,8 +151,8 @@ module _ (rows : List ℕ) (used word : ℕ) (fits : used ≤ length rows) (P : 
     where
       go : (answer : Option ℕ) → equalRow rows used word ≡ answer → Dec (used < length rows) → P (locate rows used word)
       go (some row) e room =
-          let first = equal-first rows used word fits row .0 e in
-          rw (locate-there rows used word row e) (present row (first .within) (first .equals))
+          let last = equal-last rows used word fits row .0 e in
+          rw (locate-there rows used word row e) (present row (last .within) (last .equals))
       go none e (yes h) = rw (locate-new rows used word e h) (added (equal-absent rows used word fits .0 e) h)
       go none e (no h) = rw (locate-full rows used word e (omega arith)) (full (equal-absent rows used word fits .0 e) (omega arith))
 
@@ -130,7 +169,7 @@ module _ (rows : List ℕ) (used word : ℕ) (place : Place) (is : place ≡ pla
   find-full e h = sym (locate-full rows used word (placed-nowhere _ is e) h)
 
   pub find-below : used ≤ length rows → (row : ℕ) → place ≡ places.At row → row < used
-  find-below fits row e = equal-first rows used word fits row .0 (placed-at _ is e) .within
+  find-below fits row e = equal-last rows used word fits row .0 (placed-at _ is e) .within
 
 pub ruleset find-ways = (find-there, find-new, find-full)
 
@@ -161,9 +200,9 @@ module _ (rows : List ℕ) (used word : ℕ) (fits : used ≤ length rows)
       let q = says ∙ e in
       (ap (λ (l : Located). l .found) q, subst P (ap (λ (l : Located). l .rows) (sym q)) p)
 
-  pub takes-equal-row : (row : ℕ) → First rows used word row → (found ≡ At (asTermRow row) used) × Kept rows after
-  takes-equal-row row first =
-      parts _ rows (Kept rows) (locate-there rows used word row (equal-first rows used word fits row .1 first)) (kept rows)
+  pub takes-equal-row : (row : ℕ) → Last rows used word row → (found ≡ At (asTermRow row) used) × Kept rows after
+  takes-equal-row row last =
+      parts _ rows (Kept rows) (locate-there rows used word row (equal-last rows used word fits row .1 last)) (kept rows)
 
   pub takes-unused-row : Absent rows used word → used < length rows → (found ≡ At (asTermRow used) (used + 1)) × Wrote rows used word after
   takes-unused-row absent h =

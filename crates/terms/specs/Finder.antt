@@ -1,12 +1,12 @@
 -- A new term takes the row that equals it, or else the first unused row.
-use Prim.Native.Nat.{ℕ, _+_}
-use mathlib.Core.Bool.{cond}
+use Prim.Native.Nat.{ℕ, zero, suc, _+_}
+use mathlib.Core.Bool.{true, false, cond}
 use mathlib.Core.Option.{Option, none, some}
 use mathlib.Core.List.{List}
-use lib.ListN.{length, take, set}
+use lib.ListN.{length, set}
 use lib.Dec.{eqb, ltb}
-use Rattle.word.specs.Lowest.{lowest}
 use Rattle.numbers.specs.Sorts.{asTermRow}
+use Rattle.terms.specs.Row.{rowAt}
 use Rattle.terms.specs.declared.Found.{Found}
 use Rattle.terms.specs.declared.Found.the-variants.{At, Full}
 
@@ -18,9 +18,10 @@ pub record Located : Type 0 where
 abbrev pub located : Found → List ℕ → Located
 located found rows = record { found = found; rows = rows }
 
--- the row that equals a term, among the used ones
+-- the row that equals a term, among the used ones: the search goes from the newest down to row 0
 unfoldable pub equalRow : List ℕ → ℕ → ℕ → Option ℕ
-equalRow rows used word = lowest (λ row other. eqb other word) (take used rows)
+equalRow rows zero word = none
+equalRow rows (suc row) word = elim (eqb (rowAt rows row) word) [ true ↦ some row | false ↦ equalRow rows row word ]
 
 abbrev pub locateBy : List ℕ → ℕ → ℕ → Option ℕ → Located
 locateBy rows used word (some row) = located (At (asTermRow row) used) rows

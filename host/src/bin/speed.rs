@@ -28,17 +28,14 @@ fn main() {
     for (name, lent) in measured::compiles() {
         print(name, medians(&lent, engines, |lent, engine| lent.call(engine).place));
     }
-    let mut base = [0.0; 2];
     for (name, lent) in measured::runs() {
-        let times = medians(&lent, engines, |lent, engine| lent.call(engine).place);
-        print(name, times);
-        if name == measured::FULL_TABLE {
-            base = times;
-        }
-        if name == measured::SEARCHES {
-            let words = (lent.code.len() / 4) as f64;
-            print("  of which one search over 4,096 rows", [0, 1].map(|i| (times[i] - base[i]) / words));
-        }
+        print(name, medians(&lent, engines, |lent, engine| lent.call(engine).place));
+    }
+    for (name, searching, checking) in measured::searches() {
+        let words = (searching.code.len() / 4) as f64;
+        let [all, check] =
+            [searching, checking].map(|lent| medians(&lent, engines, |lent, engine| lent.call(engine).place));
+        print(name, [0, 1].map(|i| (all[i] - check[i]) / words));
     }
     let engines = [&ROLES, &plain::ROLES];
     for (name, lent) in measured::role_compiles() {

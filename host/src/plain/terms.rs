@@ -126,10 +126,21 @@ fn find(terms: &[u8], term: u64) -> Option<usize> {
     first(terms, |row| row == wanted)
 }
 
+/// The last row that equals a term: what was made a moment ago is met at once.
+fn find_last(terms: &[u8], term: u64) -> Option<usize> {
+    let wanted = term.to_be();
+    let equals = |row: &[u8]| u64::from_ne_bytes(row.try_into().unwrap()) == wanted;
+    let some = |block: &[u8]| block.chunks_exact(8).fold(false, |some, row| some | equals(row));
+    let passed = terms.rchunks_exact(BLOCK).position(some).unwrap_or(terms.len() / BLOCK);
+    let left = &terms[..terms.len() - BLOCK * passed];
+    left.rchunks_exact(8).position(equals).map(|i| left.len() / 8 - 1 - i)
+}
+
+/// The bytes of the rows that are tested without leaving them, so that the tests go several at a time.
+const BLOCK: usize = 8 * 32;
+
 /// The first row that passes a test, which sees it in the machine's own byte order.
-/// A block is tested without leaving it, so that the tests go several at a time.
 fn first(terms: &[u8], test: impl Fn(u64) -> bool) -> Option<usize> {
-    const BLOCK: usize = 8 * 32;
     let passes = |row: &[u8]| test(u64::from_ne_bytes(row.try_into().unwrap()));
     let some = |block: &[u8]| block.chunks_exact(8).fold(false, |some, row| some | passes(row));
     let from = BLOCK * terms.chunks_exact(BLOCK).position(some).unwrap_or(terms.len() / BLOCK);
@@ -160,7 +171,7 @@ impl<'a> Table<'a> {
     /// The row that equals a term, or else the first unused one, which then holds it.
     pub fn take(&mut self, term: u64) -> Option<u16> {
         let end = 8 * self.used;
-        if let Some(at) = find(&self.bytes[..end], term) {
+        if let Some(at) = find_last(&self.bytes[..end], term) {
             return Some(at as u16);
         }
         self.bytes.get_mut(end..end + 8)?.copy_from_slice(&term.to_be_bytes());
