@@ -37,7 +37,7 @@ use Rattle.theory.proofs.Simulation.{bind-assoc, bind-done}
 use Rattle.calls.specs.Compile as Compile
 use Rattle.calls.specs.Compile.{CompileOutcome, codeWords, compiledCode, finished, compile, compileBy, emitted, refusals, tables}
 use Rattle.calls.specs.Run.{Lent, stateOver, stateOf, leftBy, unchanged, ended, linesOf, lengthsFit, runBy, run}
-use Rattle.calls.specs.Direct.{DirectOutcome, untouched, refusedAs, refusedBy, directEnds, patternRefusals, tableFits, storeRefusals, ruled, directBy, direct}
+use Rattle.calls.specs.Direct.{DirectOutcome, asGiven, refusedAs, refusedBy, directEnds, patternRefusals, tableFits, storeRefusals, ruled, directBy, direct}
 use Rattle.calls.specs.Valid.{CompileWithin}
 use Rattle.calls.specs.CompileThenRun.{lentToRun, rowOfWord, rowEmitting, handedBack, ranOutcome, ranAs, thenRun, compileThenRun}
 use Rattle.calls.proofs.CompileLaws.{NotDone, refusal-not-done, compile-within, part-written, first-before, first-behind, Checked, checked, checks-not-done}
@@ -70,7 +70,7 @@ module _ (creates : Bool) (pattern : List ℕ) (x : Lent) where
   kind = kindIn (x .kinds)
 
   -- what is not done is handed back
-  refused-back : (answer : Compiled) → NotDone answer → (code : List ℕ) → untouched (refusedAs answer) x ≡ thenRun creates pattern x answer code
+  refused-back : (answer : Compiled) → NotDone answer → (code : List ℕ) → asGiven (refusedAs answer) x ≡ thenRun creates pattern x answer code
   refused-back (Compiled.Done words) n code = absurd (n words refl)
   refused-back Compiled.Limit n code = refl
   refused-back Compiled.BadStore n code = refl
@@ -99,8 +99,8 @@ module _ (creates : Bool) (pattern : List ℕ) (x : Lent) where
     unfolding stateOver
     same-accumulator = refl
 
-    -- what run leaves as it was is untouched
-    left-untouched : (answer : Ran) → ranOutcome creates pattern x (unchanged answer (lentToRun x)) ≡ untouched (ranAs (rowEmitting creates pattern x) answer) x
+    -- what run leaves as it was is asGiven
+    left-untouched : (answer : Ran) → ranOutcome creates pattern x (unchanged answer (lentToRun x)) ≡ asGiven (ranAs (rowEmitting creates pattern x) answer) x
     left-untouched answer = rw named-taken (given creates)
       where
         given : (b : Bool) → record {
@@ -110,7 +110,7 @@ module _ (creates : Bool) (pattern : List ℕ) (x : Lent) where
           accumulator = handedBack b (x .accumulator) (x .accumulator);
           terms = x .terms;
           counter = x .counter;
-        } ≡ untouched (ranAs (rowEmitting creates pattern x) answer) x
+        } ≡ asGiven (ranAs (rowEmitting creates pattern x) answer) x
         given true = refl
         given false = refl
 
@@ -152,8 +152,8 @@ module _ (creates : Bool) (pattern : List ℕ) (x : Lent) where
       run-ends words (done t) =
           rw (take-at (cellsFrom 0 namedCells (t .stores .ρ)) (cellsFrom 0 scratchCells (t .scratches)) namedCells (length-cells 0 namedCells (t .stores .ρ)))
       run-ends words (stuck place why) =
-          ap (λ at. untouched (Direct.Stuck (at place) (reasonOf why)) x) (sym rows-same) ∙ sym (left-untouched (Ran.Stuck place (reasonOf why)))
-      run-ends words (room place) = ap (λ at. untouched (Direct.NoRoom (at place)) x) (sym rows-same) ∙ sym (left-untouched (Ran.NoRoom place))
+          ap (λ at. asGiven (Direct.Stuck (at place) (reasonOf why)) x) (sym rows-same) ∙ sym (left-untouched (Ran.Stuck place (reasonOf why)))
+      run-ends words (room place) = ap (λ at. asGiven (Direct.NoRoom (at place)) x) (sym rows-same) ∙ sym (left-untouched (Ran.NoRoom place))
 
       -- the lines come to what the rules give
       rules-end : (b : Bool) → tables b kind (patternOf pattern) (known rowWorld (stateOf (lentToRun x) .stores)) ≡ ok lines e

@@ -14,7 +14,7 @@ use Rattle.stores.specs.Cells.{unset}
 use Rattle.theory.specs.Emission.{Emitted, ok, refuse}
 use Rattle.calls.specs.Compile.{compile, compiledCode, emitted}
 use Rattle.calls.specs.Run.{Lent, RunOutcome, run}
-use Rattle.calls.specs.Direct.{DirectOutcome, untouched, refusedAs}
+use Rattle.calls.specs.Direct.{DirectOutcome, asGiven, refusedAs}
 
 -- what run is lent: the named cells, and after them the scratch cells, all unset
 abbrev pub lentToRun : Lent → Lent
@@ -67,13 +67,13 @@ module _ (creates : Bool) (pattern : List ℕ) (x : Lent) where
   -- an answer but 0 is handed back, with nothing changed
   abbrev pub thenRun : Compiled → List ℕ → DirectOutcome
   thenRun (Compiled.Done words) code = ranOutcome (run (lentToRun x) code)
-  thenRun Compiled.Limit code = untouched (refusedAs Compiled.Limit) x
-  thenRun Compiled.BadStore code = untouched (refusedAs Compiled.BadStore) x
-  thenRun (Compiled.BadPattern row) code = untouched (refusedAs (Compiled.BadPattern row)) x
-  thenRun (Compiled.WrongKind row) code = untouched (refusedAs (Compiled.WrongKind row)) x
-  thenRun (Compiled.WrittenWhileSet row) code = untouched (refusedAs (Compiled.WrittenWhileSet row)) x
-  thenRun (Compiled.ReadWhileUnset row) code = untouched (refusedAs (Compiled.ReadWhileUnset row)) x
-  thenRun (Compiled.CodeTooShort words) code = untouched (refusedAs (Compiled.CodeTooShort words)) x
+  thenRun Compiled.Limit code = asGiven (refusedAs Compiled.Limit) x
+  thenRun Compiled.BadStore code = asGiven (refusedAs Compiled.BadStore) x
+  thenRun (Compiled.BadPattern row) code = asGiven (refusedAs (Compiled.BadPattern row)) x
+  thenRun (Compiled.WrongKind row) code = asGiven (refusedAs (Compiled.WrongKind row)) x
+  thenRun (Compiled.WrittenWhileSet row) code = asGiven (refusedAs (Compiled.WrittenWhileSet row)) x
+  thenRun (Compiled.ReadWhileUnset row) code = asGiven (refusedAs (Compiled.ReadWhileUnset row)) x
+  thenRun (Compiled.CodeTooShort words) code = asGiven (refusedAs (Compiled.CodeTooShort words)) x
 
   unfoldable pub compileThenRun : DirectOutcome
   compileThenRun =

@@ -35,8 +35,8 @@ pub record DirectOutcome : Type 0 where
   pub counter : ℕ
 
 -- the values on entry
-abbrev pub untouched : Direct → Lent → DirectOutcome
-untouched answer x =
+abbrev pub asGiven : Direct → Lent → DirectOutcome
+asGiven answer x =
     record { answer = answer; objects = x .objects; named = x .messages; accumulator = x .accumulator; terms = x .terms; counter = x .counter }
 
 -- compile's refusals; no code is written, so none is too short
@@ -64,8 +64,8 @@ directEnds x (done r) = record {
   terms = r .1 .memory .rows;
   counter = r .1 .memory .counter;
 }
-directEnds x (stuck row why) = untouched (Stuck row (reasonOf why)) x
-directEnds x (room row) = untouched (NoRoom row) x
+directEnds x (stuck row why) = asGiven (Stuck row (reasonOf why)) x
+directEnds x (room row) = asGiven (NoRoom row) x
 
 module _ (x : Lent) where
   -- 1, 2, 3 of run
@@ -94,7 +94,7 @@ module _ (creates : Bool) (pattern : List ℕ) (x : Lent) where
   ruled false = bind (match rowWorld (kindIn (x .kinds)) (patternOf pattern) (held (x .accumulator)) (stateOf x .stores)) λ n. done (x .accumulator, n)
 
   abbrev pub directBy : Option Direct → DirectOutcome
-  directBy (some answer) = untouched answer x
+  directBy (some answer) = asGiven answer x
   directBy none = directEnds x (ruled creates)
 
   unfoldable pub direct : DirectOutcome

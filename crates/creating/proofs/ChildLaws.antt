@@ -28,7 +28,8 @@ module _ (rows : List ℕ) (row word : ℕ) {e : List ℕ} (asked : RowAt rows r
   module _ (five : patternFields word .tag ≡ 5) (child : ℕ) (first : child ≡ getD (patternFields word .slots) 0 0) where
     module _ {f : Env → Emitted} {code e₁ code₁ : List ℕ} (keyed : Does f 3 0 e code e₁ code₁) where
       pub encryption-inside : Row rows child e₁
-      encryption-inside = row-below rows row child (asked .standing .stands) (encryption-child (asked .standing) child first five) (room-then (omega arith) (omega arith) (encryption-room asked child first five) keyed)
+      encryption-inside = row-below rows row child (asked .standing .stands) (encryption-child (asked .standing) child first five)
+          (room-then (omega arith) (omega arith) (encryption-room asked child first five) keyed)
 
       module _ {g : Env → Emitted} {e₂ code₂ : List ℕ} (made : Does g (mostWords (patternIn rows child)) (mostScratches (patternIn rows child)) e₁ code₁ e₂ code₂) where
         after-inside : RoomFor 2 0 e₂
@@ -54,7 +55,8 @@ module _ (rows : List ℕ) (row word : ℕ) {e : List ℕ} (asked : RowAt rows r
   -- let r = p1 in p2
   module _ (nine : patternFields word .tag ≡ 9) (child : ℕ) (first : child ≡ getD (patternFields word .slots) 0 0) (other : ℕ) (second : other ≡ getD (patternFields word .slots) 1 0) where
     pub let-first : Row rows child e
-    let-first = row-below rows row child (asked .standing .stands) (let-children (asked .standing) child first other second nine .0) (room-le (omega arith) (omega arith) (let-room asked child first other second nine))
+    let-first = row-below rows row child (asked .standing .stands) (let-children (asked .standing) child first other second nine .0)
+        (room-le (omega arith) (omega arith) (let-room asked child first other second nine))
 
     module _ {f : Env → Emitted} {code e₁ code₁ : List ℕ} (made : Does f (mostWords (patternIn rows child)) (mostScratches (patternIn rows child)) e code e₁ code₁) where
       pub let-store : RoomFor 1 0 e₁

@@ -30,7 +30,8 @@ use Rattle.matching.specs.Matches.{Matches, MatchesParts}
 module _ (rows : List ℕ) (row word : ℕ) {e : List ℕ} (asked : RowAt rows row word e) (five : patternFields word .tag ≡ 5) (child : ℕ) (first : child ≡ getD (patternFields word .slots) 0 0) where
   pub encryption-asks : {f g : Env → Emitted} {code e₁ code₁ e₂ code₂ : List ℕ} → Does f 1 0 e code e₁ code₁ → Does g 1 0 e₁ code₁ e₂ code₂ → Row rows child e₂
   encryption-asks k l =
-      row-below rows row child (asked .standing .stands) (encryption-child (asked .standing) child first five) (room-then (omega arith) (omega arith) (encryption-room asked child first five) (does-seq k l))
+      row-below rows row child (asked .standing .stands) (encryption-child (asked .standing) child first five)
+      (room-then (omega arith) (omega arith) (encryption-room asked child first five) (does-seq k l))
 
   module _ {code e′ : List ℕ} (form : ℕ) (read : form ≡ patternFields word .f) where
     pub encryption-done : {e₁ code₁ e₂ code₂ code′ : List ℕ} (v x : ℕ) → v ≡ patternFields word .v → x ≡ patternFields word .x → form ≡ 0 → Does (emit row (Decode (asObject v))) 1 0 e code e₁ code₁

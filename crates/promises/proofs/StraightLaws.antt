@@ -31,7 +31,7 @@ use Rattle.theory.proofs.Models.{calm-rows}
 use Rattle.theory.proofs.Places.{form}
 use Rattle.calls.specs.Compile.{lengthsFit, emitted}
 use Rattle.calls.specs.Run.{Lent, stateOf}
-use Rattle.calls.specs.Direct.{DirectOutcome, untouched, refusedAs, refusedBy, directEnds, tableFits, storeRefusals, ruled, directBy, direct}
+use Rattle.calls.specs.Direct.{DirectOutcome, asGiven, refusedAs, refusedBy, directEnds, tableFits, storeRefusals, ruled, directBy, direct}
 use Rattle.calls.specs.CompileThenRun.{lentToRun}
 use Rattle.calls.proofs.CompileLaws.{passes-when, fails-when, Checked, compile-within}
 use Rattle.calls.proofs.Product.{checked-refuses}
@@ -99,10 +99,10 @@ module _ (creates : Bool) (pattern : List ℕ) (x : Lent) where
 
   -- and what it leaves
   abbrev DirectLeaves : DirectOutcome → Type 0
-  DirectLeaves o = DirectGives (o .answer) × ((directNumber (o .answer) ≢ 0 → o ≡ untouched (o .answer) x) ×
+  DirectLeaves o = DirectGives (o .answer) × ((directNumber (o .answer) ≢ 0 → o ≡ asGiven (o .answer) x) ×
       ((r : ℕ × Stores rowWorld) → rule ≡ done r → directNumber (o .answer) ≡ 0 → o ≡ directEnds x (done r)))
 
-  refused : (answer : Direct) → directNumber answer ≢ 0 → DirectGives answer → DirectLeaves (untouched answer x)
+  refused : (answer : Direct) → directNumber answer ≢ 0 → DirectGives answer → DirectLeaves (asGiven answer x)
   refused answer nonzero gives = (gives, (λ _. refl, λ r e z. absurd (nonzero z)))
 
   -- the rules are stuck for one of document 01's reasons: so is the code that they end as
@@ -127,7 +127,7 @@ module _ (creates : Bool) (pattern : List ℕ) (x : Lent) where
   by-stores a true true none e h s = by-rules (record { accepts = a; lengths = rw e tt; rows = h; stores = rw s tt }) rule refl
 
   by-refusal : (answer : Compiled) → Checked creates pattern (x .kinds) (x .objects) (x .messages) → Refusal answer → emits ≡ refuse answer
-      → DirectLeaves (untouched (refusedAs answer) x)
+      → DirectLeaves (asGiven (refusedAs answer) x)
   by-refusal answer c (written {row = row}) q = refused (WrittenWhileSet row) (λ z. omega arith) (c, q)
   by-refusal answer c (read {row = row}) q = refused (ReadWhileUnset row) (λ z. omega arith) (c, q)
 
@@ -161,8 +161,8 @@ module _ (creates : Bool) (pattern : List ℕ) (x : Lent) where
   unfolding direct
   direct-leaves = by-looks fit declares (badPattern pattern) wrong refl refl refl refl
 
-  pub direct-untouched : directNumber (outcome .answer) ≢ 0 → outcome ≡ untouched (outcome .answer) x
-  direct-untouched = direct-leaves .1 .0
+  pub direct-asGiven : directNumber (outcome .answer) ≢ 0 → outcome ≡ asGiven (outcome .answer) x
+  direct-asGiven = direct-leaves .1 .0
 
   pub direct-given : (r : ℕ × Stores rowWorld) → rule ≡ done r → directNumber (outcome .answer) ≡ 0 → outcome ≡ directEnds x (done r)
   direct-given = direct-leaves .1 .1

@@ -28,7 +28,7 @@ use Rattle.promises.specs.Straight.{DirectAnswers, Compilable, StraightT
 use Rattle.promises.proofs.StepLaws.{reason-back}
 use Rattle.promises.proofs.ConditionLaws.{bad-variable, no-bad-variable}
 use Rattle.promises.proofs.NumberLaws.{checked}
-use Rattle.promises.proofs.StraightLaws.{Tried, DirectGives, directOf, rule-reasoned, direct-untouched, direct-given, gives-direct, direct-answered, direct-stuck, compilable, lengths-within, stores-good, asked}
+use Rattle.promises.proofs.StraightLaws.{Tried, DirectGives, directOf, rule-reasoned, direct-asGiven, direct-given, gives-direct, direct-answered, direct-stuck, compilable, lengths-within, stores-good, asked}
 use Rattle.promises.proofs.StraightDecision.{done-place, no-direct-reason, never-eight, never-nine, direct-valid-again, direct-match, direct-creation}
 
 -- the numbers that come back
@@ -128,7 +128,7 @@ module _ (creates : Bool) (pattern : List ℕ) (x : Lent) where
         no-room = λ row. (λ a. let (t, e) = told a in (ready .0 t, e), λ h. comes (NoRoom row) (ready .1 (h .0), h .1));
         finishes = (λ a. let (t, e) = told a in (ready .0 t, e), λ h. comes Done (ready .1 (h .0), h .1));
         given = λ r q e. direct-given creates pattern x r e (comes Done (ready .1 q, (r, e)) .0);
-        left = direct-untouched creates pattern x;
+        left = direct-asGiven creates pattern x;
         range = direct-range (direct creates pattern x .answer);
         no-place = done-place (direct creates pattern x .answer);
         no-reason = no-direct-reason (direct creates pattern x .answer);

@@ -20,7 +20,7 @@ use Rattle.theory.specs.Emission.{refuse}
 use Rattle.theory.specs.Figure2.{TermStores}
 use Rattle.calls.specs.Compile.{CompileOutcome, compiledCode, compile}
 use Rattle.calls.specs.Run.{Lent, RunOutcome, run}
-use Rattle.calls.specs.Direct.{DirectOutcome, untouched, directEnds, ruled, direct}
+use Rattle.calls.specs.Direct.{DirectOutcome, asGiven, directEnds, ruled, direct}
 use Rattle.calls.specs.CompileThenRun.{lentToRun, compileThenRun}
 use Rattle.promises.specs.Answers.{compileNumber, runNumber}
 use Rattle.promises.specs.Reading.{termIn, storesIn, messageBefore}
@@ -97,7 +97,7 @@ module _ (creates : Bool) (pattern : List ℕ) (x : Lent) where
     pub finishes : DirectAnswers outcome 0 0 0 ↔ (Asked × ((r : ℕ × Stores rowWorld) × RuleGives (done r)))
     -- what is left: what the rules give, or everything as on entry
     pub given : (r : ℕ × Stores rowWorld) → Asked → RuleGives (done r) → outcome ≡ directEnds x (done r)
-    pub left : directNumber (outcome .answer) ≢ 0 → outcome ≡ untouched (outcome .answer) x
+    pub left : directNumber (outcome .answer) ≢ 0 → outcome ≡ asGiven (outcome .answer) x
     -- 0 to 7, 10 or 11; done has place 0; the reason is 0 unless stuck
     pub range : (directNumber (outcome .answer) ≤ 7) ⊎ (directNumber (outcome .answer) ≡ 10) ⊎ (directNumber (outcome .answer) ≡ 11)
     pub no-place : directNumber (outcome .answer) ≡ 0 → directPlace (outcome .answer) ≡ 0

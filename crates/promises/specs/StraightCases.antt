@@ -10,7 +10,7 @@ use Rattle.terms.specs.Shape.{atom, encrypted, tupled}
 use Rattle.terms.specs.Row.{rowOf}
 use Rattle.stores.specs.Cells.{unset}
 use Rattle.calls.specs.Run.{Lent}
-use Rattle.calls.specs.Direct.{untouched, direct}
+use Rattle.calls.specs.Direct.{asGiven, direct}
 use Rattle.calls.specs.Cases.{row, objectRow, rawRow, tupleRow, letRow, kinds, cells}
 use Rattle.promises.specs.Answers.{RunAnswers}
 use Rattle.promises.specs.Example.{P1-pattern, P2-pattern, P9-pattern}
@@ -70,17 +70,17 @@ pub record StraightCases : Type 0 where
         counter = 2;
       }
   -- stuck at a row, for the reason for which run is stuck at a word
-  pub P9 : direct false P9-pattern P9-bench ≡ untouched (Stuck 0 PartCount) P9-bench
-  pub P10 : direct false (row (4 ∷ 0 ∷ 0 ∷ 0 ∷ 1 ∷ []) ∷ []) P10-bench ≡ untouched (Stuck 0 NoCertificate) P10-bench
-  pub second-part : direct false constantPart constantBench ≡ untouched (Stuck 1 Differs) constantBench
+  pub P9 : direct false P9-pattern P9-bench ≡ asGiven (Stuck 0 PartCount) P9-bench
+  pub P10 : direct false (row (4 ∷ 0 ∷ 0 ∷ 0 ∷ 1 ∷ []) ∷ []) P10-bench ≡ asGiven (Stuck 0 NoCertificate) P10-bench
+  pub second-part : direct false constantPart constantBench ≡ asGiven (Stuck 1 Differs) constantBench
   pub second-part-word : RunAnswers (ranSecond false constantPart constantBench) 10 8 3
   -- without a message a matched let is stuck at the first row of p2
-  pub no-message : direct false (objectRow 0 ∷ rawRow 0 ∷ letRow 0 0 1 ∷ []) (emptyBench (2 ∷ [])) ≡ untouched (Stuck 1 Unset) (emptyBench (2 ∷ []))
+  pub no-message : direct false (objectRow 0 ∷ rawRow 0 ∷ letRow 0 0 1 ∷ []) (emptyBench (2 ∷ [])) ≡ asGiven (Stuck 1 Unset) (emptyBench (2 ∷ []))
   -- 6 of the second part comes before the lack of a message
   pub P5 : direct false (row (2 ∷ 0 ∷ 0 ∷ 5 ∷ []) ∷ row (2 ∷ 0 ∷ 0 ∷ 5 ∷ []) ∷ tupleRow 1 (0 ∷ 1 ∷ []) ∷ []) (emptyBench (1 ∷ 10 ∷ []))
-      ≡ untouched (WrittenWhileSet 1) (emptyBench (1 ∷ 10 ∷ []))
+      ≡ asGiven (WrittenWhileSet 1) (emptyBench (1 ∷ 10 ∷ []))
   -- no row is unused
-  pub no-room : direct true (objectRow 0 ∷ []) (emptyBench (2 ∷ [])) ≡ untouched (NoRoom 0) (emptyBench (2 ∷ []))
+  pub no-room : direct true (objectRow 0 ∷ []) (emptyBench (2 ∷ [])) ≡ asGiven (NoRoom 0) (emptyBench (2 ∷ []))
   -- the premises of what is decided
   pub P1-roomy : Roomy false P1-pattern P1-bench
   pub P2-roomy : Roomy true P2-pattern P2-bench

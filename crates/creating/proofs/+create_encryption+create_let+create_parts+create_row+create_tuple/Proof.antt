@@ -335,18 +335,24 @@ module _ (t : ℕ) where
 
   create-row-create-encryption-requires : create-row-lts.Need-create-encryption-requires create-row-callees (create-row-at t) create-row.Post
   create-row-create-encryption-requires c κs =
-      let s = c .before .before .before .before .before in
-      (omega (arith, s .pre .0), (record { standing = record { here = refl; stands = s .pre .1 .stands }; room = s .pre .1 .room }, sym (c .before .before .before .tag .ensures) ∙ c .before .before .match .keys1))
+      let s = c .before .before .before .before .before in (
+        omega (arith, s .pre .0),
+        (record { standing = record { here = refl; stands = s .pre .1 .stands }; room = s .pre .1 .room }, sym (c .before .before .before .tag .ensures) ∙ c .before .before .match .keys1),
+      )
 
   create-row-create-tuple-requires : create-row-lts.Need-create-tuple-requires create-row-callees (create-row-at t) create-row.Post
   create-row-create-tuple-requires c κs =
-      let s = c .before .before .before .before .before in
-      (omega (arith, s .pre .0), (record { standing = record { here = refl; stands = s .pre .1 .stands }; room = s .pre .1 .room }, sym (c .before .before .before .tag .ensures) ∙ c .before .before .match .keys2))
+      let s = c .before .before .before .before .before in (
+        omega (arith, s .pre .0),
+        (record { standing = record { here = refl; stands = s .pre .1 .stands }; room = s .pre .1 .room }, sym (c .before .before .before .tag .ensures) ∙ c .before .before .match .keys2),
+      )
 
   create-row-create-let-requires : create-row-lts.Need-create-let-requires create-row-callees (create-row-at t) create-row.Post
   create-row-create-let-requires c κs =
-      let s = c .before .before .before .before .before in
-      (omega (arith, s .pre .0), (record { standing = record { here = refl; stands = s .pre .1 .stands }; room = s .pre .1 .room }, sym (c .before .before .before .tag .ensures) ∙ c .before .before .match .keys3))
+      let s = c .before .before .before .before .before in (
+        omega (arith, s .pre .0),
+        (record { standing = record { here = refl; stands = s .pre .1 .stands }; room = s .pre .1 .room }, sym (c .before .before .before .tag .ensures) ∙ c .before .before .match .keys3),
+      )
 
   create-row-create-leaf-requires : create-row-lts.Need-create-leaf-requires create-row-callees (create-row-at t) create-row.Post
   create-row-create-leaf-requires c κs =

@@ -8,7 +8,21 @@ use Rattle.emission.proofs.BudgetLaws.{room-le, room-then, leaf-room}
 use Rattle.theory.specs.Compilers.{compile↓parts}
 use Rattle.patterns.proofs.StandingLaws.{slot, encryption-child, let-children, variable-low}
 use Rattle.emission.proofs.PartLaws.{Walked, parts-begin, parts-end, tuple-parts}
-use Rattle.matching.proofs.WalkLaws.{encryption-asks, encryption-done, encryption-wrong, let-second, let-loads, let-first, let-done, in-turn, part-loads, part-asks, part-done, tuple-analyzes, tuple-done}
+use Rattle.matching.proofs.WalkLaws.{
+  encryption-asks,
+  encryption-done,
+  encryption-wrong,
+  let-second,
+  let-loads,
+  let-first,
+  let-done,
+  in-turn,
+  part-loads,
+  part-asks,
+  part-done,
+  tuple-analyzes,
+  tuple-done,
+}
 use borrow.Fn.Kinds.{In}
 use borrow.Fn.PlainCycle.{Measures, is, falls, and}
 use Rattle.matching.proofs.match_encryption.Reads as match-encryption
@@ -208,8 +222,11 @@ module _ (t : ℕ) where
   match-let-match-row-requires c κs =
       let s = c .before .before .before .before .before .before in
       let first = slot _ _ 0 (c .before .before .before .before .slots .ensures) in
-      let second = slot _ _ 1 (c .before .before .before .before .slots .ensures) in
-      (omega (arith, s .pre .0, let-children (s .pre .1 .0 .standing) _ first _ second (s .pre .1 .1) .1), let-second _ _ _ (s .pre .1 .0) (s .pre .1 .1) _ first _ second (c .before .before .free-raw .ensures))
+      let second = slot _ _ 1 (c .before .before .before .before .slots .ensures) in (
+        omega (arith, s .pre .0, let-children (s .pre .1 .0 .standing) _ first _ second (s .pre .1 .1) .1),
+        let-second _ _ _ (s .pre .1 .0) (s .pre .1 .1) _ first _ second
+            (c .before .before .free-raw .ensures),
+      )
 
   match-let-load-requires : match-let-lts.Need-load-requires match-let-callees (match-let-at t) match-let.Post
   match-let-load-requires c κs =
@@ -324,25 +341,34 @@ module _ (t : ℕ) where
 
   match-row-match-encryption-requires : match-row-lts.Need-match-encryption-requires match-row-callees (match-row-at t) match-row.Post
   match-row-match-encryption-requires c κs =
-      let s = c .before .before .before .before .before in
-      (omega (arith, s .pre .0), (record { standing = record { here = refl; stands = s .pre .1 .stands }; room = s .pre .1 .room }, sym (c .before .before .before .tag .ensures) ∙ c .before .before .match .keys1))
+      let s = c .before .before .before .before .before in (
+        omega (arith, s .pre .0),
+        (record { standing = record { here = refl; stands = s .pre .1 .stands }; room = s .pre .1 .room }, sym (c .before .before .before .tag .ensures) ∙ c .before .before .match .keys1),
+      )
 
   match-row-match-tuple-requires : match-row-lts.Need-match-tuple-requires match-row-callees (match-row-at t) match-row.Post
   match-row-match-tuple-requires c κs =
-      let s = c .before .before .before .before .before in
-      (omega (arith, s .pre .0), (record { standing = record { here = refl; stands = s .pre .1 .stands }; room = s .pre .1 .room }, sym (c .before .before .before .tag .ensures) ∙ c .before .before .match .keys2))
+      let s = c .before .before .before .before .before in (
+        omega (arith, s .pre .0),
+        (record { standing = record { here = refl; stands = s .pre .1 .stands }; room = s .pre .1 .room }, sym (c .before .before .before .tag .ensures) ∙ c .before .before .match .keys2),
+      )
 
   match-row-match-let-requires : match-row-lts.Need-match-let-requires match-row-callees (match-row-at t) match-row.Post
   match-row-match-let-requires c κs =
-      let s = c .before .before .before .before .before in
-      (omega (arith, s .pre .0), (record { standing = record { here = refl; stands = s .pre .1 .stands }; room = s .pre .1 .room }, sym (c .before .before .before .tag .ensures) ∙ c .before .before .match .keys3))
+      let s = c .before .before .before .before .before in (
+        omega (arith, s .pre .0),
+        (record { standing = record { here = refl; stands = s .pre .1 .stands }; room = s .pre .1 .room }, sym (c .before .before .before .tag .ensures) ∙ c .before .before .match .keys3),
+      )
 
   match-row-match-leaf-requires : match-row-lts.Need-match-leaf-requires match-row-callees (match-row-at t) match-row.Post
   match-row-match-leaf-requires c κs =
       let s = c .before .before .before .before .before in
       let n = c .before .before .match .rest in
-      let tag = c .before .before .before .tag .ensures in
-      (record { standing = record { here = refl; stands = s .pre .1 .stands }; room = s .pre .1 .room }, record { encryption = λ h. n .0 .0 .1 (tag ∙ h); tuple = λ h. n .0 .1 (tag ∙ h); letIn = λ h. n .1 (tag ∙ h) })
+      let tag = c .before .before .before .tag .ensures in (
+        record { standing = record { here = refl; stands = s .pre .1 .stands }; room = s .pre .1 .room },
+        record
+            { encryption = λ h. n .0 .0 .1 (tag ∙ h); tuple = λ h. n .0 .1 (tag ∙ h); letIn = λ h. n .1 (tag ∙ h) },
+      )
 
   match-row-returns : match-row-lts.Need-returns match-row-callees (match-row-at t) match-row.Post
   match-row-returns c = c .match-encryption .ensures

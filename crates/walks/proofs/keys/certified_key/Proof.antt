@@ -26,7 +26,8 @@ meeting-requires : tie.Need-meeting-requires
 meeting-requires c κs = search needs
 
 decode-requires : tie.Need-decode-requires
-decode-requires c κs = let s = c .before .before .before .before .before .before .before .before .before .before .before .before .before .before in (within-met (s .args .walk) (c .meeting .ensures) (s .pre .0), s .pre .1)
+decode-requires c κs = let s = c .before .before .before .before .before .before .before .before .before .before .before .before .before .before in
+    (within-met (s .args .walk) (c .meeting .ensures) (s .pre .0), s .pre .1)
 
 same-length-2 : tie.Need-same-length-2
 same-length-2 c = search needs
