@@ -99,7 +99,7 @@ module _ (creates : Bool) (pattern : List ℕ) (x : Lent) where
     unfolding stateOver
     same-accumulator = refl
 
-    -- what run leaves as it was is asGiven
+    -- what run leaves as it was is as given
     left-untouched : (answer : Ran) → ranOutcome creates pattern x (unchanged answer (lentToRun x)) ≡ asGiven (ranAs (rowEmitting creates pattern x) answer) x
     left-untouched answer = rw named-taken (given creates)
       where
