@@ -13,15 +13,17 @@ use word::Place;
 // In fewer rows equal ones are searched for: to clear the arrays of chains takes longer.
 const FEW_ROWS: usize = 32;
 
+// As many chains as there may be rows.
+const CHAINS: u64 = 4096;
 // What the two halves of a row, added, are multiplied by.
 const MIX: u64 = 1327217885;
 
-// The chain of a row, one of as many as there may be rows. All bits are mixed, and a bad mix costs time only.
+// The chain of a row. All bits are mixed, and a bad mix costs time only.
 fn chain_of(word: u64) -> usize
     ensures { λ r. ⌜ r ≡ chainOf word ⌝ }
 {
     let halves = word % 4294967296 + word / 4294967296;
-    (halves * MIX / 1048576 % 4096) as usize
+    (halves * MIX / 1048576 % CHAINS) as usize
 }
 
 // Of a large array only the length is promised: what stands in it before a row is noted is never believed.
@@ -96,7 +98,7 @@ fn distinct_by_search(rows: &[u64], used: usize) -> usize
     row
 }
 
-// How many of the first rows come before one that equals an earlier row.
+// How many of the first rows come before one that equals an earlier row, or else all of them.
 pub fn distinct_rows(rows: &[u64], used: usize) -> usize
     requires { ⌜ (used ≤ length (now rows)) × (length (now rows) ≤ mostTermRows) ⌝ }
     ensures { λ r. ⌜ r ≡ distinctRows (now (rows .entry)) used ⌝ }
