@@ -1,4 +1,4 @@
--- A number that is read, one way out of the code after another.
+-- A number and a line that are read, one way out of the code after another.
 use Prim.Native.Nat.{ℕ, suc, _+_, _*_, _-_, _<_, _≤_}
 use mathlib.Core.Path.{_≡_, refl, sym, _∙_}
 use mathlib.Core.Bool.{Bool, true, false, not}
@@ -9,11 +9,15 @@ use native.Mathlib.Omega.{arith}
 use borrow.Author.Tests.{le-leb, lt-leb, eq-eqb, ne-eqb, not-true, not-false}
 use lib.ListN.{length, getD, drop, drop-of-length-le}
 use lib.Seq.{drop-cons}
-use Rattle.text.specs.Readers.{Front, front, isDigit, digitsOn, readNumber}
-use Rattle.text.specs.ReadAnswers.{ReadsNumber}
+use Rattle.text.specs.Lines.{space, lineFeed}
+use Rattle.text.specs.Readers.{Front, front, isDigit, digitsOn, readNumber, readLine}
+use Rattle.text.specs.ReadAnswers.{numbersOf, ReadsNumber, ReadsLine}
 use Rattle.text.proofs.ReadLaws.{digit-bounds}
 use Rattle.text.specs.declared.reading.NumberRead.{NumberRead}
 use Rattle.text.specs.declared.reading.NumberRead.the-variants as NumberRead
+use Rattle.text.specs.declared.reading.LineRead.{LineRead}
+use Rattle.text.specs.declared.reading.LineRead.the-variants as LineRead
+use Rattle.text.specs.declared.reading.Numbers.{Numbers}
 
 none-read : (text : List ℕ) {read : Option (Front ℕ)} → read ≡ none → ReadsNumber text read NumberRead.Not
 none-read text e = record { says = sym e; inside = omega arith }
@@ -94,3 +98,48 @@ module _ (most end at : ℕ) (text : List ℕ) where
         }
 
 pub ruleset number-steps = (no-bytes, no-digit, one-digit, number-unended, too-large, number-ended, other-byte, leading-zero, digit-read, arith)
+
+-- what a number's answer says
+module _ {text : List ℕ} {read : Option (Front ℕ)} {answer : NumberRead} (reads : ReadsNumber text read answer) where
+  pub is-read : {value next : ℕ} → answer ≡ NumberRead.Is value next → read ≡ some (front value (drop next text))
+  is-read e = rw e at (sym (reads .says))
+
+  pub not-read : answer ≡ NumberRead.Not → read ≡ none
+  not-read e = rw e at (sym (reads .says))
+
+-- a line, number after number
+module _ (text : List ℕ) (most : Numbers) (at : ℕ) where
+  abbrev Answers : LineRead → Type 0
+  Answers answer = ReadsLine text (readLine (numbersOf most) (drop at text)) answer
+
+  no-line : readLine (numbersOf most) (drop at text) ≡ none → Answers LineRead.Not
+  no-line e = record { says = sym e; inside = omega arith }
+
+  pub stop-first : readNumber (most .0) space (drop at text) ≡ none → Answers LineRead.Not
+  unfolding readLine
+  stop-first e = no-line (rw e)
+
+  module _ {first : ℕ} {t₁ : List ℕ} (e₀ : readNumber (most .0) space (drop at text) ≡ some (front first t₁)) where
+    pub stop-second : readNumber (most .1) space t₁ ≡ none → Answers LineRead.Not
+    unfolding readLine
+    stop-second e = no-line (rw (e₀, e))
+
+    module _ {second : ℕ} {t₂ : List ℕ} (e₁ : readNumber (most .1) space t₁ ≡ some (front second t₂)) where
+      pub stop-third : readNumber (most .2) space t₂ ≡ none → Answers LineRead.Not
+      unfolding readLine
+      stop-third e = no-line (rw (e₀, e₁, e))
+
+      module _ {third : ℕ} {t₃ : List ℕ} (e₂ : readNumber (most .2) space t₂ ≡ some (front third t₃)) where
+        pub stop-fourth : readNumber (most .3) space t₃ ≡ none → Answers LineRead.Not
+        unfolding readLine
+        stop-fourth e = no-line (rw (e₀, e₁, e₂, e))
+
+        module _ {fourth : ℕ} {t₄ : List ℕ} (e₃ : readNumber (most .3) space t₃ ≡ some (front fourth t₄)) where
+          pub stop-fifth : readNumber (most .4) lineFeed t₄ ≡ none → Answers LineRead.Not
+          unfolding readLine
+          stop-fifth e = no-line (rw (e₀, e₁, e₂, e₃, e))
+
+          pub whole-line : {fifth next : ℕ} → readNumber (most .4) lineFeed t₄ ≡ some (front fifth (drop next text)) → next ≤ length text
+              → Answers (LineRead.Is (record { 0 = first; 1 = second; 2 = third; 3 = fourth; 4 = fifth }) next)
+          unfolding readLine
+          whole-line e inside = record { says = sym (rw (e₀, e₁, e₂, e₃, e)); inside = inside }

@@ -4,7 +4,7 @@ ghost use Prim.Native.Nat.{_+_, _^_, _≤_};
 ghost use lib.ListN.{drop};
 ghost use Rattle.word.specs.All.{All};
 ghost use Rattle.text.specs.Readers.{isDigit, readNumber, readLine};
-ghost use Rattle.text.specs.ReadAnswers.{ReadsNumber, ReadsLine};
+ghost use Rattle.text.specs.ReadAnswers.{numbersOf, ReadsNumber, ReadsLine};
 
 // The bytes of the digits 0 and 9.
 const FIRST_DIGIT: u8 = 48;
@@ -70,4 +70,27 @@ pub fn read_number(text: &[u8], at: usize, most: u64, end: u8) -> NumberRead
         value = value * 10 + worth(byte);
     }
     NumberRead::Not
+}
+
+// A line of five numbers, each at most so large: one space between, a line feed behind the last.
+pub fn read_line(text: &[u8], at: usize, most: Numbers) -> LineRead
+    requires { ⌜ All (λ number. number ≤ 10 ^ 18) (numbersOf most) ⌝ }
+    ensures { λ r. ⌜ ReadsLine (now (text .entry)) (readLine (numbersOf most) (drop at (now (text .entry)))) r ⌝ }
+{
+    let NumberRead::Is(first, second_at) = read_number(text, at, most.0, b' ') else {
+        return LineRead::Not;
+    };
+    let NumberRead::Is(second, third_at) = read_number(text, second_at, most.1, b' ') else {
+        return LineRead::Not;
+    };
+    let NumberRead::Is(third, fourth_at) = read_number(text, third_at, most.2, b' ') else {
+        return LineRead::Not;
+    };
+    let NumberRead::Is(fourth, fifth_at) = read_number(text, fourth_at, most.3, b' ') else {
+        return LineRead::Not;
+    };
+    let NumberRead::Is(fifth, next) = read_number(text, fifth_at, most.4, b'\n') else {
+        return LineRead::Not;
+    };
+    LineRead::Is(Numbers(first, second, third, fourth, fifth), next)
 }
