@@ -9,8 +9,8 @@ use native.Mathlib.Omega.{arith}
 use borrow.Author.Tests.{le-leb, ne-eqb, eq-eqb, leb-true, eqb-true, eqb-false}
 use lib.Dec.{leb, eqb}
 use Rattle.word.proofs.ScanLaws.{lt-or-ge}
-use Rattle.text.specs.Lines.{space, lineFeed, digit, digits, decimal, spaced, line}
-use Rattle.text.specs.Readers.{Front, front, isDigit, digitsOn, readNumber, andThen, readLine}
+use Rattle.text.specs.Lines.{digit, digits, decimal}
+use Rattle.text.specs.Readers.{Front, front, isDigit, digitsOn, readNumber}
 use Rattle.text.proofs.DigitLaws.{last-digit, more-digits}
 
 -- ---- a digit
@@ -100,11 +100,11 @@ module _ (most end : ℕ) (below : most < 10 ^ 20) where
       go : (fits ended goes none-left : Bool) → leb value most ≡ fits → eqb byte end ≡ ended → isDigit byte ≡ goes → eqb value 0 ≡ none-left
           → (digitsOn most end (value * 10 + (byte - 48)) rest ≡ some number → Spelled most end (value * 10 + (byte - 48)) (decimal (value * 10 + (byte - 48)) ++ rest) number)
           → elim fits as (λ _. Option (Front ℕ)) [
-            true ↦ elim ended [
-              true ↦ some (front value rest)
-            | false ↦ elim (goes && not none-left) [ true ↦ digitsOn most end (value * 10 + (byte - 48)) rest | false ↦ none ]
+            | true ↦ elim ended [
+              | true ↦ some (front value rest)
+              | false ↦ elim (goes && not none-left) [ true ↦ digitsOn most end (value * 10 + (byte - 48)) rest | false ↦ none ]
             ]
-          | false ↦ none
+            | false ↦ none
           ] ≡ some number
           → Spelled most end value (decimal value ++ (byte ∷ rest)) number
       go true true goes none-left fits ended is zeroes more e =
@@ -115,7 +115,8 @@ module _ (most end : ℕ) (below : most < 10 ^ 20) where
           let bounds = digit-bounds byte is in
           let worth : byte ≡ 48 + (byte - 48) = omega (arith, bounds .0) in
           let some-left : value ≡ 0 → ⊥ = eqb-false value 0 zeroes in
-          let longer : decimal (value * 10 + (byte - 48)) ≡ decimal value ++ (digit (byte - 48) ∷ []) = digit-more value (byte - 48) (omega arith) (omega (arith, bounds .1)) (omega (arith, told .fits, told .reaches)) in
+          let longer : decimal (value * 10 + (byte - 48)) ≡ decimal value ++ (digit (byte - 48) ∷ []) =
+          digit-more value (byte - 48) (omega arith) (omega (arith, bounds .1)) (omega (arith, told .fits, told .reaches)) in
           record { bytes = ap (λ (b : ℕ). decimal value ++ (b ∷ rest)) worth ∙ rw (longer, append-assoc) at (told .bytes); fits = told .fits; reaches = omega (arith, told .reaches) }
       go true false true true fits ended is zeroes more e = let clash : _≡_ {A = ℕ} 0 1 = cc in absurd (omega arith)
       go true false false none-left fits ended is zeroes more e = let clash : _≡_ {A = ℕ} 0 1 = cc in absurd (omega arith)

@@ -9,7 +9,7 @@ use borrow.Author.Tests.{ne-eqb}
 use lib.Dec.{eqb, ltb}
 use Rattle.word.proofs.All.{All, all-append}
 use Rattle.text.specs.Lines.{space, lineFeed, digit, digits, decimal, spaced, line}
-use Rattle.text.specs.Readers.{Front, front, readNumber, andThen, readLine, inFront, textLines}
+use Rattle.text.specs.Readers.{Front, front, readNumber, numberThen, readLine, inFront, textLines}
 use Rattle.text.proofs.ReadLaws.{number-printed, number-read, Spelled}
 
 -- numbers that are at most their limits, as many as there are; and limits of few enough digits
@@ -51,7 +51,7 @@ pub record Printed (limits text : List ℕ) (read : Front (List ℕ)) : Type 0 w
   pub bytes : text ≡ line (read .value) ++ read .rest
   pub within : Within (read .value) limits
 
-then-read : (first : Option (Front ℕ)) (others : List ℕ → Option (Front (List ℕ))) {read : Front (List ℕ)} → andThen first others ≡ some read
+then-read : (first : Option (Front ℕ)) (others : List ℕ → Option (Front (List ℕ))) {read : Front (List ℕ)} → numberThen first others ≡ some read
     → (number : Front ℕ) × (first ≡ some number) × ((line : Front (List ℕ)) × (others (number .rest) ≡ some line) × (read ≡ front (number .value ∷ line .value) (line .rest)))
 then-read none others e = let clash : _≡_ {A = ℕ} 0 1 = cc in absurd (omega arith)
 then-read (some number) others {read} e = go (others (number .rest)) refl e

@@ -1,9 +1,9 @@
 -- A number and a line that are read, one way out of the code after another.
-use Prim.Native.Nat.{ℕ, suc, _+_, _*_, _-_, _<_, _≤_}
-use mathlib.Core.Path.{_≡_, refl, sym, _∙_}
+use Prim.Native.Nat.{ℕ, _+_, _*_, _-_, _<_, _≤_}
+use mathlib.Core.Path.{_≡_, sym, _∙_}
 use mathlib.Core.Bool.{Bool, true, false, not}
 use mathlib.Core.Option.{Option, none, some}
-use mathlib.Core.List.{List, [], _∷_}
+use mathlib.Core.List.{List}
 use native.Mathlib.Numerals.{add-one}
 use native.Mathlib.Omega.{arith}
 use borrow.Author.Tests.{le-leb, lt-leb, eq-eqb, ne-eqb, not-true, not-false}
@@ -94,7 +94,7 @@ module _ (most end at : ℕ) (text : List ℕ) where
         let v : getD text place 0 - 48 ≡ worth = omega (arith, is) in
         record {
           left = so-far .left
-          ∙ rw (drop-cons text place 0 inside, le-leb value most fits, ne-eqb (getD text place 0) end on, a-digit (getD text place 0) says holds, ne-eqb value 0 nonzero, v, add-one, digitsOn);
+              ∙ rw (drop-cons text place 0 inside, le-leb value most fits, ne-eqb (getD text place 0) end on, a-digit (getD text place 0) says holds, ne-eqb value 0 nonzero, v, add-one, digitsOn);
         }
 
 pub ruleset number-steps = (no-bytes, no-digit, one-digit, number-unended, too-large, number-ended, other-byte, leading-zero, digit-read, arith)

@@ -22,11 +22,11 @@ unfoldable pub digitsOn : (most end value : ℕ) → List ℕ → Option (Front 
 digitsOn most end value [] = none
 digitsOn most end value (byte ∷ rest) =
     elim (leb value most) [
-      true ↦ elim (eqb byte end) [
-        true ↦ some (front value rest)
-      | false ↦ elim (isDigit byte && not (eqb value 0)) [ true ↦ digitsOn most end (value * 10 + (byte - digit 0)) rest | false ↦ none ]
+      | true ↦ elim (eqb byte end) [
+        | true ↦ some (front value rest)
+        | false ↦ elim (isDigit byte && not (eqb value 0)) [ true ↦ digitsOn most end (value * 10 + (byte - digit 0)) rest | false ↦ none ]
       ]
-    | false ↦ none
+      | false ↦ none
     ]
 
 -- a number that is at most so large, and the byte that ends it
@@ -35,15 +35,15 @@ readNumber most end [] = none
 readNumber most end (byte ∷ rest) = elim (isDigit byte) [ true ↦ digitsOn most end (byte - digit 0) rest | false ↦ none ]
 
 -- a number, and then others
-abbrev pub andThen : Option (Front ℕ) → (List ℕ → Option (Front (List ℕ))) → Option (Front (List ℕ))
-andThen none others = none
-andThen (some number) others = Option·map (λ line. front (number .value ∷ line .value) (line .rest)) (others (number .rest))
+abbrev pub numberThen : Option (Front ℕ) → (List ℕ → Option (Front (List ℕ))) → Option (Front (List ℕ))
+numberThen none others = none
+numberThen (some number) others = Option·map (λ line. front (number .value ∷ line .value) (line .rest)) (others (number .rest))
 
 -- a line of as many numbers as there are limits: one space between, a line feed behind the last
 unfoldable pub readLine : List ℕ → List ℕ → Option (Front (List ℕ))
 readLine [] text = none
-readLine (most ∷ []) text = andThen (readNumber most lineFeed text) (λ rest. some (front [] rest))
-readLine (most ∷ next ∷ more) text = andThen (readNumber most space text) (readLine (next ∷ more))
+readLine (most ∷ []) text = numberThen (readNumber most lineFeed text) (λ rest. some (front [] rest))
+readLine (most ∷ next ∷ more) text = numberThen (readNumber most space text) (readLine (next ∷ more))
 
 -- a byte in front of the first line
 abbrev pub inFront : ℕ → List (List ℕ) → List (List ℕ)

@@ -75,9 +75,11 @@ loop-less c = search needs
 loop-again : tie.Need-loop-again Inv-loop μ-loop
 loop-again c =
     let turn = c .before .before .before .before .before .before .before .before .loop in
-    let inside = c .before .before .before .before .before .before .before .loop-test .taken in
-    (turn .inv .0, digit-read _ _ _ _ _ _ (turn .inv .1) _ (omega (arith, inside, turn .inv .0)) (c .before .before .before .before .before .if3 .left)
-    (c .before .before .before .before .if4 .left) (c .before .before .before .is-digit2 .ensures) (c .before .before .if5 .left) (c .before .if6 .left) (c .worth2 .ensures .0))
+    let inside = c .before .before .before .before .before .before .before .loop-test .taken in (
+      turn .inv .0,
+      digit-read _ _ _ _ _ _ (turn .inv .1) _ (omega (arith, inside, turn .inv .0)) (c .before .before .before .before .before .if3 .left)
+          (c .before .before .before .before .if4 .left) (c .before .before .before .is-digit2 .ensures) (c .before .before .if5 .left) (c .before .if6 .left) (c .worth2 .ensures .0),
+    )
 
 returns-7 : tie.Need-returns-7 Inv-loop μ-loop
 returns-7 c = search number-steps
