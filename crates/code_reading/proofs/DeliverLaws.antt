@@ -49,7 +49,7 @@ module _ (lines : ℕ) (words kinds : List ℕ) where
       words-found good = rw (le-leb lines 768 few, eq-eqb (length kinds) 64 long, good)
 
   -- not too many, where nothing is refused
-  pub few-lines : refusal ≡ none → lines ≤ 768
+  few-lines : refusal ≡ none → lines ≤ 768
   few-lines e = go (lt-or-ge 768 lines)
     where
       go : (768 < lines) ⊎ (lines ≤ 768) → lines ≤ 768
@@ -60,6 +60,14 @@ module _ (lines : ℕ) (words kinds : List ℕ) where
 pub looked-words : (refused : Option ReadBack) {lines count : ℕ} {answer : Looked} → answer ≡ lookedOf lines refused → answer ≡ Looked.Words count → (refused ≡ none) × (count ≡ lines)
 looked-words none says e = (refl, cc)
 looked-words (some refusal) says e = let clash : _≡_ {A = ℕ} 0 1 = cc in absurd (omega arith)
+
+-- words that are not refused stand in the buffer
+pub found-fits : (lines : ℕ) (words kinds : List ℕ) {count : ℕ} {answer : Looked} → 768 ≤ length words → answer ≡ lookedOf lines (first (wordRefusals lines (take lines words) kinds))
+    → answer ≡ Looked.Words count → (count ≤ 768) × (count ≤ length words)
+found-fits lines words kinds room says e =
+    let told = looked-words (first (wordRefusals lines (take lines words) kinds)) says e in
+    let few = few-lines lines (take lines words) kinds (told .0) in
+    (omega (arith, told .1, few), omega (arith, told .1, few))
 
 pub looked-refused : (refused : Option ReadBack) (lines : ℕ) {refusal : ReadBack} {answer : Looked} → answer ≡ lookedOf lines refused → answer ≡ Looked.Refused refusal → refused ≡ some refusal
 looked-refused none lines says e = let clash : _≡_ {A = ℕ} 0 1 = cc in absurd (omega arith)

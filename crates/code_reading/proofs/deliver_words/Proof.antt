@@ -11,19 +11,15 @@ use Rattle.code_reading.specs.LineAnswers.{lookedOf}
 use Rattle.code_reading.specs.declared.Looked.{Looked}
 use Rattle.code_reading.specs.declared.Looked.the-variants as Looked
 use Rattle.code_reading.specs.declared.answer.ReadBack.{ReadBack}
-use Rattle.code_reading.proofs.DeliverLaws.{few-lines, looked-words, delivers-refusal, delivers-words}
+use Rattle.code_reading.proofs.DeliverLaws.{found-fits, delivers-refusal, delivers-words}
 use Rattle.code_reading.proofs.deliver_words.Statement.{statement}
 use Rattle.code_reading.proofs.deliver_words.Tie as tie
 
 abbrev refused : tie.Start → Option ReadBack
 refused s = first (wordRefusals (s .args .lines) (take (s .args .lines) (s .args .words .now)) (s .args .kinds .now))
 
--- words that are not refused stand in the buffer
-there : (s : tie.Start) (count : ℕ) {answer : Looked} → answer ≡ lookedOf (s .args .lines) (refused s) → answer ≡ Looked.Words count → (count ≤ 768) × (count ≤ length (s .args .words .now))
-there s count says e =
-    let told = looked-words (refused s) says e in
-    let few = few-lines (s .args .lines) (take (s .args .lines) (s .args .words .now)) (s .args .kinds .now) (told .0) in
-    (omega (arith, told .1, few), omega (arith, told .1, few, s .pre))
+fits : (s : tie.Start) {count : ℕ} {answer : Looked} → answer ≡ lookedOf (s .args .lines) (refused s) → answer ≡ Looked.Words count → (count ≤ 768) × (count ≤ length (s .args .words .now))
+fits s says e = found-fits (s .args .lines) (s .args .words .now) (s .args .kinds .now) (s .pre) says e
 
 look-words-requires : tie.Need-look-words-requires
 look-words-requires c κs = search needs
@@ -35,14 +31,14 @@ slice-aggregate-read : tie.Need-slice-aggregate-read
 slice-aggregate-read c =
     let count = c .before .before .looked .given .0 .0 in
     let s = c .before .before .before .before .before .before .before .before in
-    sym (length-take-le count (s .args .words .now) (there s count (c .before .before .before .before .look-words .ensures) (c .before .before .looked .given .1) .1))
+    sym (length-take-le count (s .args .words .now) (fits s (c .before .before .before .before .look-words .ensures) (c .before .before .looked .given .1) .1))
 
 fill-requires : tie.Need-fill-requires
 fill-requires c κs =
     let count = c .before .before .before .looked .given .0 .0 in
     let s = c .before .before .before .before .before .before .before .before .before in
-    let fits = there s count (c .before .before .before .before .before .look-words .ensures) (c .before .before .before .looked .given .1) in
-    omega (arith, fits .0, length-take-le count (s .args .words .now) (fits .1))
+    let found = fits s (c .before .before .before .before .before .look-words .ensures) (c .before .before .before .looked .given .1) in
+    omega (arith, found .0, length-take-le count (s .args .words .now) (found .1))
 
 enum-known-looked-2 : tie.Need-enum-known-looked-2
 enum-known-looked-2 c = search needs
