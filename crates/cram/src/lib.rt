@@ -10,6 +10,7 @@ use lending::compiles;
 use lending::runs;
 use numbers::limits::MOST_CODE_WORDS;
 
+pub mod reading;
 pub mod roles;
 mod round_tables;
 pub mod session;

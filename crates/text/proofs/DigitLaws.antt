@@ -11,12 +11,12 @@ use Rattle.text.specs.Lines.{digit, digits}
 use Rattle.text.specs.Written.{Wrote}
 use Rattle.text.proofs.WrittenLaws.{wrote-nothing, wrote-then}
 
-last-digit : (most n : ℕ) → (most ≡ 0 → ⊥) → n < 10 → digits most n ≡ digit n ∷ []
+pub last-digit : (most n : ℕ) → (most ≡ 0 → ⊥) → n < 10 → digits most n ≡ digit n ∷ []
 unfolding digits
 last-digit zero n h l = absurd (h refl)
 last-digit (suc most) n h l = rw (lt-ltb n 10 l, digits)
 
-more-digits : (most n : ℕ) → (most ≡ 0 → ⊥) → 10 ≤ n → digits most n ≡ digits (most - 1) (n / 10) ++ (digit (n % 10) ∷ [])
+pub more-digits : (most n : ℕ) → (most ≡ 0 → ⊥) → 10 ≤ n → digits most n ≡ digits (most - 1) (n / 10) ++ (digit (n % 10) ∷ [])
 unfolding digits
 more-digits zero n h l = absurd (h refl)
 more-digits (suc most) n h l = let e : suc most - 1 ≡ most = omega arith in rw (e, le-ltb n 10 l, digits)

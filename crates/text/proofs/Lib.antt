@@ -2,3 +2,6 @@
 pub mod DigitLaws
 pub mod WrittenLaws
 pub mod LineLaws
+pub mod ReadLaws
+pub mod ReadLineLaws
+pub mod ReadStepLaws

@@ -1,4 +1,6 @@
-// Decimal numbers on lines, into a lent slice.
+// Decimal numbers on lines, into a lent slice; `reading` has the way back.
+pub mod reading;
+
 ghost use Prim.Native.Nat.{_+_, _≤_};
 ghost use mathlib.Core.List.{[], _∷_};
 ghost use lib.ListN.{length, take};

@@ -1,0 +1,2 @@
+-- Laws of lines read back over bytes.
+pub mod BytesLaws

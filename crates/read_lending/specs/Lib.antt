@@ -1,0 +1,2 @@
+-- Reading code lines back, for C.
+pub mod ReadEntry
