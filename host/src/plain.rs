@@ -1,5 +1,5 @@
-//! The compiler, the machine, roles and their rounds, the bundle and the listing once more in plain Rust, written from
-//! documents 01 and 02 alone.
+//! The compiler, the machine, roles and their rounds, the bundle, the listing and its reader once more in plain Rust,
+//! written from documents 01 and 02 alone.
 //! Tests hold the archive to it, and the benchmark measures the archive against it.
 mod bundle;
 pub mod bytes;
@@ -7,6 +7,7 @@ pub mod code;
 mod compiler;
 mod machine;
 pub mod patterns;
+mod reading;
 mod role;
 mod round;
 mod stores;
@@ -15,9 +16,12 @@ pub mod terms;
 pub use bundle::listing;
 pub use compiler::compile;
 pub use machine::run;
+pub use reading::read_listing;
 pub use role::compile_role;
 pub use round::{round, take};
 
 pub const ENGINE: crate::Engine = crate::Engine { compile, run };
 
 pub const ROLES: crate::roles::RoleEngine = crate::roles::RoleEngine { compile_role, round, take };
+
+pub const READER: crate::reading::Reader = crate::reading::Reader { read_listing };
