@@ -244,6 +244,24 @@ static void role(void)
     expect(memcmp(t.code, round_words, sizeof round_words) == 0, "the words of its round");
 }
 
+/* A listing's code lines, read back. */
+static void reading(void)
+{
+    static const char text[] = "0 2 64 0 0\n1 3 0 0 0\n";
+    static const uint8_t words[8] = {0x12, 0, 0, 0, 0x18, 0, 0, 0};
+    uint8_t kinds[CRAM_VARIABLES] = {0}, code[12];
+    memset(code, 0x5a, sizeof code);
+    struct cram_read r = cram_read_listing((const uint8_t *)text, sizeof text - 2, kinds, sizeof kinds, code, sizeof code);
+    expect(r.number == CRAM_BAD_LINE && r.place == 1, "a last line without its line feed");
+    r = cram_read_listing((const uint8_t *)text, sizeof text - 1, kinds, sizeof kinds - 1, code, sizeof code);
+    expect(r.number == CRAM_LIMIT && r.place == 0, "63 kinds");
+    r = cram_read_listing((const uint8_t *)text, sizeof text - 1, kinds, sizeof kinds, code, 4);
+    expect(r.number == CRAM_SHORT && r.place == 2 && code[0] == 0x5a, "one word lent for two lines");
+    r = cram_read_listing((const uint8_t *)text, sizeof text - 1, kinds, sizeof kinds, code, sizeof code);
+    expect(r.number == CRAM_DONE && r.place == 2, "two lines are read");
+    expect(memcmp(code, words, sizeof words) == 0 && code[8] == 0x5a, "their words, and no other");
+}
+
 int main(void)
 {
     greeting();
@@ -251,6 +269,7 @@ int main(void)
     out_of_names();
     rounds();
     role();
+    reading();
     printf("c: %d passed, %d failed\n", passed, failed);
     return failed != 0;
 }

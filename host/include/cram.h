@@ -5,6 +5,7 @@
  * cram_run runs code over a table of abstract terms.
  * cram_compile_role compiles a whole role, all its patterns in turn; cram_round plays a round of it, which matches a
  * message and creates the answer, on a session record; cram_take takes the answer from the record.
+ * cram_read_listing reads the code lines of a listing back into code.
  *
  * What holds for every call
  *
@@ -17,7 +18,8 @@
  * - Slices given as const are only read. Nothing is kept after the return.
  * - With any answer but 0 every lent byte is as it was before the call.
  * - Stack: cram_compile takes at most CRAM_COMPILE_STACK_BYTES, cram_run CRAM_RUN_STACK_BYTES, cram_compile_role
- *   CRAM_ROLE_STACK_BYTES, and cram_round, also cram_take, CRAM_ROUND_STACK_BYTES, each with all its frames.
+ *   CRAM_ROLE_STACK_BYTES, cram_round, also cram_take, CRAM_ROUND_STACK_BYTES, and cram_read_listing
+ *   CRAM_READ_STACK_BYTES, each with all its frames.
  *
  * Elements; fields are listed from the most significant bit down, unused fields are zero
  *
@@ -108,6 +110,7 @@ extern "C" {
 #define CRAM_RUN_STACK_BYTES 65536u     /* see above */
 #define CRAM_ROLE_STACK_BYTES 24576u    /* see above */
 #define CRAM_ROUND_STACK_BYTES 65536u   /* see above */
+#define CRAM_READ_STACK_BYTES 8192u     /* see above */
 
 /* What a number says, in every call. Compile is a role's too, and run a round's. */
 enum {
@@ -125,7 +128,8 @@ enum {
     CRAM_NO_ROOM = 11,       /* run: a new row is needed and none is unused, or CREATE at counter 65536; place: word */
     CRAM_NO_MESSAGE = 12,    /* round: no message waits; place 0 */
     CRAM_NOT_TAKEN = 13,     /* round: the last answer has not been taken; place 0 */
-    CRAM_ROLE_ENDED = 14     /* round: the role has no round left; place 0 */
+    CRAM_ROLE_ENDED = 14,    /* round: the role has no round left; place 0 */
+    CRAM_BAD_LINE = 15       /* read_listing: no such line, misnumbered, or a number too large; place: line, from 0 */
 };
 
 /* Why a run or a round is stuck. The reason is 0 with every other number. */
@@ -168,6 +172,11 @@ struct cram_rounded {
 struct cram_taken {
     uint32_t number;
     uint32_t answer;
+};
+
+struct cram_read {
+    uint32_t number;
+    uint64_t place; /* a text may have more lines than 32 bits count */
 };
 
 /*
@@ -312,6 +321,26 @@ struct cram_rounded cram_round(uint8_t *session, size_t session_len,
  *   1   the record is not 20 bytes; the answer is then 65535
  */
 struct cram_taken cram_take(uint8_t *session, size_t session_len);
+
+/*
+ * Reads code lines back into code. A line is five decimal numbers without leading zeros, one space between, and a line
+ * feed: the line's own number from 0, operation, A, B, n. Lines that do not begin with a number are no code lines.
+ *
+ *   text      any bytes
+ *   kinds     64 kinds (64 bytes)
+ *   code      any number of words; the first `place` words are written where the number is 0, later ones stay
+ *
+ * Looked at in this order; `place` is 0 unless said otherwise.
+ *   15   a line, the last without its line feed too, that is not such a line, has another number, or a number too large
+ *        for its field, however long: operation above 31, A or B above 255, n above 7; place: the lowest such line
+ *   1    more than CRAM_CODE_WORDS lines, not 64 kinds, or code that is not whole words
+ *   9    a bad code word; place: the lowest such word
+ *   8    code is too short; place: the words needed
+ *   0    place: the words read
+ */
+struct cram_read cram_read_listing(const uint8_t *text, size_t text_len,
+                                   const uint8_t *kinds, size_t kinds_len,
+                                   uint8_t *code, size_t code_len);
 
 #ifdef __cplusplus
 }

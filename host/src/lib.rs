@@ -1,4 +1,4 @@
-//! The archive's C entries for one pattern as safe functions over byte slices (those for roles are in `roles`), and what
+//! The archive's C entries for one pattern as safe functions over byte slices (those for roles are in `roles`, the reader of listings in `reading`), and what
 //! tests and measures them all.
 //! Lengths are in bytes, fields stand high byte first; `include/cram.h` describes every parameter.
 pub mod by_halves;
@@ -15,6 +15,7 @@ pub mod input;
 pub mod limits;
 pub mod measured;
 pub mod plain;
+pub mod reading;
 pub mod roles;
 pub mod stack;
 pub mod worked;

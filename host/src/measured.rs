@@ -8,6 +8,7 @@ use crate::plain;
 use crate::plain::code::{framed, Word, HASHING, STORE_CONST};
 use crate::plain::patterns::Form;
 use crate::plain::terms::{atom, AGENT, BYTE, ENCRYPTION, HASH, NONCE, SHARED, TUPLE};
+use crate::reading::{self, ReadInput};
 use crate::{worked, worked_roles};
 
 /// Compiles by what they are called.
@@ -72,6 +73,13 @@ pub fn rounds() -> Vec<(&'static str, RoundInput)> {
         ("a round of 1,538 words that make new terms", round_of(hash_of_byte(), &[HASHING; ROUND_WORDS - 2])),
         ("a round of 2 words over 4,096 used rows", round_of(agents(TERM_ROWS), &[])),
     ]
+}
+
+/// Readings by what they are called.
+pub fn readings() -> Vec<(&'static str, ReadInput)> {
+    let code: Vec<u8> = (0..CODE_WORDS).flat_map(|at| (2 << 27 | (at as u32 % 256) << 19).to_be_bytes()).collect();
+    let lent = |text| ReadInput { text, kinds: vec![0; NAMED], code: vec![0; 4 * CODE_WORDS] };
+    vec![("read 768 lines back", lent(reading::printed(&code))), ("read no line back", lent(Vec::new()))]
 }
 
 /// Sixteen lets around tuples of one part in each other.

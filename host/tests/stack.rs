@@ -1,4 +1,5 @@
 //! The header's promises on stack, on the inputs that take the most.
+use cram_host::reading::ARCHIVE as READER;
 use cram_host::roles::ARCHIVE as ROLES;
 use cram_host::{measured, stack, ARCHIVE};
 
@@ -43,5 +44,12 @@ fn compile_role() {
 fn round() {
     for (name, mut lent) in measured::rounds() {
         assert_within(promised("CRAM_ROUND_STACK_BYTES"), name, stack::taken_by(|| lent.call(&ROLES)));
+    }
+}
+
+#[test]
+fn read_listing() {
+    for (name, mut lent) in measured::readings() {
+        assert_within(promised("CRAM_READ_STACK_BYTES"), name, stack::taken_by(|| lent.call(&READER)));
     }
 }

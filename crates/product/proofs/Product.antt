@@ -3,6 +3,7 @@ use Rattle.promises.proofs.Promises.{promises}
 use Rattle.product.specs.Product.{Product}
 use Rattle.product.proofs.Functions.{functions}
 use Rattle.product.proofs.RoleFunctions.{role-functions}
+use Rattle.product.proofs.ReadFunctions.{read-functions}
 
 pub product : {M : Type 1} → Product M
-product = record { functions = functions; role-functions = role-functions; promises = promises }
+product = record { functions = functions; role-functions = role-functions; read-functions = read-functions; promises = promises }

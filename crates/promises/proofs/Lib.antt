@@ -35,6 +35,7 @@ pub mod RoleLaws
 pub mod Halves
 pub mod Echo
 pub mod ListingLaws
+pub mod Readings
 pub mod Printed
 pub mod Example
 pub mod StraightCases
@@ -42,4 +43,5 @@ pub mod ForC
 pub mod RoundsForC
 pub mod PartLaws
 pub mod RolesForC
+pub mod ReadingsForC
 pub mod Promises

@@ -22,6 +22,8 @@ use Rattle.promises.proofs.RoundsForC.{rounds-for-c}
 use Rattle.promises.proofs.RolesForC.{roles-for-c}
 use Rattle.promises.proofs.ListingLaws.{listing-table}
 use Rattle.promises.proofs.Printed.{printed}
+use Rattle.promises.proofs.Readings.{reading-table, round-trips}
+use Rattle.promises.proofs.ReadingsForC.{readings-for-c}
 use Rattle.outcomes.proofs.Listed.{listing-short, cut}
 use Rattle.outcomes.proofs.Listed as Listed
 
@@ -47,6 +49,9 @@ promises = record {
   listings = listing-table;
   program = record { fits = listing-short; cut = cut; printed = λ bytes wrote long. Listed.printed bytes wrote long };
   printed = printed;
+  readings = reading-table;
+  round-trips = round-trips;
+  readings-for-c = readings-for-c;
   looks = record { looks = looks-emitted };
   meanings = meanings;
   cases = worked .0;

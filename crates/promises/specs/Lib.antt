@@ -18,9 +18,11 @@ pub mod Halves
 pub mod Roles
 pub mod Echo
 pub mod Listing
+pub mod Readings
 pub mod Example
 pub mod StraightCases
 pub mod ForC
 pub mod RoundsForC
 pub mod RolesForC
+pub mod ReadingsForC
 pub mod Promises

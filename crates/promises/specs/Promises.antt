@@ -1,4 +1,4 @@
--- All that is promised of compile, run, the engine straight from the pattern, a round, the bundle and the listing. That the functions give it is the crate `product`.
+-- All that is promised of compile, run, the engine straight from the pattern, a round, the bundle, the listing and its reader. That the functions give it is the crate `product`.
 use Prim.Native.Nat.{ℕ}
 use mathlib.Core.List.{List}
 use Rattle.calls.specs.Cases.{Cases}
@@ -27,6 +27,8 @@ use Rattle.promises.specs.Echo.{Echo}
 use Rattle.promises.specs.RoundsForC.{RoundsForC}
 use Rattle.promises.specs.RolesForC.{RolesForC}
 use Rattle.promises.specs.Listing.{ListingTable, Printed, Program}
+use Rattle.promises.specs.Readings.{LentText, ReadingTable, RoundTrips}
+use Rattle.promises.specs.ReadingsForC.{ReadingsForC}
 
 pub record Promises : Type 0 where
   -- every number exactly where its condition holds, and nothing changed by a refusal
@@ -65,6 +67,12 @@ pub record Promises : Type 0 where
   pub program : Program
   -- and what it prints of P1
   pub printed : Printed
+  -- every number of reading code lines back exactly where its condition holds, and nothing written with any answer but 0
+  pub readings : (text kinds code : List ℕ) → LentText text → ReadingTable text kinds code
+  -- what is printed is read, and what is read prints the same
+  pub round-trips : RoundTrips
+  -- the same over bytes
+  pub readings-for-c : (text kinds code : List ℕ) → LentText text → ReadingsForC text kinds code
   -- the order of 6 and 7, a line a form
   pub looks : Looks
   -- what a row means, and what a pattern's rows are

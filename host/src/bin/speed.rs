@@ -1,4 +1,5 @@
 //! Times the archive against the second implementation, in one run, and measures the archive's stack.
+use cram_host::reading::ARCHIVE as READER;
 use cram_host::roles::ARCHIVE as ROLES;
 use cram_host::{measured, plain, stack, ARCHIVE};
 
@@ -44,6 +45,10 @@ fn main() {
     for (name, lent) in measured::rounds() {
         print(name, medians(&lent, engines, |lent, engine| lent.call(engine).place));
     }
+    let engines = [&READER, &plain::READER];
+    for (name, lent) in measured::readings() {
+        print(name, medians(&lent, engines, |lent, engine| lent.call(engine).place as u32));
+    }
     println!("\nThe check of a table; plain Rust searches for each row, and then has an index of hashes.");
     println!("{:<45}{:>12}{:>12}{:>12}{:>8}", "used rows", "archive", "plain Rust", "hashed", "ratio");
     for (used, lent) in measured::checks() {
@@ -63,6 +68,9 @@ fn main() {
     }
     for (name, mut lent) in measured::rounds() {
         println!("{:<45}{:>12}", name, stack::taken_by(|| lent.call(&ROLES)));
+    }
+    for (name, mut lent) in measured::readings() {
+        println!("{:<45}{:>12}", name, stack::taken_by(|| lent.call(&READER)));
     }
 }
 
