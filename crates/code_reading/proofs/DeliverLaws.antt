@@ -13,7 +13,7 @@ use Rattle.numbers.specs.Kinds.{kindIn}
 use Rattle.answers.specs.First.{first}
 use Rattle.code.specs.Words.{badWord}
 use Rattle.text.specs.Readers.{textLines}
-use Rattle.code_reading.specs.Reading.{badLine, readWords, ReadOutcome, keeps, readInto, wordRefusals, comesTo, readCode}
+use Rattle.code_reading.specs.Reading.{badLine, readWords, ReadOutcome, readLeaves, readInto, wordRefusals, comesTo, readCode}
 use Rattle.code_reading.specs.LineAnswers.{linesRead, lookedOf}
 use Rattle.code_reading.specs.declared.Looked.{Looked}
 use Rattle.code_reading.specs.declared.Looked.the-variants as Looked
@@ -75,15 +75,15 @@ looked-refused (some refusal) lines says e = cc
 
 -- 8, and words that fit
 module _ (words code : List ℕ) where
-  pub fill-short : length code < length words → keeps (CodeTooShort (length words)) code ≡ readInto words code
+  pub fill-short : length code < length words → readLeaves (CodeTooShort (length words)) code ≡ readInto words code
   fill-short less = rw (lt-leb (length words) (length code) less)
 
-  pub fill-fits : {after : List ℕ} → length words ≤ length code → after ≡ words ++ drop (length words) code → keeps (Done (length words)) after ≡ readInto words code
+  pub fill-fits : {after : List ℕ} → length words ≤ length code → after ≡ words ++ drop (length words) code → readLeaves (Done (length words)) after ≡ readInto words code
   fill-fits most same = rw (le-leb (length words) (length code) most, same)
 
 -- and both together
 module _ (refused : Option ReadBack) (lines : ℕ) (words code : List ℕ) {answer : Looked} (says : answer ≡ lookedOf lines refused) where
-  pub delivers-refusal : {refusal : ReadBack} → answer ≡ Looked.Refused refusal → keeps refusal code ≡ comesTo refused (take lines words) code
+  pub delivers-refusal : {refusal : ReadBack} → answer ≡ Looked.Refused refusal → readLeaves refusal code ≡ comesTo refused (take lines words) code
   delivers-refusal e = rw (looked-refused refused lines says e)
 
   pub delivers-words : {count : ℕ} {out : ReadOutcome} → answer ≡ Looked.Words count → out ≡ readInto (take count words) code → out ≡ comesTo refused (take lines words) code
@@ -93,7 +93,7 @@ module _ (refused : Option ReadBack) (lines : ℕ) (words code : List ℕ) {answ
 
 module _ (text kinds code : List ℕ) where
   pub bad-line-read : {line : ℕ} {answer : LinesRead} → answer ≡ linesRead (badLine text) (length (textLines text)) → answer ≡ LinesRead.Bad line
-      → keeps (BadLine line) code ≡ readCode text kinds code
+      → readLeaves (BadLine line) code ≡ readCode text kinds code
   unfolding readCode first
   bad-line-read says e = rw (one-bad (badLine text) (length (textLines text)) says e)
 

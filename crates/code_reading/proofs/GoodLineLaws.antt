@@ -11,7 +11,7 @@ use lib.Dec.{eqb, ltb}
 use Rattle.word.specs.Fields.{join}
 use Rattle.answers.specs.First.{when}
 use Rattle.text.specs.Lines.{digit, digits, decimal, spaced, line}
-use Rattle.text.specs.Readers.{Front, front, readLine}
+use Rattle.text.specs.Readers.{TextFront, front, readLine}
 use Rattle.text.proofs.ReadLineLaws.{Within, Short, line-printed, line-read}
 use Rattle.code.specs.Instruction.{wordWidths}
 use Rattle.code_reading.specs.Reading.{lineLimits, numberedWord, wordBy, readWord, alone, lineWord}
@@ -31,12 +31,12 @@ word-printed place f rest below =
     )
 
 -- what is read was printed
-pub record Parsed (place : ℕ) (text : List ℕ) (read : Front ℕ) : Type 0 where
+pub record Parsed (place : ℕ) (text : List ℕ) (read : TextFront ℕ) : Type 0 where
   pub fields : CodeFields
   pub bytes : text ≡ fieldsLine place fields ++ read .rest
   pub word : read .value ≡ fieldsWord fields
 
-module _ (place : ℕ) (text : List ℕ) {read : Front ℕ} where
+module _ (place : ℕ) (text : List ℕ) {read : TextFront ℕ} where
   five : (numbers rest : List ℕ) → text ≡ line numbers ++ rest → Within numbers (lineLimits place) → numberedWord place numbers rest ≡ some read → Parsed place text read
   five [] rest bytes within e = absurd within
   five (x ∷ []) rest bytes within e = absurd (within .1)
@@ -73,7 +73,7 @@ module _ (place : ℕ) (text : List ℕ) {read : Front ℕ} where
   unfolding readWord
   word-read below e = go (readLine (lineLimits place) text) refl e
     where
-      go : (line : Option (Front (List ℕ))) → readLine (lineLimits place) text ≡ line → wordBy place line ≡ some read → Parsed place text read
+      go : (line : Option (TextFront (List ℕ))) → readLine (lineLimits place) text ≡ line → wordBy place line ≡ some read → Parsed place text read
       go none is e = let clash : _≡_ {A = ℕ} 0 1 = cc in absurd (omega arith)
       go (some line) is e = let told = line-read (lineLimits place) text (short place below) is in five (line .value) (line .rest) (told .bytes) (told .within) e
 
@@ -82,7 +82,7 @@ pub fields-word : (place : ℕ) (f : CodeFields) → place < 10 ^ 20 → lineWor
 unfolding lineWord
 fields-word place f below = let e : readWord place (fieldsLine place f) ≡ some (front (fieldsWord f) []) = rw append-nil at (word-printed place f [] below) in rw e
 
-read-alone : (read : Option (Front ℕ)) {word : ℕ} → alone read ≡ some word → read ≡ some (front word [])
+read-alone : (read : Option (TextFront ℕ)) {word : ℕ} → alone read ≡ some word → read ≡ some (front word [])
 read-alone none e = let clash : _≡_ {A = ℕ} 0 1 = cc in absurd (omega arith)
 read-alone (some read) {word} e = go (read .rest) refl e
   where

@@ -17,7 +17,7 @@ use Rattle.code.specs.Words.{badWord}
 use Rattle.text.specs.Readers.{inFront, textLines}
 use Rattle.text.specs.Lines.{lineFeed}
 use Rattle.code_reading.specs.ReadBackNumbers.{readBackNumber, readBackPlace}
-use Rattle.code_reading.specs.Reading.{lineWord, noWord, badLine, readWords, ReadOutcome, keeps, comesTo, readCode}
+use Rattle.code_reading.specs.Reading.{lineWord, noWord, badLine, readWords, ReadOutcome, readLeaves, comesTo, readCode}
 use Rattle.code_reading.specs.GoodLines.{GoodLine, LowestBadLine, AllGoodLines}
 use Rattle.code_reading.specs.declared.answer.ReadBack.{ReadBack}
 use Rattle.code_reading.specs.declared.answer.ReadBack.the-variants.{Done, BadLine, Limit, BadWord, CodeTooShort}
@@ -97,11 +97,11 @@ module _ (text kinds code : List ℕ) where
       Gives (o .answer) × (readBackNumber (o .answer) ≢ 0 → o .code ≡ code)
       × (readBackNumber (o .answer) ≡ 0 → o .code ≡ words ++ drop (length words) code)
 
-  refused : (answer : ReadBack) → readBackNumber answer ≢ 0 → Gives answer → Leaves (keeps answer code)
+  refused : (answer : ReadBack) → readBackNumber answer ≢ 0 → Gives answer → Leaves (readLeaves answer code)
   refused answer nonzero gives = (gives, λ _. refl, λ e. absurd (nonzero e))
 
   by-room : Passed → (room : Bool) → leb (length words) (length code) ≡ room
-      → Leaves (cond room (keeps (Done (length words)) (words ++ drop (length words) code)) (keeps (CodeTooShort (length words)) code))
+      → Leaves (cond room (readLeaves (Done (length words)) (words ++ drop (length words) code)) (readLeaves (CodeTooShort (length words)) code))
   by-room passed true e = ((passed, refl, leb-true (length words) (length code) e), λ n. absurd (n refl), λ _. refl)
   by-room passed false e = refused (CodeTooShort (length words)) (λ z. omega arith) (passed, refl, leb-false (length words) (length code) e)
 

@@ -7,7 +7,7 @@ use native.Mathlib.Omega.{arith}
 use borrow.Author.Tests.{eq-eqb, ne-eqb}
 use lib.ListN.{length, drop}
 use Rattle.word.specs.Fields.{join}
-use Rattle.text.specs.Readers.{Front, front, readLine}
+use Rattle.text.specs.Readers.{TextFront, front, readLine}
 use Rattle.text.specs.ReadAnswers.{numbersOf, ReadsLine}
 use Rattle.text.specs.declared.reading.Numbers.{Numbers}
 use Rattle.text.specs.declared.reading.LineRead.{LineRead}
@@ -20,7 +20,7 @@ use Rattle.code_reading.specs.declared.lines.WordRead.{WordRead}
 use Rattle.code_reading.specs.declared.lines.WordRead.the-variants as WordRead
 
 -- what a line's answer says
-module _ {text : List ℕ} {read : Option (Front (List ℕ))} {answer : LineRead} (reads : ReadsLine text read answer) where
+module _ {text : List ℕ} {read : Option (TextFront (List ℕ))} {answer : LineRead} (reads : ReadsLine text read answer) where
   pub line-is : {numbers : Numbers} {next : ℕ} → answer ≡ LineRead.Is numbers next → read ≡ some (front (numbersOf numbers) (drop next text))
   line-is e = rw e at (sym (reads .says))
 
@@ -49,5 +49,5 @@ module _ (line : ℕ) (behind : List ℕ) where
     unfolding readWord
     own-number own is = rw (e, eq-eqb (numbers .0) line own, is)
 
-pub word-here : (text : List ℕ) (read : Option (Front ℕ)) (word next : ℕ) → read ≡ some (front word (drop next text)) → next ≤ length text → ReadsWord text read (WordRead.Is word next)
+pub word-here : (text : List ℕ) (read : Option (TextFront ℕ)) (word next : ℕ) → read ≡ some (front word (drop next text)) → next ≤ length text → ReadsWord text read (WordRead.Is word next)
 word-here text read word next e inside = record { says = sym e; inside = inside }

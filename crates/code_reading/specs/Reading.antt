@@ -10,7 +10,7 @@ use Rattle.word.specs.Lowest.{lowest}
 use Rattle.numbers.specs.Kinds.{kindIn}
 use Rattle.numbers.specs.Limits.{variables, mostCodeWords}
 use Rattle.answers.specs.First.{when, first}
-use Rattle.text.specs.Readers.{Front, front, readLine, textLines}
+use Rattle.text.specs.Readers.{TextFront, front, readLine, textLines}
 use Rattle.code.specs.Instruction.{wordWidths}
 use Rattle.code.specs.Words.{badWord}
 use Rattle.code_reading.specs.declared.answer.ReadBack.{ReadBack}
@@ -21,20 +21,20 @@ abbrev pub lineLimits : ℕ → List ℕ
 lineLimits place = place ∷ map (λ width. 2 ^ width - 1) (take 4 wordWidths)
 
 -- the word of a line's numbers, if the first is the line's own; the low bits, which no line shows, are zero
-abbrev pub numberedWord : ℕ → List ℕ → List ℕ → Option (Front ℕ)
+abbrev pub numberedWord : ℕ → List ℕ → List ℕ → Option (TextFront ℕ)
 numberedWord place [] rest = none
 numberedWord place (number ∷ fields) rest = when (eqb number place) (front (join wordWidths (fields ++ (0 ∷ []))) rest)
 
-abbrev pub wordBy : ℕ → Option (Front (List ℕ)) → Option (Front ℕ)
+abbrev pub wordBy : ℕ → Option (TextFront (List ℕ)) → Option (TextFront ℕ)
 wordBy place none = none
 wordBy place (some read) = numberedWord place (read .value) (read .rest)
 
 -- the word of the code line in front of a text
-unfoldable pub readWord : ℕ → List ℕ → Option (Front ℕ)
+unfoldable pub readWord : ℕ → List ℕ → Option (TextFront ℕ)
 readWord place text = wordBy place (readLine (lineLimits place) text)
 
 -- with nothing behind it
-abbrev pub alone : Option (Front ℕ) → Option ℕ
+abbrev pub alone : Option (TextFront ℕ) → Option ℕ
 alone none = none
 alone (some read) = elim (read .rest) [ [] ↦ some (read .value) | byte ∷ rest ↦ none ]
 
@@ -67,15 +67,15 @@ pub record ReadOutcome : Type 0 where
   pub answer : ReadBack
   pub code : List ℕ
 
-abbrev pub keeps : ReadBack → List ℕ → ReadOutcome
-keeps answer code = record { answer = answer; code = code }
+abbrev pub readLeaves : ReadBack → List ℕ → ReadOutcome
+readLeaves answer code = record { answer = answer; code = code }
 
 -- 8 where the words do not fit; words behind the read ones stay
 abbrev pub readInto : List ℕ → List ℕ → ReadOutcome
 readInto words code =
     cond (leb (length words) (length code))
-    (keeps (Done (length words)) (words ++ drop (length words) code))
-    (keeps (CodeTooShort (length words)) code)
+    (readLeaves (Done (length words)) (words ++ drop (length words) code))
+    (readLeaves (CodeTooShort (length words)) code)
 
 -- 1 and 9 of so many good lines and their words
 abbrev pub wordRefusals : ℕ → List ℕ → List ℕ → List (Option ReadBack)
@@ -85,7 +85,7 @@ wordRefusals lines words kinds =
     ∷ []
 
 abbrev pub comesTo : Option ReadBack → List ℕ → List ℕ → ReadOutcome
-comesTo (some answer) words code = keeps answer code
+comesTo (some answer) words code = readLeaves answer code
 comesTo none words code = readInto words code
 
 module _ (text kinds : List ℕ) where

@@ -27,7 +27,7 @@ use Rattle.text.specs.Readers.{textLines}
 use Rattle.text.proofs.ReadLineLaws.{joined, lines-joined, line-first, no-lines}
 use Rattle.printing.specs.Listing.{codeLines}
 use Rattle.code_reading.specs.ReadBackNumbers.{readBackNumber, readBackPlace}
-use Rattle.code_reading.specs.Reading.{lineWord, noWord, badLine, addWord, lineWords, readWords, keeps, readCode}
+use Rattle.code_reading.specs.Reading.{lineWord, noWord, badLine, addWord, lineWords, readWords, readLeaves, readCode}
 use Rattle.code_reading.specs.GoodLines.{CodeFields, fieldsLine, fieldsWord, GoodLine, AllGoodLines}
 use Rattle.code_reading.specs.declared.answer.ReadBack.the-variants.{Done}
 use Rattle.code_reading.proofs.GoodLineLaws.{fields-word, line-says}
@@ -164,7 +164,7 @@ owns kind [] small good = tt
 owns kind (word ∷ rest) small good = (own-word kind word (small .0) (good 0 (omega arith)), owns kind rest (small .1) λ i l. good (suc i) (omega arith))
 
 printed-is-read : (code kinds slice : List ℕ) → All (λ word. word < 2 ^ 32) code → length code ≤ 768 → length kinds ≡ 64 → AllGoodWords (kindIn kinds) code → length code ≤ length slice
-    → readCode (codeLines 0 code) kinds slice ≡ keeps (Done (length code)) (code ++ drop (length code) slice)
+    → readCode (codeLines 0 code) kinds slice ≡ readLeaves (Done (length code)) (code ++ drop (length code) slice)
 unfolding readCode first badLine
 printed-is-read code kinds slice small few long good room =
     let back = reads-back 0 code (omega arith) (owns (kindIn kinds) code small good) in

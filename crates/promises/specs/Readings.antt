@@ -11,7 +11,7 @@ use Rattle.code.specs.GoodWords.{LowestBadWord, AllGoodWords}
 use Rattle.text.specs.Readers.{textLines}
 use Rattle.printing.specs.Listing.{codeLines}
 use Rattle.code_reading.specs.ReadBackNumbers.{readBackNumber, readBackPlace}
-use Rattle.code_reading.specs.Reading.{readWords, ReadOutcome, keeps, readCode}
+use Rattle.code_reading.specs.Reading.{readWords, ReadOutcome, readLeaves, readCode}
 use Rattle.code_reading.specs.GoodLines.{fieldsWord, GoodLine, LowestBadLine, AllGoodLines}
 use Rattle.code_reading.specs.declared.answer.ReadBack.the-variants.{Done}
 
@@ -53,7 +53,7 @@ pub record RoundTrips : Type 0 where
   -- what the listing prints of code that run accepts is read back to the same words
   pub printed-is-read : (code kinds slice : List ℕ) → All (λ word. word < 2 ^ 32) code → length code ≤ mostCodeWords → length kinds ≡ variables
       → AllGoodWords (kindIn kinds) code → length code ≤ length slice
-      → readCode (codeLines 0 code) kinds slice ≡ keeps (Done (length code)) (code ++ drop (length code) slice)
+      → readCode (codeLines 0 code) kinds slice ≡ readLeaves (Done (length code)) (code ++ drop (length code) slice)
   -- what is read without a refusal prints as the same bytes
   pub read-is-printed : (text kinds slice : List ℕ) → LentText text → readBackNumber (readCode text kinds slice .answer) ≡ 0
       → codeLines 0 (take (readBackPlace (readCode text kinds slice .answer)) (readCode text kinds slice .code)) ≡ text

@@ -12,7 +12,7 @@ use Rattle.theory.specs.Outcome.{Outcome, done, stuck, room}
 use Rattle.theory.specs.RowModel.{rowWorld}
 use Rattle.theory.specs.Machine.{State, exec}
 use Rattle.theory.proofs.InTurn.{from-done}
-use Rattle.calls.specs.Run.{linesFrom, linesOf, stateOf, leftBy}
+use Rattle.calls.specs.Run.{linesFrom, stateOf, leftBy}
 use Rattle.calls.specs.Frame.{middle}
 use Rattle.calls.specs.Round.{RoundLent, RoundOutcome, received, answered, sentBy, roundEnded, roundRefusals, roundBy, round}
 use Rattle.calls.proofs.FrameLaws.{later-steps}

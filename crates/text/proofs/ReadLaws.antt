@@ -10,7 +10,7 @@ use borrow.Author.Tests.{le-leb, ne-eqb, eq-eqb, leb-true, eqb-true, eqb-false}
 use lib.Dec.{leb, eqb}
 use Rattle.word.proofs.ScanLaws.{lt-or-ge}
 use Rattle.text.specs.Lines.{digit, digits, decimal}
-use Rattle.text.specs.Readers.{Front, front, isDigit, digitsOn, readNumber}
+use Rattle.text.specs.Readers.{TextFront, front, isDigit, digitsOn, readNumber}
 use Rattle.text.proofs.DigitLaws.{last-digit, more-digits}
 
 -- ---- a digit
@@ -85,13 +85,13 @@ digit-more value d nonzero small below =
     more-digits 20 (value * 10 + d) (λ e. omega arith) (omega arith) ∙ rw (high, low) (ap (λ (front : List ℕ). front ++ (digit d ∷ [])) (sym (enough 18 value (omega arith))))
 
 -- the text that was read in front: a number, then the byte that ends it
-pub record Spelled (most end least : ℕ) (text : List ℕ) (number : Front ℕ) : Type 0 where
+pub record Spelled (most end least : ℕ) (text : List ℕ) (number : TextFront ℕ) : Type 0 where
   pub bytes : text ≡ decimal (number .value) ++ (end ∷ number .rest)
   pub fits : number .value ≤ most
   pub reaches : least ≤ number .value
 
 module _ (most end : ℕ) (below : most < 10 ^ 20) where
-  digits-went-on : (rest : List ℕ) (value : ℕ) {number : Front ℕ} → digitsOn most end value rest ≡ some number → Spelled most end value (decimal value ++ rest) number
+  digits-went-on : (rest : List ℕ) (value : ℕ) {number : TextFront ℕ} → digitsOn most end value rest ≡ some number → Spelled most end value (decimal value ++ rest) number
   unfolding digitsOn
   digits-went-on [] value e = let clash : _≡_ {A = ℕ} 0 1 = cc in absurd (omega arith)
   digits-went-on (byte ∷ rest) value {number} e =
@@ -99,7 +99,7 @@ module _ (most end : ℕ) (below : most < 10 ^ 20) where
     where
       go : (fits ended goes none-left : Bool) → leb value most ≡ fits → eqb byte end ≡ ended → isDigit byte ≡ goes → eqb value 0 ≡ none-left
           → (digitsOn most end (value * 10 + (byte - 48)) rest ≡ some number → Spelled most end (value * 10 + (byte - 48)) (decimal (value * 10 + (byte - 48)) ++ rest) number)
-          → elim fits as (λ _. Option (Front ℕ)) [
+          → elim fits as (λ _. Option (TextFront ℕ)) [
             | true ↦ elim ended [
               | true ↦ some (front value rest)
               | false ↦ elim (goes && not none-left) [ true ↦ digitsOn most end (value * 10 + (byte - 48)) rest | false ↦ none ]
@@ -122,12 +122,12 @@ module _ (most end : ℕ) (below : most < 10 ^ 20) where
       go true false false none-left fits ended is zeroes more e = let clash : _≡_ {A = ℕ} 0 1 = cc in absurd (omega arith)
       go false ended goes none-left fits e is zeroes more f = let clash : _≡_ {A = ℕ} 0 1 = cc in absurd (omega arith)
 
-  pub number-read : (text : List ℕ) {number : Front ℕ} → readNumber most end text ≡ some number → Spelled most end 0 text number
+  pub number-read : (text : List ℕ) {number : TextFront ℕ} → readNumber most end text ≡ some number → Spelled most end 0 text number
   unfolding readNumber decimal
   number-read [] e = let clash : _≡_ {A = ℕ} 0 1 = cc in absurd (omega arith)
   number-read (byte ∷ rest) {number} e = go (isDigit byte) refl e
     where
-      go : (is : Bool) → isDigit byte ≡ is → elim is as (λ _. Option (Front ℕ)) [ true ↦ digitsOn most end (byte - 48) rest | false ↦ none ] ≡ some number → Spelled most end 0 (byte ∷ rest) number
+      go : (is : Bool) → isDigit byte ≡ is → elim is as (λ _. Option (TextFront ℕ)) [ true ↦ digitsOn most end (byte - 48) rest | false ↦ none ] ≡ some number → Spelled most end 0 (byte ∷ rest) number
       go true is e =
           let bounds = digit-bounds byte is in
           let told = digits-went-on rest (byte - 48) e in

@@ -9,7 +9,7 @@ use borrow.Author.Tests.{ne-eqb}
 use lib.Dec.{eqb, ltb}
 use Rattle.word.proofs.All.{All, all-append}
 use Rattle.text.specs.Lines.{space, lineFeed, digit, digits, decimal, spaced, line}
-use Rattle.text.specs.Readers.{Front, front, readNumber, numberThen, readLine, inFront, textLines}
+use Rattle.text.specs.Readers.{TextFront, front, readNumber, numberThen, readLine, inFront, textLines}
 use Rattle.text.proofs.ReadLaws.{number-printed, number-read, Spelled}
 
 -- numbers that are at most their limits, as many as there are; and limits of few enough digits
@@ -47,21 +47,21 @@ line-printed most n (next ∷ more) (m ∷ numbers) rest short within =
     )
 
 -- what is read was printed
-pub record Printed (limits text : List ℕ) (read : Front (List ℕ)) : Type 0 where
+pub record Printed (limits text : List ℕ) (read : TextFront (List ℕ)) : Type 0 where
   pub bytes : text ≡ line (read .value) ++ read .rest
   pub within : Within (read .value) limits
 
-then-read : (first : Option (Front ℕ)) (others : List ℕ → Option (Front (List ℕ))) {read : Front (List ℕ)} → numberThen first others ≡ some read
-    → (number : Front ℕ) × (first ≡ some number) × ((line : Front (List ℕ)) × (others (number .rest) ≡ some line) × (read ≡ front (number .value ∷ line .value) (line .rest)))
+then-read : (first : Option (TextFront ℕ)) (others : List ℕ → Option (TextFront (List ℕ))) {read : TextFront (List ℕ)} → numberThen first others ≡ some read
+    → (number : TextFront ℕ) × (first ≡ some number) × ((line : TextFront (List ℕ)) × (others (number .rest) ≡ some line) × (read ≡ front (number .value ∷ line .value) (line .rest)))
 then-read none others e = let clash : _≡_ {A = ℕ} 0 1 = cc in absurd (omega arith)
 then-read (some number) others {read} e = go (others (number .rest)) refl e
   where
-    go : (line : Option (Front (List ℕ))) → others (number .rest) ≡ line → Option·map (λ line. front (number .value ∷ line .value) (line .rest)) line ≡ some read
-        → (first : Front ℕ) × (some number ≡ some first) × ((line : Front (List ℕ)) × (others (first .rest) ≡ some line) × (read ≡ front (first .value ∷ line .value) (line .rest)))
+    go : (line : Option (TextFront (List ℕ))) → others (number .rest) ≡ line → Option·map (λ line. front (number .value ∷ line .value) (line .rest)) line ≡ some read
+        → (first : TextFront ℕ) × (some number ≡ some first) × ((line : TextFront (List ℕ)) × (others (first .rest) ≡ some line) × (read ≡ front (first .value ∷ line .value) (line .rest)))
     go none is e = let clash : _≡_ {A = ℕ} 0 1 = cc in absurd (omega arith)
     go (some line) is e = (number, refl, (line, is, cc))
 
-pub line-read : (limits text : List ℕ) {read : Front (List ℕ)} → Short limits → readLine limits text ≡ some read → Printed limits text read
+pub line-read : (limits text : List ℕ) {read : TextFront (List ℕ)} → Short limits → readLine limits text ≡ some read → Printed limits text read
 unfolding readLine
 line-read [] text short e = let clash : _≡_ {A = ℕ} 0 1 = cc in absurd (omega arith)
 line-read (most ∷ []) text {read} short e =
@@ -77,7 +77,7 @@ line-read (most ∷ next ∷ more) text {read} short e =
     let behind = line-read (next ∷ more) (parts .0 .rest) (short .1) (parts .2 .1) in
     rw (parts .2 .2) (go (parts .0) (parts .2 .0 .value) (parts .2 .0 .rest) told (behind .bytes) (behind .within))
   where
-    go : (number : Front ℕ) (numbers rest : List ℕ) → Spelled most space 0 text number → number .rest ≡ line numbers ++ rest → Within numbers (next ∷ more)
+    go : (number : TextFront ℕ) (numbers rest : List ℕ) → Spelled most space 0 text number → number .rest ≡ line numbers ++ rest → Within numbers (next ∷ more)
         → Printed (most ∷ next ∷ more) text (front (number .value ∷ numbers) rest)
     go number [] rest told bytes within = absurd within
     go number (m ∷ numbers) rest told bytes within = record {

@@ -10,7 +10,7 @@ use borrow.Author.Tests.{le-leb, lt-leb, eq-eqb, ne-eqb, not-true, not-false}
 use lib.ListN.{length, getD, drop, drop-of-length-le}
 use lib.Seq.{drop-cons}
 use Rattle.text.specs.Lines.{space, lineFeed}
-use Rattle.text.specs.Readers.{Front, front, isDigit, digitsOn, readNumber, readLine}
+use Rattle.text.specs.Readers.{TextFront, front, isDigit, digitsOn, readNumber, readLine}
 use Rattle.text.specs.ReadAnswers.{numbersOf, ReadsNumber, ReadsLine}
 use Rattle.text.proofs.ReadLaws.{digit-bounds}
 use Rattle.text.specs.declared.reading.NumberRead.{NumberRead}
@@ -19,7 +19,7 @@ use Rattle.text.specs.declared.reading.LineRead.{LineRead}
 use Rattle.text.specs.declared.reading.LineRead.the-variants as LineRead
 use Rattle.text.specs.declared.reading.Numbers.{Numbers}
 
-none-read : (text : List ℕ) {read : Option (Front ℕ)} → read ≡ none → ReadsNumber text read NumberRead.Not
+none-read : (text : List ℕ) {read : Option (TextFront ℕ)} → read ≡ none → ReadsNumber text read NumberRead.Not
 none-read text e = record { says = sym e; inside = omega arith }
 
 module _ {is : Bool} (byte : ℕ) (says : is ≡ isDigit byte) where
@@ -100,7 +100,7 @@ module _ (most end at : ℕ) (text : List ℕ) where
 pub ruleset number-steps = (no-bytes, no-digit, one-digit, number-unended, too-large, number-ended, other-byte, leading-zero, digit-read, arith)
 
 -- what a number's answer says
-module _ {text : List ℕ} {read : Option (Front ℕ)} {answer : NumberRead} (reads : ReadsNumber text read answer) where
+module _ {text : List ℕ} {read : Option (TextFront ℕ)} {answer : NumberRead} (reads : ReadsNumber text read answer) where
   pub is-read : {value next : ℕ} → answer ≡ NumberRead.Is value next → read ≡ some (front value (drop next text))
   is-read e = rw e at (sym (reads .says))
 

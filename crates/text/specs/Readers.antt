@@ -7,18 +7,18 @@ use lib.Dec.{eqb, leb}
 use Rattle.text.specs.Lines.{space, lineFeed, digit}
 
 -- what stands in front of a text, and the text behind it
-pub record Front (A : Type 0) : Type 0 where
+pub record TextFront (A : Type 0) : Type 0 where
   pub value : A
   pub rest : List ℕ
 
-abbrev pub front : {A : Type 0} → A → List ℕ → Front A
+abbrev pub front : {A : Type 0} → A → List ℕ → TextFront A
 front value rest = record { value = value; rest = rest }
 
 abbrev pub isDigit : ℕ → Bool
 isDigit byte = leb (digit 0) byte && leb byte (digit 9)
 
 -- a number goes on, digit after digit, up to the byte that ends it. No digit follows a leading zero, and a number that is too large is none
-unfoldable pub digitsOn : (most end value : ℕ) → List ℕ → Option (Front ℕ)
+unfoldable pub digitsOn : (most end value : ℕ) → List ℕ → Option (TextFront ℕ)
 digitsOn most end value [] = none
 digitsOn most end value (byte ∷ rest) =
     elim (leb value most) [
@@ -30,17 +30,17 @@ digitsOn most end value (byte ∷ rest) =
     ]
 
 -- a number that is at most so large, and the byte that ends it
-unfoldable pub readNumber : (most end : ℕ) → List ℕ → Option (Front ℕ)
+unfoldable pub readNumber : (most end : ℕ) → List ℕ → Option (TextFront ℕ)
 readNumber most end [] = none
 readNumber most end (byte ∷ rest) = elim (isDigit byte) [ true ↦ digitsOn most end (byte - digit 0) rest | false ↦ none ]
 
 -- a number, and then others
-abbrev pub numberThen : Option (Front ℕ) → (List ℕ → Option (Front (List ℕ))) → Option (Front (List ℕ))
+abbrev pub numberThen : Option (TextFront ℕ) → (List ℕ → Option (TextFront (List ℕ))) → Option (TextFront (List ℕ))
 numberThen none others = none
 numberThen (some number) others = Option·map (λ line. front (number .value ∷ line .value) (line .rest)) (others (number .rest))
 
 -- a line of as many numbers as there are limits: one space between, a line feed behind the last
-unfoldable pub readLine : List ℕ → List ℕ → Option (Front (List ℕ))
+unfoldable pub readLine : List ℕ → List ℕ → Option (TextFront (List ℕ))
 readLine [] text = none
 readLine (most ∷ []) text = numberThen (readNumber most lineFeed text) (λ rest. some (front [] rest))
 readLine (most ∷ next ∷ more) text = numberThen (readNumber most space text) (readLine (next ∷ more))

@@ -10,12 +10,12 @@ use Rattle.answers.specs.Numbers.{reasonNumber}
 use Rattle.answers.specs.declared.Reason.{Reason}
 use Rattle.answers.specs.declared.Reason.the-variants.{Unset}
 use Rattle.answers.proofs.NumberLaws.{reason-known}
-use Rattle.theory.specs.Outcome.{Outcome, done, bind, at, need, free, Answer, got, not, full}
+use Rattle.theory.specs.Outcome.{Outcome, bind, at, need, free, Answer, got, not, full}
 use Rattle.theory.specs.RowModel.{rowWorld}
 use Rattle.theory.specs.Machine.{Stores}
 use Rattle.machine.specs.Machine.{Slices}
 use Rattle.machine.proofs.AgreeLaws.{same-lengths}
-use Rattle.walks.specs.Walks.{storesAt, Kept, Onward, Comes, goes, sticks, fills}
+use Rattle.walks.specs.Walks.{storesAt, Kept, Comes, goes, sticks, fills}
 use Rattle.walks.specs.declared.Walk.{Walk}
 use Rattle.walks.specs.declared.Walked.{Walked}
 use Rattle.walks.specs.declared.Walked.the-variants.{Next, Stuck, NoRoom}

@@ -1,5 +1,5 @@
 -- A term found or made, and a message decoded, a way out at a time.
-use Prim.Native.Nat.{ℕ, _+_, _<_, _≤_}
+use Prim.Native.Nat.{ℕ, _<_, _≤_}
 use mathlib.Core.Path.{_≡_, refl, ap}
 use mathlib.Core.List.{List}
 use native.Mathlib.Nat.{le-refl}
@@ -11,7 +11,7 @@ use Rattle.answers.specs.declared.Reason.the-variants.{Unset}
 use Rattle.numbers.specs.Kinds.{kindIn}
 use Rattle.numbers.specs.declared.Object.{Object}
 use Rattle.numbers.specs.declared.TermRow.{TermRow}
-use Rattle.terms.specs.Finder.{Located, located, locate}
+use Rattle.terms.specs.Finder.{Located, located}
 use Rattle.terms.specs.declared.Found.{Found}
 use Rattle.terms.specs.declared.Found.the-variants.{At, Full}
 use Rattle.terms.proofs.FinderLaws.{located-as}
@@ -24,8 +24,8 @@ use Rattle.world.specs.declared.Tested.{Tested}
 use Rattle.world.specs.declared.Tested.the-variants.{Holds, Not}
 use Rattle.machine.specs.Machine.{Slices, withObjects, withTermRows, Within}
 use Rattle.machine.proofs.AskLaws.{placed-at, placed-full, tested-holds, tested-not}
-use Rattle.machine.proofs.FoundLaws.{Finds, finds, found-length, found-row, full-kept}
-use Rattle.machine.proofs.AgreeLaws.{same-lengths, objects-lengths}
+use Rattle.machine.proofs.FoundLaws.{Finds, finds, found-length, found-row}
+use Rattle.machine.proofs.AgreeLaws.{objects-lengths}
 use Rattle.machine.proofs.StateLaws.{held-unset, held-set, object-unset, object-row}
 use Rattle.walks.specs.Walks.{Kept, Onward, goes, message-and-stores, WalksBy, founds, keeps}
 use Rattle.walks.specs.declared.Walk.{Walk}

@@ -7,7 +7,7 @@ use native.Mathlib.Omega.{arith}
 use lib.ListN.{length, getD, set, take, length-take}
 use lib.Seq.{getD-take, take-set-lt}
 use Rattle.numbers.specs.Limits.{namedCells}
-use Rattle.stores.specs.Cells.{unset, held, storeOf}
+use Rattle.stores.specs.Cells.{unset, storeOf}
 use Rattle.theory.specs.RowModel.{Table, rowWorld}
 use Rattle.theory.specs.Machine.{Stores, setObject, setRaw, setMemory}
 use Rattle.calls.specs.Run.{stateOver}
