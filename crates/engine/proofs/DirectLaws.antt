@@ -1,7 +1,7 @@
 -- The engine's outcome: a refusal with the values on entry, or what the walk leaves.
 use Prim.Native.Nat.{ℕ}
-use mathlib.Core.Path.{_≡_, refl, sym, _∙_}
-use mathlib.Core.Bool.{Bool, true, false, not, _&&_}
+use mathlib.Core.Path.{_≡_, refl}
+use mathlib.Core.Bool.{Bool, true, false, _&&_}
 use mathlib.Core.Option.{Option, none, some}
 use mathlib.Core.List.{List}
 use native.Mathlib.Omega.{arith}
@@ -15,7 +15,7 @@ use Rattle.numbers.specs.Limits.{variables, namedCells}
 use Rattle.terms.specs.Rules.{usedRows}
 use Rattle.calls.specs.Compile.{lengthsFit}
 use Rattle.calls.specs.Run.{Lent}
-use Rattle.calls.specs.Direct.{DirectOutcome, untouched, directEnds, ruled, direct}
+use Rattle.calls.specs.Direct.{DirectOutcome, directEnds, ruled, directBy, direct}
 use Rattle.calls.proofs.CompileLaws.{compile-within}
 use Rattle.looking.proofs.LookLaws.{true-holds}
 use Rattle.running.proofs.EndLaws.{withCells}
@@ -32,7 +32,7 @@ module _ (create : Bool) (pattern : List ℕ) (x : Lent) where
   by-none none e = (refl, cc)
   by-none (some other) e = absurd (let z : _≡_ {A = ℕ} 0 1 = cc in omega arith)
 
-  pub direct-refused : {answer : Direct} → Refused answer ≡ foundBefore (first (directRefusals create pattern x)) (x .terms) → untouched answer x ≡ direct create pattern x
+  pub direct-refused : {answer : Direct} → Refused answer ≡ foundBefore (first (directRefusals create pattern x)) (x .terms) → directBy create pattern x (some answer) ≡ direct create pattern x
   unfolding direct
   direct-refused e = rw (by-some (first (directRefusals create pattern x)) e)
 
@@ -51,7 +51,7 @@ module _ (create : Bool) (pattern : List ℕ) (x : Lent) where
   cells-whole e = simp (both, equals) at (true-holds e)
 
   -- 1, by the lengths of the cells
-  pub direct-limit : wholeCells ≡ false → untouched Limit x ≡ direct create pattern x
+  pub direct-limit : wholeCells ≡ false → directBy create pattern x (some Limit) ≡ direct create pattern x
   unfolding direct first
   direct-limit short =
       let wrong : lengthsFit create pattern (x .kinds) (x .objects) (x .messages) ≡ false =

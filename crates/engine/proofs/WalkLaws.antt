@@ -7,12 +7,10 @@ use mathlib.Core.Option.{Option, none, some}
 use mathlib.Core.List.{List, _++_}
 use native.Mathlib.Decide.{decLt}
 use native.Mathlib.Omega.{arith}
-use lib.Dec.{T}
-use lib.ListN.{length, getD, take}
+use lib.ListN.{length, getD}
 use lib.Seq.{ext-getD, getD-take, take-all}
 use Rattle.word.proofs.TestLaws.{both, twice, at-most}
 use Rattle.answers.specs.First.{first}
-use Rattle.answers.specs.Numbers.{reasonOf}
 use Rattle.answers.specs.declared.Reason.{Reason}
 use Rattle.answers.specs.declared.direct.Direct.the-variants as Direct
 use Rattle.numbers.specs.Kinds.{kindIn}
@@ -20,7 +18,6 @@ use Rattle.numbers.specs.Sorts.{asTermRow}
 use Rattle.numbers.specs.Limits.{variables, namedCells, mostTermRows, mostPatternRows}
 use Rattle.patterns.specs.Pattern.{Pattern}
 use Rattle.patterns.specs.Rules.{badPattern}
-use Rattle.patterns.specs.Standing.{patternIn}
 use Rattle.patterns.specs.Tree.{patternOf}
 use Rattle.stores.specs.Cells.{held}
 use Rattle.terms.specs.Rules.{usedRows, badTerm}
@@ -33,20 +30,19 @@ use Rattle.theory.specs.Rules.{match}
 use Rattle.theory.specs.Rules as Rules
 use Rattle.calls.specs.Compile.{refusals}
 use Rattle.calls.specs.Run.{Lent, stateOver, stateOf}
-use Rattle.calls.specs.Direct.{DirectOutcome, untouched, directEnds, patternRefusals, tableFits, storeRefusals, ruled}
+use Rattle.calls.specs.Direct.{DirectOutcome, refusedAs, directEnds, patternRefusals, tableFits, ruled}
 use Rattle.calls.specs.CompileThenRun.{handedBack}
 use Rattle.calls.proofs.CompileLaws.{first-none, first-before, when-none, map-none, compile-within, checked}
 use Rattle.calls.proofs.RunLaws.{storesFit, stores-valid}
 use Rattle.execution.specs.Steps.{Cleared}
 use Rattle.execution.proofs.CellLaws.{cells-back}
 use Rattle.machine.specs.Machine.{Slices, slices, Within}
-use Rattle.leaf_matching.specs.Matched.{Ready, meets}
+use Rattle.leaf_matching.specs.Matched.{meets}
 use Rattle.walk_leaves.specs.Creation.{creation, CreatesBy}
 use Rattle.walks.specs.Walks.{storesAt, Kept, Comes, goes, sticks, fills, stores-alone}
 use Rattle.walks.specs.declared.Walk.{Walk}
 use Rattle.walks.specs.declared.Walked.{Walked}
 use Rattle.walks.specs.declared.Walked.the-variants.{Next, Stuck, NoRoom}
-use Rattle.calls.specs.Direct.{refusedAs}
 use Rattle.engine.specs.Walking.{handed, walkRule, Walkable}
 
 -- checks of which the first ones refuse nothing
@@ -76,15 +72,15 @@ walkable-given {create} {pattern} {x} w =
     let (stores, e) = first-none _ _ e in
     let c = checked create pattern (x .kinds) (x .objects) (x .messages)
     (first-front (refusals create pattern (x .kinds) (x .objects) (x .messages)) _ (map-none refusedAs (first (patternRefusals create pattern x)) looks)) in
-    let within = compile-within create pattern (x .kinds) (x .objects) (x .messages) .0 (c .lengths) in
+    let whole = compile-within create pattern (x .kinds) (x .objects) (x .messages) .0 (c .lengths) in
     let fits = simp (both, at-most) at (twice (tableFits x) .0 (when-none (not (tableFits x)) Direct.Limit limits)) in
     let good = stores-valid x .0 (twice (storesFit x) .0 (when-none (not (storesFit x)) Direct.BadStore stores)) in
     record {
-      least = within .pattern-rows .0;
-      most = within .pattern-rows .1;
+      least = whole .pattern-rows .0;
+      most = whole .pattern-rows .1;
       rows-good = c .rows;
-      objects-length = within .objects-length;
-      named-length = within .named-length;
+      objects-length = whole .objects-length;
+      named-length = whole .named-length;
       few-rows = fits .0 .1;
       zeros = valid-table (x .terms) (x .counter) .0 (map-none Direct.BadTerm (badTerm (x .terms) (x .counter)) rows) .zeros;
       small = ⊎-elim (λ e. omega (arith, e)) (λ l. omega (arith, l, used-rows (x .terms) .inside, fits .0 .1)) (good .held);
@@ -123,15 +119,24 @@ module _ {create : Bool} {pattern : List ℕ} {x : Lent} {used : ℕ} (w : Walka
   given : Given pattern x
   given = walkable-given w
 
-  pub ready : Ready used lent
-  ready = record {
-    objects = given .objects-length;
-    named = given .named-length;
-    within = record { used-rows = rw (w .counted) (used-rows (x .terms) .inside); few-rows = given .few-rows };
+  -- what a walk that goes on to the end leaves
+  abbrev pub done-with : Walk → Slices → DirectOutcome
+  done-with next after = record {
+    answer = Direct.Done;
+    objects = after .objects;
+    named = after .messages;
+    accumulator = handedBack create (x .accumulator) (next .message .0);
+    terms = after .rows;
+    counter = next .counter;
   }
 
+  pub within : Within (x .terms) used
+  within = record { used-rows = rw (w .counted) (used-rows (x .terms) .inside); few-rows = given .few-rows }
+
   same-stores : storesAt start lent ≡ stateOf x .stores
-  same-stores = ap (λ rows. stateOver (x .accumulator) (x .objects) (x .messages) (record { rows = x .terms; used = rows; counter = x .counter; certificates = x .certificates }) .stores) (w .counted)
+  same-stores =
+      ap (λ rows. stateOver (x .accumulator) (x .objects) (x .messages) (record { rows = x .terms; used = rows; counter = x .counter; certificates = x .certificates }) .stores)
+      (w .counted)
 
   -- rows that the walk added are cleared again
   undone : {after : Slices} {rows : List ℕ} → Kept used lent after → Cleared (after .rows) used (length (after .rows)) rows → rows ≡ x .terms
@@ -145,7 +150,7 @@ module _ {create : Bool} {pattern : List ℕ} {x : Lent} {used : ℕ} (w : Walka
 
   module _ {after : Slices} where
     ended-next : {next : Walk} (o : Outcome (ℕ × Stores rowWorld)) → Comes (handed create (x .accumulator)) used lent o (Next next) after
-        → record { answer = Direct.Done; objects = after .objects; named = after .messages; accumulator = handedBack create (x .accumulator) (next .message .0); terms = after .rows; counter = next .counter }
+        → done-with next after
         ≡ directEnds x o
     unfolding stateOver
     ended-next {next} o (goes e on kept) =
@@ -175,10 +180,10 @@ module _ {create : Bool} {pattern : List ℕ} {x : Lent} {used : ℕ} (w : Walka
     comes = subst (λ o. Comes (handed create (x .accumulator)) used lent o answer after) (by-rule create) walks
 
     pub walk-span : used ≤ length (after .rows)
-    walk-span = rw (comes-kept comes .lengths .rows-length) (ready .within .used-rows)
+    walk-span = rw (comes-kept comes .lengths .rows-length) (within .used-rows)
 
     pub walk-done : {next : Walk} → answer ≡ Next next
-        → record { answer = Direct.Done; objects = after .objects; named = after .messages; accumulator = handedBack create (x .accumulator) (next .message .0); terms = after .rows; counter = next .counter }
+        → done-with next after
         ≡ directEnds x (ruled create pattern x create)
     walk-done e = ended-next _ (rw e at comes)
 

@@ -3,8 +3,7 @@ ghost use mathlib.Core.Path.{_≡_};
 ghost use lib.ListN.{length};
 ghost use Rattle.numbers.specs.Limits.{variables, namedCells};
 ghost use Rattle.patterns.specs.Standing.{Stands};
-ghost use Rattle.machine.specs.Machine.{slices};
-ghost use Rattle.leaf_matching.specs.Matched.{Ready};
+ghost use Rattle.machine.specs.Machine.{slices, Within};
 ghost use Rattle.calls.specs.CompileThenRun.{handedBack};
 ghost use Rattle.engine.specs.Walking.{WalksRow, Walkable, walkedFrom};
 use super::Outcome;
@@ -31,7 +30,8 @@ fn walk_row(
     row: u8,
 ) -> Walked
     requires { ⌜ Stands (now rows) row ⌝ }
-    requires { ⌜ Ready (start .used) (slices (now objects) (now named) (now terms) (now certificates)) ⌝ }
+    requires { ⌜ Within (now terms) (start .used) ⌝ }
+    requires { ⌜ (length (now objects) ≡ variables) × (length (now named) ≡ namedCells) ⌝ }
     ensures { λ r. ⌜ WalksRow create (now (rows .entry)) (now (kinds .entry)) row start
         (slices (now (objects .entry)) (now (named .entry)) (now (terms .entry)) (now (certificates .entry))) r
         (slices (now (objects .exit)) (now (named .exit)) (now (terms .exit)) (now (certificates .entry))) ⌝ }

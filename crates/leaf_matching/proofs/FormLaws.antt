@@ -105,23 +105,19 @@ module _ (w : Walk) (named : List ℕ) (row : ℕ) (r : Raw) (below : r .0 < nam
   module _ (isMessage : w .message .0 ≡ unset → ⊥) where
     pub raw-stored : known .0 ≡ unset → r .0 < length named → {named′ : List ℕ} → named′ ≡ set named (r .0) (w .message .0) → MatchesRaw (Next w) named′
     raw-stored none inside put =
-        rw put (record {
-          walks = λ x l. comes-as (by-cell x (named-unset _ _ _ _ (r .0) below read none))
-              (frees row _ (named-unset _ _ _ _ (r .0) below read none)
-              (reads row _ (held-set _ isMessage)
-              (goes (stores-named _ _ _ _ _ (w .message .0) isMessage (r .0) below inside)
-              (record { message = isMessage; more = le-refl (w .used); inside = l })
-              (record { lengths = messages-lengths (withMessages x named) (r .0) (w .message .0); rows = refl }))));
-        })
+        rw put (record { walks = λ x l. comes-as (by-cell x (named-unset _ _ _ _ (r .0) below read none))
+        (frees row _ (named-unset _ _ _ _ (r .0) below read none)
+        (reads row _ (held-set _ isMessage)
+        (goes (stores-named _ _ _ _ _ (w .message .0) isMessage (r .0) below inside)
+        (record { message = isMessage; more = le-refl (w .used); inside = l })
+        (record { lengths = messages-lengths (withMessages x named) (r .0) (w .message .0); rows = refl })))) })
 
     pub raw-same : (known .0 ≡ unset → ⊥) → {answer : Walked} → ComparesTo row (known .0) (Next w) answer → MatchesRaw answer named
     raw-same isRow same =
-        record {
-          walks = λ x l. comes-as (by-cell x (named-row _ _ _ _ (r .0) below read isRow))
-              (reads row _ (held-set _ isMessage)
-              (same kind .walks (withMessages x named) (withMessages x named) (w .used) (done (w .message .0, storesAt w (withMessages x named)))
-              (goes refl (record { message = isMessage; more = le-refl (w .used); inside = l }) kept-same)));
-        }
+        record { walks = λ x l. comes-as (by-cell x (named-row _ _ _ _ (r .0) below read isRow))
+        (reads row _ (held-set _ isMessage)
+        (same kind .walks (withMessages x named) (withMessages x named) (w .used) (done (w .message .0, storesAt w (withMessages x named)))
+        (goes refl (record { message = isMessage; more = le-refl (w .used); inside = l }) kept-same))) }
 
 pub ruleset raw-ways = (raw-no-message, raw-stored, raw-same)
 
@@ -172,14 +168,12 @@ module _ (w : Walk) (kind : ℕ → ℕ) (rows objects : List ℕ) (row v : ℕ)
     (decoded : WalksBy message-and-stores (λ n. decodes rowWorld kind row v (held (w .message .0)) n (made rowWorld kind)) w
     (λ x. over objects rows x) came (λ x. over objects′ rows x)) where
   pub decoded-inside : Within rows (w .used) → Inside rows came
-  decoded-inside within = record {
-    within = λ w′ e. record {
-      used-rows = comes-onward (subst (λ (c : Walked). Comes message-and-stores (w .used) (over objects rows (slices [] [] [] []))
-          (decodes rowWorld kind row v (held (w .message .0)) (storesAt w (over objects rows (slices [] [] [] []))) (made rowWorld kind)) c
-          (over objects′ rows (slices [] [] [] []))) e (decoded (slices [] [] [] []))) .inside;
-      few-rows = within .few-rows;
-    };
-  }
+  decoded-inside within = record { within = λ w′ e. record {
+    used-rows = comes-onward (subst (λ (c : Walked). Comes message-and-stores (w .used) (over objects rows (slices [] [] [] []))
+        (decodes rowWorld kind row v (held (w .message .0)) (storesAt w (over objects rows (slices [] [] [] []))) (made rowWorld kind)) c
+        (over objects′ rows (slices [] [] [] []))) e (decoded (slices [] [] [] []))) .inside;
+    few-rows = within .few-rows;
+  } }
 
   pub decoded-low : {i : ℕ} → i < length objects → i < length objects′
   decoded-low l = omega (arith, comes-kept (decoded (slices [] [] [] [])) .lengths .objects-length, l)

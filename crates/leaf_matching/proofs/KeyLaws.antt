@@ -36,10 +36,8 @@ module _ (objects : List ℕ) (w : Walk) (row : ℕ) (key : Object) (known : Ter
 
   pub held-key-row : (known .0 ≡ unset → ⊥) → (w′ : Walk) → w′ ≡ meeting w known → Holds (Next w′)
   held-key-row isRow w′ met =
-      rw met (record {
-        walks = λ x l. reads row _ (object-row _ _ _ _ (key .0) read isRow)
-            (goes (ap (message-and-stores (known .0)) (stores-any _ _ _ _ _)) (record { message = isRow; more = le-refl (w .used); inside = l }) kept-same);
-      })
+      rw met (record { walks = λ x l. reads row _ (object-row _ _ _ _ (key .0) read isRow)
+      (goes (ap (message-and-stores (known .0)) (stores-any _ _ _ _ _)) (record { message = isRow; more = le-refl (w .used); inside = l }) kept-same) })
 
 pub ruleset held-key-ways = (held-key-unset, held-key-row)
 

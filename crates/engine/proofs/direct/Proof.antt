@@ -1,5 +1,4 @@
 -- The engine on copies of the cells, which are copied back.
-use Prim.Native.Nat.{ℕ}
 use mathlib.Core.Path.{_≡_}
 use native.Mathlib.Omega.{arith}
 use lib.ListN.{length}
@@ -51,7 +50,9 @@ slice-aggregate-copy-2 : tie.Need-slice-aggregate-copy-2
 slice-aggregate-copy-2 c = search needs
 
 copy-requires-2 : tie.Need-copy-requires-2
-copy-requires-2 c κs = omega (arith, slice-aggregate-copy-2 (c .before), whole (c .before .before .before .before .before .before .before .before .before .before .before .before .before .before .before .before .before) .1)
+copy-requires-2 c κs =
+    let copied = c .before .before .before .before .before in
+    omega (arith, slice-aggregate-copy-2 (c .before), whole (copied .before .before .before .before .before .before .before .before .before .before .before .before) .1)
 
 same-length : tie.Need-same-length
 same-length c = search needs
@@ -64,8 +65,10 @@ same-length-3 c = search needs
 
 returns-2 : tie.Need-returns-2
 returns-2 c =
-    let ran = c .before .before .before .before .before .before .before .before .before .before .before .before .before .before in
-    direct-back _ _ (x (ran .before .before .before .before .before .before .before .before .before .before .before .before .before)) (ran .before .before .before .before .object-cells .ensures) (ran .before .before .object-cells2 .ensures) (ran .direct-cells .ensures) (c .before .before .before .before .before .before .before .copy .ensures) (c .before .before .copy2 .ensures)
+    let copied = c .before .before .before .before .before .before .before in
+    let ran = copied .before .before .before .before .before .before .before in
+    direct-back _ _ (x (start (ran .before .before .before .before .before .before))) (ran .before .before .before .before .object-cells .ensures) (ran .before .before .object-cells2 .ensures) (ran .direct-cells .ensures)
+    (copied .copy .ensures) (c .before .before .copy2 .ensures)
 
 pub direct-spec : {M : Type 1} → statement M
 direct-spec =

@@ -34,19 +34,25 @@ enum-known-found-2 : tie.Need-enum-known-found-2
 enum-known-found-2 c = search needs
 
 walk-requires : tie.Need-walk-requires
-walk-requires c κs = direct-walkable _ _ (x (c .before .before .before .before .before .before .before .before .before .before .before .before)) (sym (c .before .before .found2 .given .1) ∙ c .before .before .before .before .look .ensures)
+walk-requires c κs =
+    let looked = c .before .before .before .before in
+    direct-walkable _ _ (x (looked .before .before .before .before .before .before .before .before)) (sym (c .before .before .found2 .given .1) ∙ looked .look .ensures)
 
 same-length : tie.Need-same-length
 same-length c = search needs
 
 returns : tie.Need-returns
-returns c = direct-refused _ _ (x (c .before .before .before .before .before .before .before .before .before .before .before)) (sym (c .before .found .given .1) ∙ c .before .before .before .look .ensures)
+returns c =
+    let looked = c .before .before .before in
+    direct-refused _ _ (x (looked .before .before .before .before .before .before .before .before)) (sym (c .before .found .given .1) ∙ looked .look .ensures)
 
 same-length-2 : tie.Need-same-length-2
 same-length-2 c = search needs
 
 returns-2 : tie.Need-returns-2
-returns-2 c = direct-walked _ _ (x (c .before .before .before .before .before .before .before .before .before .before .before .before .before .before .before)) (sym (c .before .before .before .before .before .found2 .given .1) ∙ c .before .before .before .before .before .before .before .look .ensures) (c .before .before .walk .ensures)
+returns-2 c =
+    let looked = c .before .before .before .before .before .before .before in
+    direct-walked _ _ (x (looked .before .before .before .before .before .before .before .before)) (sym (c .before .before .before .before .before .found2 .given .1) ∙ looked .look .ensures) (c .before .before .walk .ensures)
 
 pub direct-cells-spec : {M : Type 1} → statement M
 direct-cells-spec =

@@ -41,15 +41,17 @@ look-at-stores-requires c κs = search needs
 
 returns : tie.Need-returns
 returns c =
-    let s = c .before .before .before .before .before .before .before .before .before .before .before .before .before in
-    looked-refused (s .args .create) (s .args .pattern .now) (x s) (s .pre) _ _ (c .before .before .before .before .before .before .set-cells .ensures) (c .before .before .before .before .before .set-cells2 .ensures)
-    (found-some _ (sym (c .before .before .found .given .1) ∙ c .before .before .before .before .look-at-pattern .ensures)) (c .refused-as .ensures)
+    let looked = c .before .before .before .before in
+    let s = looked .before .before .before .before .before .before .before .before .before in
+    looked-refused (s .args .create) (s .args .pattern .now) (x s) (s .pre) _ _ (looked .before .before .set-cells .ensures) (looked .before .set-cells2 .ensures)
+    (found-some _ (sym (c .before .before .found .given .1) ∙ looked .look-at-pattern .ensures)) (c .refused-as .ensures)
 
 returns-2 : tie.Need-returns-2
 returns-2 c =
-    let s = c .before .before .before .before .before .before .before .before .before .before .before .before in
-    looked-stores (s .args .create) (s .args .pattern .now) (x s) (s .pre) _ _ (c .before .before .before .before .before .set-cells .ensures) (c .before .before .before .before .set-cells2 .ensures)
-    (found-none _ (sym (c .before .enum-told .given .1) ∙ c .before .before .before .look-at-pattern .ensures)) (c .look-at-stores .ensures)
+    let looked = c .before .before .before in
+    let s = looked .before .before .before .before .before .before .before .before .before in
+    looked-stores (s .args .create) (s .args .pattern .now) (x s) (s .pre) _ _ (looked .before .before .set-cells .ensures) (looked .before .set-cells2 .ensures)
+    (found-none _ (sym (c .before .enum-told .given .1) ∙ looked .look-at-pattern .ensures)) (c .look-at-stores .ensures)
 
 pub look-spec : {M : Type 1} → statement M
 look-spec =

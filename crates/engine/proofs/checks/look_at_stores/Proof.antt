@@ -1,5 +1,5 @@
 -- Each check's answer, in the checks' order.
-use Prim.Native.Nat.{ℕ, _≤_}
+use Prim.Native.Nat.{_≤_}
 use mathlib.Core.Path.{_≡_, sym, _∙_}
 use mathlib.Core.Bool.{true}
 use mathlib.Core.Option.{none}
@@ -41,8 +41,11 @@ module _ (c : tie.Else1) where
   few = (simp (both, at-most) at (true-holds fits)) .0 .1
 
 module _ (c : tie.After-known-told2) where
-  counted : (badTerm (x (start (c .before .before .before .before)) .terms) (x (start (c .before .before .before .before)) .counter) ≡ none) × (c .before .checked2 .given .0 .0 ≡ usedRows (x (start (c .before .before .before .before)) .terms))
-  counted = checked-used (x (start (c .before .before .before .before)) .terms) _ (c .before .before .before .first-bad-row .ensures) (c .before .checked2 .given .1)
+  abbrev lent : Lent
+  lent = x (start (c .before .before .before .before))
+
+  counted : (badTerm (lent .terms) (lent .counter) ≡ none) × (c .before .checked2 .given .0 .0 ≡ usedRows (lent .terms))
+  counted = checked-used (lent .terms) _ (c .before .before .before .first-bad-row .ensures) (c .before .checked2 .given .1)
 
 returns : tie.Need-returns
 returns c = stores-limit (x (c .before .before .before .before .before .before)) (not-true _ (c .if1 .taken))
@@ -63,7 +66,9 @@ valid-requires : tie.Need-valid-requires
 valid-requires c κs = search needs
 
 returns-2 : tie.Need-returns-2
-returns-2 c = let passed = c .before .before .before .before in stores-term (x (start passed)) (fits passed) (checked-bad _ _ (c .before .before .before .first-bad-row .ensures) (c .before .checked .given .1))
+returns-2 c =
+    let passed = c .before .before .before .before in
+    stores-term (x (start passed)) (fits passed) (checked-bad _ _ (c .before .before .before .first-bad-row .ensures) (c .before .checked .given .1))
 
 returns-3 : tie.Need-returns-3
 returns-3 c =

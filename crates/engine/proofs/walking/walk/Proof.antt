@@ -9,7 +9,7 @@ use Rattle.word.proofs.CopyLaws.{laid}
 use Rattle.patterns.specs.Standing.{patternIn}
 use Rattle.patterns.specs.Tree.{patternOf}
 use Rattle.layout.proofs.RowLaws.{root-pattern, root-stands}
-use Rattle.engine.proofs.WalkLaws.{Given, walkable-given, ready, walk-span, walk-done, walk-stuck, walk-full}
+use Rattle.engine.proofs.WalkLaws.{walkable-given, within, walk-span, walk-done, walk-stuck, walk-full}
 use Rattle.engine.proofs.walking.walk.Statement.{statement}
 use Rattle.engine.proofs.walking.walk.Tie as tie
 
@@ -41,16 +41,19 @@ walk-row-requires : tie.Need-walk-row-requires
 walk-row-requires c κs =
     let s = c .before .before .before .before .before .before .before .before .before .before .before in
     let g = walkable-given (s .pre) in
-    (rw (laid (pattern s) 96 0 (c .before .before .before .before .before .before .no-rows .ensures) (c .before .before .before .before .lay-rows .ensures)) (root-stands (pattern s) (g .least) (g .most) (g .rows-good)), ready (s .pre))
+    let stands = root-stands (pattern s) (g .least) (g .most) (g .rows-good) in
+    (rw (laid (pattern s) 96 0 (c .before .before .before .before .before .before .no-rows .ensures) (c .before .before .before .before .lay-rows .ensures)) stands, (within (s .pre), (g .objects-length, g .named-length)))
 
 -- the root's pattern is the whole pattern
 module _ (c : tie.After-walk-row) where
-  same : patternIn (c .before .before .before .before .before .lay-rows .last .1 .0) (length (pattern (c .before .before .before .before .before .before .before .before .before .before .before .before)) - 1) ≡ patternOf (pattern (c .before .before .before .before .before .before .before .before .before .before .before .before))
+  abbrev start : tie.Start
+  start = c .before .before .before .before .before .before .before .before .before .before .before .before
+
+  same : patternIn (c .before .before .before .before .before .lay-rows .last .1 .0) (length (pattern start) - 1) ≡ patternOf (pattern start)
   same =
-      let s = c .before .before .before .before .before .before .before .before .before .before .before .before in
-      let g = walkable-given (s .pre) in
-      ap (λ rows. patternIn rows (length (pattern s) - 1)) (laid (pattern s) 96 0 (c .before .before .before .before .before .before .before .no-rows .ensures) (c .before .before .before .before .before .lay-rows .ensures))
-      ∙ root-pattern (pattern s) (g .least) (g .most)
+      let g = walkable-given (start .pre) in
+      ap (λ rows. patternIn rows (length (pattern start) - 1)) (laid (pattern start) 96 0 (c .before .before .before .before .before .before .before .no-rows .ensures) (c .before .before .before .before .before .lay-rows .ensures))
+      ∙ root-pattern (pattern start) (g .least) (g .most)
 
 enum-known-walked : tie.Need-enum-known-walked
 enum-known-walked c = search needs
@@ -62,7 +65,7 @@ enum-known-walked-2 : tie.Need-enum-known-walked-2
 enum-known-walked-2 c = search needs
 
 clear-requires : tie.Need-clear-requires
-clear-requires c κs = (walk-span (c .before .before .before .before .before .before .before .before .before .before .before .before .before .before .before .before .before .before .before .before .pre) (same (c .before .before .before .before .before .before .before .before)) (c .before .before .before .before .before .before .before .before .walk-row .ensures), omega arith)
+clear-requires c κs = let w = c .before .before .before .before .before .before .before .before in (walk-span (start w .pre) (same w) (w .walk-row .ensures), omega arith)
 
 cast-t47 : tie.Need-cast-t47
 cast-t47 c = search needs
@@ -71,7 +74,7 @@ enum-known-walked-3 : tie.Need-enum-known-walked-3
 enum-known-walked-3 c = search needs
 
 clear-requires-2 : tie.Need-clear-requires-2
-clear-requires-2 c κs = (walk-span (c .before .before .before .before .before .before .before .before .before .before .before .before .before .before .before .before .before .before .before .before .pre) (same (c .before .before .before .before .before .before .before .before)) (c .before .before .before .before .before .before .before .before .walk-row .ensures), omega arith)
+clear-requires-2 c κs = let w = c .before .before .before .before .before .before .before .before in (walk-span (start w .pre) (same w) (w .walk-row .ensures), omega arith)
 
 cast-t52 : tie.Need-cast-t52
 cast-t52 c = search needs
@@ -80,19 +83,25 @@ same-length : tie.Need-same-length
 same-length c = search needs
 
 returns : tie.Need-returns
-returns c = rw (c .handed-back .ensures) (walk-done (c .before .before .before .before .before .before .before .before .before .before .before .before .before .before .before .before .before .before .before .before .before .pre) (same (c .before .before .before .before .before .before .before .before .before)) (c .before .before .before .before .before .before .before .before .before .walk-row .ensures) (c .before .before .before .walked .given .1))
+returns c =
+    let w = c .before .before .before .before .before .before .before .before .before in
+    rw (c .handed-back .ensures) (walk-done (start w .pre) (same w) (w .walk-row .ensures) (c .before .before .before .walked .given .1))
 
 same-length-2 : tie.Need-same-length-2
 same-length-2 c = search needs
 
 returns-2 : tie.Need-returns-2
-returns-2 c = walk-stuck (c .before .before .before .before .before .before .before .before .before .before .before .before .before .before .before .before .before .before .before .before .before .before .before .pre) (same (c .before .before .before .before .before .before .before .before .before .before .before)) (c .before .before .before .before .before .before .before .before .before .before .before .walk-row .ensures) (c .before .before .before .before .before .walked2 .given .1) (c .before .before .clear .ensures)
+returns-2 c =
+    let w = c .before .before .before .before .before .before .before .before .before .before .before in
+    walk-stuck (start w .pre) (same w) (w .walk-row .ensures) (c .before .before .before .before .before .walked2 .given .1) (c .before .before .clear .ensures)
 
 same-length-3 : tie.Need-same-length-3
 same-length-3 c = search needs
 
 returns-3 : tie.Need-returns-3
-returns-3 c = walk-full (c .before .before .before .before .before .before .before .before .before .before .before .before .before .before .before .before .before .before .before .before .before .before .before .pre) (same (c .before .before .before .before .before .before .before .before .before .before .before)) (c .before .before .before .before .before .before .before .before .before .before .before .walk-row .ensures) (c .before .before .before .before .before .walked3 .given .1) (c .before .before .clear2 .ensures)
+returns-3 c =
+    let w = c .before .before .before .before .before .before .before .before .before .before .before in
+    walk-full (start w .pre) (same w) (w .walk-row .ensures) (c .before .before .before .before .before .walked3 .given .1) (c .before .before .clear2 .ensures)
 
 pub walk-spec : {M : Type 1} → statement M
 walk-spec =

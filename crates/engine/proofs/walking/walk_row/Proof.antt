@@ -6,10 +6,12 @@ use Rattle.engine.proofs.walking.walk_row.Statement.{statement}
 use Rattle.engine.proofs.walking.walk_row.Tie as tie
 
 create-row-requires : tie.Need-create-row-requires
-create-row-requires c κs = let s = c .before .before .before .before .before .before .before .before .before in (s .pre .0, (s .pre .1 .within, (s .pre .1 .objects, s .pre .1 .named)))
+create-row-requires c κs = search needs
 
 match-row-requires : tie.Need-match-row-requires
-match-row-requires c κs = search needs
+match-row-requires c κs =
+    let s = c .before .before .before .before .before .before .before .before .before in
+    (s .pre .0, record { objects = s .pre .1 .1 .0; named = s .pre .1 .1 .1; within = s .pre .1 .0 })
 
 same-length : tie.Need-same-length
 same-length c = search needs
@@ -22,8 +24,9 @@ same-length-3 c = search needs
 
 returns : tie.Need-returns
 returns c =
-    let s = c .before .before .before .before .before .before .before .before .before .before .before .before .before .before .before .before in
-    created-walks (s .args .kinds .now) (patternIn (s .args .rows .now) (s .args .row)) (s .args .start) (c .before .before .before .before .before .before .before .before .before .before .if1 .taken) (c .before .before .before .before .before .before .create-row .ensures)
+    let chosen = c .before .before .before .before .before .before .before .before .before .before in
+    let s = chosen .before .before .before .before .before .before in
+    created-walks (s .args .kinds .now) (patternIn (s .args .rows .now) (s .args .row)) (s .args .start) (chosen .if1 .taken) (c .before .before .before .before .before .before .create-row .ensures)
 
 same-length-4 : tie.Need-same-length-4
 same-length-4 c = search needs
@@ -36,8 +39,9 @@ same-length-6 c = search needs
 
 returns-2 : tie.Need-returns-2
 returns-2 c =
-    let s = c .before .before .before .before .before .before .before .before .before .before .before .before .before .before .before .before in
-    matched-walks (s .args .kinds .now) (patternIn (s .args .rows .now) (s .args .row)) (s .args .start) (c .before .before .before .before .before .before .before .before .before .before .if1 .left) (c .before .before .before .before .before .before .match-row .ensures)
+    let chosen = c .before .before .before .before .before .before .before .before .before .before in
+    let s = chosen .before .before .before .before .before .before in
+    matched-walks (s .args .kinds .now) (patternIn (s .args .rows .now) (s .args .row)) (s .args .start) (chosen .if1 .left) (c .before .before .before .before .before .before .match-row .ensures)
 
 pub walk-row-spec : {M : Type 1} → statement M
 walk-row-spec =
