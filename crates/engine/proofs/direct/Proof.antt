@@ -67,8 +67,8 @@ returns-2 : tie.Need-returns-2
 returns-2 c =
     let copied = c .before .before .before .before .before .before .before in
     let ran = copied .before .before .before .before .before .before .before in
-    direct-back _ _ (x (start (ran .before .before .before .before .before .before))) (ran .before .before .before .before .object-cells .ensures) (ran .before .before .object-cells2 .ensures) (ran .direct-cells .ensures)
-    (copied .copy .ensures) (c .before .before .copy2 .ensures)
+    direct-back _ _ (x (start (ran .before .before .before .before .before .before))) (ran .before .before .before .before .object-cells .ensures) (ran .before .before .object-cells2 .ensures)
+    (ran .direct-cells .ensures) (copied .copy .ensures) (c .before .before .copy2 .ensures)
 
 pub direct-spec : {M : Type 1} → statement M
 direct-spec =

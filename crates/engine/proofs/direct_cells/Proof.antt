@@ -52,7 +52,8 @@ same-length-2 c = search needs
 returns-2 : tie.Need-returns-2
 returns-2 c =
     let looked = c .before .before .before .before .before .before .before in
-    direct-walked _ _ (x (looked .before .before .before .before .before .before .before .before)) (sym (c .before .before .before .before .before .found2 .given .1) ∙ looked .look .ensures) (c .before .before .walk .ensures)
+    direct-walked _ _ (x (looked .before .before .before .before .before .before .before .before))
+    (sym (c .before .before .before .before .before .found2 .given .1) ∙ looked .look .ensures) (c .before .before .walk .ensures)
 
 pub direct-cells-spec : {M : Type 1} → statement M
 direct-cells-spec =

@@ -42,7 +42,8 @@ walk-row-requires c κs =
     let s = c .before .before .before .before .before .before .before .before .before .before .before in
     let g = walkable-given (s .pre) in
     let stands = root-stands (pattern s) (g .least) (g .most) (g .rows-good) in
-    (rw (laid (pattern s) 96 0 (c .before .before .before .before .before .before .no-rows .ensures) (c .before .before .before .before .lay-rows .ensures)) stands, (within (s .pre), (g .objects-length, g .named-length)))
+    let rows = laid (pattern s) 96 0 (c .before .before .before .before .before .before .no-rows .ensures) (c .before .before .before .before .lay-rows .ensures) in
+    (rw rows stands, (within (s .pre), (g .objects-length, g .named-length)))
 
 -- the root's pattern is the whole pattern
 module _ (c : tie.After-walk-row) where
@@ -52,7 +53,8 @@ module _ (c : tie.After-walk-row) where
   same : patternIn (c .before .before .before .before .before .lay-rows .last .1 .0) (length (pattern start) - 1) ≡ patternOf (pattern start)
   same =
       let g = walkable-given (start .pre) in
-      ap (λ rows. patternIn rows (length (pattern start) - 1)) (laid (pattern start) 96 0 (c .before .before .before .before .before .before .before .no-rows .ensures) (c .before .before .before .before .before .lay-rows .ensures))
+      ap (λ rows. patternIn rows (length (pattern start) - 1))
+      (laid (pattern start) 96 0 (c .before .before .before .before .before .before .before .no-rows .ensures) (c .before .before .before .before .before .lay-rows .ensures))
       ∙ root-pattern (pattern start) (g .least) (g .most)
 
 enum-known-walked : tie.Need-enum-known-walked
