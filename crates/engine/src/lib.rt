@@ -9,7 +9,7 @@ use running::cells::copy;
 use running::cells::object_cells;
 use walking::walk;
 
-pub mod checks;
+mod checks;
 mod walking;
 
 // The answer, with the accumulator and the name counter afterwards.
