@@ -135,7 +135,7 @@ module _ (create : Bool) (pattern kinds objects named : List ℕ) (objects-lengt
   unfolding declared declaredKnown
   same-declared = ap (kindsFit kinds &&_) (sym (undeclared-cells zero kinds objects (entry objects named .objects) (λ v. rw zero-add)))
 
-  same-refusals : first (refusals create pattern kinds objects named) ≡ first (knownRefusals create pattern kinds (entry objects named .objects))
+  pub same-refusals : first (refusals create pattern kinds objects named) ≡ first (knownRefusals create pattern kinds (entry objects named .objects))
   same-refusals = rw (same-fit, same-declared)
 
   pub compile-half : (code : List ℕ) → compile create pattern kinds objects named code ≡ finished (half create pattern kinds (entry objects named)) code

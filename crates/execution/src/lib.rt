@@ -23,7 +23,7 @@ pub struct Stepped {
 }
 
 // Rows from one on to another are unused again.
-fn clear(rows: &mut [u64], from: usize, to: usize)
+pub fn clear(rows: &mut [u64], from: usize, to: usize)
     requires { ⌜ (from ≤ to) × (to ≤ length (now rows)) ⌝ }
     ensures { λ r. ⌜ Cleared (now (rows .entry)) from to (now (rows .exit)) ⌝ }
 {

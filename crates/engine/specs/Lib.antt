@@ -1,0 +1,3 @@
+-- What the engine finds before it walks, and its walk.
+pub mod Found
+pub mod Walking
