@@ -1,5 +1,5 @@
 # shellcheck shell=sh disable=SC2034,SC2154
-# Read by listing, host/test.sh and host/bench, with `top` set to the root of the repository.
+# Read by listing, reading, host/test.sh and host/bench, with `top` set to the root of the repository.
 # The archive and the programs are for x86-64; on another processor they run under qemu-user.
 
 emulator='' cargo=cargo cc=gcc
@@ -55,4 +55,14 @@ made_by() { # FILE COMMAND..
         exit 2
     fi
     (cd "$top" && "$@") >&2 && touch "$made"
+}
+
+# What the program `reading` reads: the bundle's length in eight bytes, the bundle, and the code lines.
+reading_input() { # BUNDLE LINES
+    size=$(wc -c <"$1")
+    for place in 56 48 40 32 24 16 8 0; do
+        # shellcheck disable=SC2059
+        printf "\\$(printf '%03o' $((size >> place & 255)))"
+    done
+    cat "$1" "$2"
 }

@@ -1,6 +1,6 @@
 #!/bin/sh
-# Builds and runs all host tests: Rust and C over the archive, and the program `listing` on the kept examples and on
-# bundles made from a seed. The last line is 'host: N passed, M failed'.
+# Builds and runs all host tests: Rust and C over the archive, the program `listing` on the kept examples and on
+# bundles made from a seed, and the program `reading` on the kept listings. The last line is 'host: N passed, M failed'.
 set -u
 here=$(cd "$(dirname "$0")" && pwd -P)
 top=$(dirname "$here")
@@ -36,11 +36,19 @@ lists() { # BUNDLE
     $emulator "$top/target/bin/listing" <"$1" | cmp - "${1%.bundle}.listing"
 }
 
+reads() { # BUNDLE
+    grep '^[0-9]' "${1%.bundle}.listing" >"$out/lines" || return 0
+    reading_input "$1" "$out/lines" | $emulator "$top/target/bin/reading" | cmp - "$out/lines"
+}
+
 program_tests() {
     for bundle in "$top"/examples/*.bundle; do
         lists "$bundle"
         count $? "listing of $(basename "$bundle")"
     done
+    wrong=0
+    for bundle in "$top"/examples/*.bundle; do reads "$bundle" || wrong=1; done
+    count $wrong 'reading of the code lines of the kept listings'
     run_cargo run --offline --release --quiet --bin bundles -- generated "$out/bundles" 300
     count $? 'the writing of bundles'
     wrong=0
@@ -49,7 +57,8 @@ program_tests() {
 }
 
 made() {
-    made_by "$archive" rt staticlib cram && made_by "$top/target/bin/listing" rt check listing
+    made_by "$archive" rt staticlib cram && made_by "$top/target/bin/listing" rt check listing &&
+        made_by "$top/target/bin/reading" rt check reading
 }
 
 if made; then
@@ -58,7 +67,7 @@ if made; then
     c_test
     program_tests
 else
-    count 1 'the making of the archive and the program'
+    count 1 'the making of the archive and the programs'
 fi
 echo "host: $passed passed, $failed failed"
 [ "$failed" -eq 0 ]

@@ -51,7 +51,7 @@ run-objects x code long = by (first (refusals x code))
     by (some answer) = long
     by none = after (exec rowWorld (kindIn (x .kinds)) (linesOf code) (stateOf x))
 
-refused-short : (number place : ℕ) → length (refusedLine number place) ≤ 65536
+pub refused-short : (number place : ℕ) → length (refusedLine number place) ≤ 65536
 refused-short number place = omega (arith, word-line-most refusedWord (number ∷ place ∷ []))
 
 compiled-short : (bytes : List ℕ) (header : Header) → opened bytes ≡ Is header → (c : CompileOutcome)

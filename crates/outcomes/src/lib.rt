@@ -14,7 +14,7 @@ use bundles::Header;
 use bundles::Opened;
 use running::Ended;
 
-mod parts;
+pub mod parts;
 
 // A refusal with its number and place, or so many words of code and how their run ended.
 pub enum Gave {

@@ -29,7 +29,7 @@ fn code_line(out: &mut [u8], at: usize, place: usize, word: u32) -> usize
     text::put_line(out, at, [place as u32, operation, a, b, n, 0], 5)
 }
 
-fn code_lines(out: &mut [u8], code: &[u32]) -> usize
+pub fn code_lines(out: &mut [u8], code: &[u32]) -> usize
     requires { ⌜ length (now code) ≤ mostCodeWords ⌝ }
     ensures { λ r. ⌜ Wrote (codeLines 0 (now (code .entry))) (now (out .entry)) 0 (now (out .exit)) r ⌝ }
 {

@@ -1,0 +1,2 @@
+-- What the program `reading` prints.
+pub mod Rereading
