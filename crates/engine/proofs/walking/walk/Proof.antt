@@ -67,7 +67,10 @@ enum-known-walked-2 : tie.Need-enum-known-walked-2
 enum-known-walked-2 c = search needs
 
 clear-requires : tie.Need-clear-requires
-clear-requires c κs = let w = c .before .before .before .before .before .before .before .before in (walk-span (start w .pre) (same w) (w .walk-row .ensures), omega arith)
+clear-requires c κs =
+    let w = c .before .before .before .before .before .before .before .before in
+    let span = walk-span (start w .pre) (same w) (w .walk-row .ensures) in
+    (omega (arith, span), omega (arith, span))
 
 cast-t47 : tie.Need-cast-t47
 cast-t47 c = search needs
@@ -76,7 +79,10 @@ enum-known-walked-3 : tie.Need-enum-known-walked-3
 enum-known-walked-3 c = search needs
 
 clear-requires-2 : tie.Need-clear-requires-2
-clear-requires-2 c κs = let w = c .before .before .before .before .before .before .before .before in (walk-span (start w .pre) (same w) (w .walk-row .ensures), omega arith)
+clear-requires-2 c κs =
+    let w = c .before .before .before .before .before .before .before .before in
+    let span = walk-span (start w .pre) (same w) (w .walk-row .ensures) in
+    (omega (arith, span), omega (arith, span))
 
 cast-t52 : tie.Need-cast-t52
 cast-t52 c = search needs
