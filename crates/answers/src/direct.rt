@@ -5,7 +5,7 @@ ghost use Rattle.answers.specs.DirectNumbers.{direct_number, direct_place, direc
 use super::Reason;
 
 // Compile's and run's answers, but that no code can be too short or bad. Places are rows: of the term table with 2, else of the pattern.
-#[derive(Drop)]
+#[derive(Clone, Copy)]
 pub enum Direct {
     Done,
     Limit,

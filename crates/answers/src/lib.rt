@@ -10,7 +10,7 @@ ghost use Rattle.answers.specs.Numbers.{reason_number, compiled_number, compiled
 pub use direct::Direct;
 pub use rounds::{NONE_WAITS, Rounded, Session};
 
-#[derive(Drop)]
+#[derive(Clone, Copy)]
 pub enum Reason {
     Unset,
     OtherKind,
@@ -21,7 +21,7 @@ pub enum Reason {
     NotVerified,
 }
 
-#[derive(Drop)]
+#[derive(Clone, Copy)]
 pub enum Compiled {
     Done(u32),
     Limit,
@@ -33,7 +33,7 @@ pub enum Compiled {
     CodeTooShort(u32),
 }
 
-#[derive(Drop)]
+#[derive(Clone, Copy)]
 pub enum Ran {
     Done(u32),
     Limit,

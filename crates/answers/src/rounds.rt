@@ -7,7 +7,7 @@ use super::Ran;
 // No message, and no answer, in a record.
 pub const NONE_WAITS: u32 = 65535;
 
-#[derive(Drop)]
+#[derive(Clone, Copy)]
 pub struct Session {
     pub used: u32,
     pub counter: u32,
@@ -17,7 +17,7 @@ pub struct Session {
 }
 
 // What a run may answer, and three answers of a round's own.
-#[derive(Drop)]
+#[derive(Clone, Copy)]
 pub enum Rounded {
     Ran(Ran),
     NoMessage,

@@ -23,7 +23,7 @@ const CELL_BYTES: usize = 128;
 
 const KIND_BYTES: usize = 32;
 
-#[derive(Drop)]
+#[derive(Clone, Copy)]
 pub struct Header {
     pub create: bool,
     pub pattern_rows: u16,
@@ -34,7 +34,7 @@ pub struct Header {
 }
 
 // A bundle with a wrong size, a set spare bit or a count outside its limit is refused.
-#[derive(Drop)]
+#[derive(Clone, Copy)]
 pub enum Opened {
     Refused,
     Is(Header),

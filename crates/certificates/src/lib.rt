@@ -9,7 +9,7 @@ ghost use Rattle.certificates.specs.Answer.{certificate_of};
 use numbers::TermRow;
 
 // What the certificates say of an agent: its public key's row, or nothing.
-#[derive(Drop)]
+#[derive(Clone, Copy)]
 pub enum Certificate {
     Key(TermRow),
     None,

@@ -12,7 +12,7 @@ ghost use Rattle.code.specs.Instruction.{word_of, instruction_of, read_of};
 use numbers::{Object, Raw};
 
 // Figure 4, in the order of the operations' numbers.
-#[derive(Drop)]
+#[derive(Clone, Copy)]
 pub enum Instruction {
     Load(Raw),
     Store(Raw),
@@ -33,7 +33,7 @@ pub enum Instruction {
 }
 
 // What a word says: an instruction, or that there is none of its operation.
-#[derive(Drop)]
+#[derive(Clone, Copy)]
 pub enum Read {
     Is(Instruction),
     Not,

@@ -2,7 +2,7 @@
 ghost use Rattle.std.specs.Prelude.{◌≡◌, ◌≤◌};
 ghost use Rattle.code_reading.specs.ReadBackNumbers.{read_back_number, read_back_place};
 
-#[derive(Drop)]
+#[derive(Clone, Copy)]
 pub enum ReadBack {
     Done(u32),
     BadLine(u64),

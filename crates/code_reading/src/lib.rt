@@ -18,7 +18,7 @@ use operands::first_bad_word;
 use word::Place;
 
 // What is found before words are delivered: so many of them, or a refusal.
-#[derive(Drop)]
+#[derive(Clone, Copy)]
 pub enum Looked {
     Words(usize),
     Refused(ReadBack),

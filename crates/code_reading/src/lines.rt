@@ -25,14 +25,14 @@ const B: u64 = 0x0000_0800;
 const N: u64 = 0x0000_0100;
 
 // The word of a line and the place behind it, or that there is no good line.
-#[derive(Drop)]
+#[derive(Clone, Copy)]
 pub enum WordRead {
     Is(u32, usize),
     Not,
 }
 
 // How many lines there are, or the lowest that is not good.
-#[derive(Drop)]
+#[derive(Clone, Copy)]
 pub enum LinesRead {
     All(usize),
     Bad(usize),

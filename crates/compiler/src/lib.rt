@@ -22,7 +22,7 @@ mod looking;
 mod walking;
 
 // An answer, and which object and named cells are set afterwards: cell 0 at the most significant bit.
-#[derive(Drop)]
+#[derive(Clone, Copy)]
 pub struct KnownAnswer {
     pub answer: Compiled,
     pub objects: u64,

@@ -20,7 +20,7 @@ pub fn scratch(number: u8) -> Raw
 }
 
 // A part of a tuple: its row, and the scratch number that holds it.
-#[derive(Drop)]
+#[derive(Clone, Copy)]
 pub struct Part {
     pub child: u8,
     pub scratch: u8,

@@ -13,7 +13,7 @@ use numbers::limits::{MOST_CERTIFICATES, MOST_NAMES, MOST_TERM_ROWS};
 use terms::Checked;
 
 // What is found before the walk: a refusal, or the number of used rows.
-#[derive(Drop)]
+#[derive(Clone, Copy)]
 pub enum Finding {
     Refused(Direct),
     Accepted(u16),

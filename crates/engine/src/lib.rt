@@ -14,7 +14,7 @@ mod checks;
 mod walking;
 
 // The answer, with the accumulator and the name counter afterwards.
-#[derive(Drop)]
+#[derive(Clone, Copy)]
 pub struct Tried {
     pub answer: Direct,
     pub accumulator: u32,

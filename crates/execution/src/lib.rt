@@ -16,7 +16,7 @@ use code::Read;
 use machine::{Registers, Step};
 
 // An answer, with the registers after it.
-#[derive(Drop)]
+#[derive(Clone, Copy)]
 pub struct Stepped {
     pub answer: Ran,
     pub registers: Registers,

@@ -82,7 +82,7 @@ pub fn refuse(emission: &mut Emission, number: u8, row: u8)
 }
 
 // What is found of a pattern: a refusal, or nothing.
-#[derive(Drop)]
+#[derive(Clone, Copy)]
 pub enum Finding {
     Refused(Compiled),
     Accepted,

@@ -8,14 +8,14 @@ pub mod runs;
 pub mod sessions;
 
 #[repr(C)]
-#[derive(Drop)]
+#[derive(Clone, Copy)]
 pub struct CompileAnswer {
     pub number: u32,
     pub place: u32,
 }
 
 #[repr(C)]
-#[derive(Drop)]
+#[derive(Clone, Copy)]
 pub struct RunAnswer {
     pub number: u32,
     pub place: u32,
@@ -26,7 +26,7 @@ pub struct RunAnswer {
 }
 
 #[repr(C)]
-#[derive(Drop)]
+#[derive(Clone, Copy)]
 pub struct RoundAnswer {
     pub number: u32,
     pub place: u32,
@@ -34,7 +34,7 @@ pub struct RoundAnswer {
 }
 
 #[repr(C)]
-#[derive(Drop)]
+#[derive(Clone, Copy)]
 pub struct TakeAnswer {
     pub number: u32,
     pub answer: u32,

@@ -7,7 +7,7 @@ ghost use Rattle.terms.specs.Rules.{used_rows};
 ghost use Rattle.looking.specs.Front.{ZeroFrom, Front, SameBut};
 
 // The used rows of a table, and the front of it that is to be looked at.
-#[derive(Drop)]
+#[derive(Clone, Copy)]
 pub struct RowsRead {
     pub used: usize,
     pub front: usize,

@@ -15,7 +15,7 @@ use terms::Checked;
 use word::Place;
 
 // What is found before the steps: a refusal with the used rows that come back, or the number of used rows.
-#[derive(Drop)]
+#[derive(Clone, Copy)]
 pub enum Finding {
     Refused(Ran, u16),
     Accepted(u16),

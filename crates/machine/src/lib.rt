@@ -13,7 +13,7 @@ pub mod moving;
 pub mod opening;
 pub mod tuples;
 
-#[derive(Drop)]
+#[derive(Clone, Copy)]
 pub struct Registers {
     pub place: u32,
     pub accumulator: TermRow,
@@ -21,7 +21,7 @@ pub struct Registers {
     pub counter: u32,
 }
 
-#[derive(Drop)]
+#[derive(Clone, Copy)]
 pub enum Step {
     Next(Registers),
     Stuck(Reason),

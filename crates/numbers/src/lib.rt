@@ -5,13 +5,13 @@ pub mod kinds;
 pub mod limits;
 
 // An object variable.
-#[derive(Drop)]
+#[derive(Clone, Copy)]
 pub struct Object(pub u8);
 
 // A raw variable, which is a message cell: 0..63 named, 64..255 scratch.
-#[derive(Drop)]
+#[derive(Clone, Copy)]
 pub struct Raw(pub u8);
 
 // A row of the term table.
-#[derive(Drop)]
+#[derive(Clone, Copy)]
 pub struct TermRow(pub u16);

@@ -17,7 +17,7 @@ use running::Ended;
 pub mod parts;
 
 // A refusal with its number and place, or so many words of code and how their run ended.
-#[derive(Drop)]
+#[derive(Clone, Copy)]
 pub enum Gave {
     Refused(u32, u32),
     Ran(u32, Ended),

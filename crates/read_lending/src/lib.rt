@@ -12,7 +12,7 @@ use code_reading::lines::{LinesRead, read_words};
 use code_reading::{Looked, ReadBack, look_words, no_words};
 
 #[repr(C)]
-#[derive(Drop)]
+#[derive(Clone, Copy)]
 pub struct ReadAnswer {
     pub number: u32,
     pub place: u64,

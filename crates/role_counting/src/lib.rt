@@ -15,7 +15,7 @@ use compiler::KnownAnswer;
 pub mod checks;
 
 // A role's answer, and the half that refuses.
-#[derive(Drop)]
+#[derive(Clone, Copy)]
 pub struct RoleCompiled {
     pub answer: Compiled,
     pub half: u32,

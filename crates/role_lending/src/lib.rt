@@ -15,7 +15,7 @@ mod counting;
 mod writing;
 
 #[repr(C)]
-#[derive(Drop)]
+#[derive(Clone, Copy)]
 pub struct RoleAnswer {
     pub number: u32,
     pub place: u32,

@@ -14,7 +14,7 @@ use code::frame::{INPUT, OUTPUT};
 use delivery::copy;
 
 // Where words end, and which cells are set after them.
-#[derive(Drop)]
+#[derive(Clone, Copy)]
 pub struct Written {
     pub end: usize,
     pub objects: u64,

@@ -11,14 +11,14 @@ use turns::Finding;
 mod steps;
 
 // A round's answer, and the session after it.
-#[derive(Drop)]
+#[derive(Clone, Copy)]
 pub struct RoundEnded {
     pub session: Session,
     pub answer: Rounded,
 }
 
 // The answer that was waiting, and the session without it.
-#[derive(Drop)]
+#[derive(Clone, Copy)]
 pub struct Taken {
     pub session: Session,
     pub answer: u32,

@@ -16,7 +16,7 @@ use numbers::limits::{MESSAGE_CELLS, VARIABLES};
 pub mod cells;
 
 // The answer, with the used rows, accumulator and name counter afterwards; used rows are 0 with answer 1.
-#[derive(Drop)]
+#[derive(Clone, Copy)]
 pub struct Ended {
     pub answer: Ran,
     pub used: u16,

@@ -11,14 +11,14 @@ pub use row::{
 };
 
 // What the finder answers: the term's row and the number of used rows then, or that there is no room.
-#[derive(Drop)]
+#[derive(Clone, Copy)]
 pub enum Found {
     At(TermRow, u16),
     Full,
 }
 
 // What the check of a table answers: its lowest bad row, or the number of used rows.
-#[derive(Drop)]
+#[derive(Clone, Copy)]
 pub enum Checked {
     Bad(u32),
     Used(u32),

@@ -10,18 +10,18 @@ const FIRST_DIGIT: u8 = 48;
 const LAST_DIGIT: u8 = 57;
 
 // A number and the place behind the byte that ends it, or that there is none.
-#[derive(Drop)]
+#[derive(Clone, Copy)]
 pub enum NumberRead {
     Is(u64, usize),
     Not,
 }
 
 // The numbers of a line.
-#[derive(Drop)]
+#[derive(Clone, Copy)]
 pub struct Numbers(pub u64, pub u64, pub u64, pub u64, pub u64);
 
 // The numbers of a line and the place behind it, or that there is no such line.
-#[derive(Drop)]
+#[derive(Clone, Copy)]
 pub enum LineRead {
     Is(Numbers, usize),
     Not,

@@ -44,6 +44,7 @@ module _ {A B : Type 0} where
   not_done : (x : Outcome A) (g : A → Outcome B) → NotDone x → NotDone (bind x g)
   not_done (stuck place why) g is_stuck = is_stuck
   not_done (room place) g is_room = is_room
+  not_done (done _) g x3 = elim x3 [ ]
 
 module _ {Allowed : ℕ → Type 0} where
   alike_bind : {A B D E : Type 0} {R : A → B → Type 0} {S : D → E → Type 0} {x : Outcome A} {y : Outcome B}

@@ -17,7 +17,7 @@ use terms::Checked;
 use word::Place;
 
 // What is found before the steps: a refusal, or the number of used rows.
-#[derive(Drop)]
+#[derive(Clone, Copy)]
 pub enum Finding {
     Refused(Rounded),
     Accepted(u16),

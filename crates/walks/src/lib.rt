@@ -11,7 +11,7 @@ pub mod keys;
 pub mod making;
 
 // The message in hand, the rows in use and the name counter.
-#[derive(Drop)]
+#[derive(Clone, Copy)]
 pub struct Walk {
     pub message: TermRow,
     pub used: u16,
@@ -19,7 +19,7 @@ pub struct Walk {
 }
 
 // The walk goes on, or ends at a row of the pattern.
-#[derive(Drop)]
+#[derive(Clone, Copy)]
 pub enum Walked {
     Next(Walk),
     Stuck(u8, Reason),

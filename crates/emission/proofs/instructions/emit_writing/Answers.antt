@@ -1,0 +1,6 @@
+use Rattle.emission.proofs.InstructionLaws.{emitted}
+use borrow.Author.Rules.{rules}
+use Rattle.emission.proofs.instructions.emit_writing.Goals as goal
+
+pub returns : goal.returns
+returns c = search (emitted)

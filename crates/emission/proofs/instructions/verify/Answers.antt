@@ -1,0 +1,6 @@
+use Rattle.emission.proofs.InstructionLaws.{emitted_twice}
+use borrow.Author.Rules.{rules}
+use Rattle.emission.proofs.instructions.verify.Goals as goal
+
+pub returns : goal.returns
+returns c = search (emitted_twice)

@@ -1,0 +1,6 @@
+use Rattle.knowing.proofs.StepLaws.{appended}
+use borrow.Author.Rules.{rules}
+use Rattle.knowing.proofs.append.Goals as goal
+
+pub returns : goal.returns
+returns c = λ l h. appended _ _ l _ c.requires.long h

@@ -1,0 +1,7 @@
+use mathlib.Core.Path.{refl}
+use Rattle.knowing.proofs.StepLaws.{raised}
+use borrow.Author.Rules.{rules}
+use Rattle.knowing.proofs.take.Goals as goal
+
+pub returns : goal.returns
+returns c = (refl, raised _ _ c.requires.0)

@@ -1,0 +1,6 @@
+use Rattle.layout.proofs.KindLaws.{creatable_is}
+use borrow.Author.Rules.{rules}
+use Rattle.layout.proofs.creatable.Goals as goal
+
+pub returns : goal.returns
+returns c = creatable_is _

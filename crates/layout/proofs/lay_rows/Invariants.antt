@@ -1,0 +1,12 @@
+-- Up to the row the pattern's rows are copied.
+use Prim.Native.Nat.{◌-◌}
+use native.Mathlib.Omega.{arith}
+use borrow.Author.Rules.{rules, scaled_Fits}
+use Rattle.word.proofs.CopyLaws.{Copied, copied_none, copied_more, copied_all}
+use Rattle.layout.proofs.lay_rows.Given as goal
+
+abbrev pub invariant-loop-row : goal.invariant-loop-row
+invariant-loop-row l = Copied l.pattern l.initial.rows l.rows l.row
+
+abbrev pub decreases-loop-row : goal.decreases-loop-row
+decreases-loop-row l = l.row-end - l.row

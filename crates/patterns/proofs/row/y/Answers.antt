@@ -1,0 +1,7 @@
+use borrow.Author.Rules.{rules}
+use Rattle.patterns.specs.Row.{pattern_fields}
+use Rattle.patterns.proofs.row.y.Goals as goal
+
+pub returns : goal.returns
+unfolding pattern_fields
+returns c = search rules

@@ -1,0 +1,15 @@
+use Prim.Native.Nat.{◌-◌, ◌≤◌}
+use mathlib.Core.Path.{◌≡◌, refl, ◌∙◌}
+use mathlib.Core.Bool.{◌&&◌}
+use native.Mathlib.Omega.{arith}
+use lib.ListN.{drop}
+use borrow.Author.Rules.{rules, scaled_Fits}
+use Rattle.stores.specs.Valid.{each_variable, undeclared_unset}
+use Rattle.stores.proofs.LoopLaws.{variables_gather, variables_gathered}
+use Rattle.stores.proofs.cells.all_declared.Given as goal
+
+abbrev pub invariant-loop-v : goal.invariant-loop-v
+invariant-loop-v l = (l.v ≤ l.count) × (each_variable undeclared_unset l.kinds l.objects ≡ (l.declared && each_variable undeclared_unset (drop l.v l.kinds) (drop l.v l.objects)))
+
+abbrev pub decreases-loop-v : goal.decreases-loop-v
+decreases-loop-v l = l.count - l.v

@@ -1,0 +1,7 @@
+use Rattle.stores.specs.Valid.{declared}
+use borrow.Author.Rules.{rules}
+use Rattle.stores.proofs.cells.declares.Goals as goal
+
+pub returns : goal.returns
+unfolding declared
+returns c = rw (c.kinds_fit.ensures, c.all_declared.ensures)

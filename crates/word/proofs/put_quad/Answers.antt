@@ -1,0 +1,8 @@
+use Rattle.word.proofs.ByteLaws.{sets_split}
+use borrow.Author.Rules.{rules}
+use Rattle.word.proofs.put_quad.Goals as goal
+
+pub returns : goal.returns
+returns c =
+    let given = c.args in
+    cc (sets_split 2 2 given.value given.bytes.now given.at)

@@ -1,0 +1,13 @@
+use Prim.Native.Nat.{◌-◌}
+use borrow.Author.Rules.{rules}
+use Rattle.word.proofs.ByteLaws.{Unpacked, unpacking}
+use Rattle.word.proofs.unpack_quads.Goals as goal
+
+pub loop-place-init : goal.loop-place-init
+loop-place-init c = search unpacking
+
+pub loop-place-preserved : goal.loop-place-preserved
+loop-place-preserved c = search unpacking
+
+pub returns : goal.returns
+returns c = search unpacking

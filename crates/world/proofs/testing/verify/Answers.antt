@@ -1,0 +1,16 @@
+-- `world::testing::verify` meets its contract: each way out is an answer of the world of rows.
+use borrow.Author.Rules.{rules}
+use Rattle.world.proofs.TestingLaws.{verify-ways}
+use Rattle.world.proofs.testing.verify.Goals as goal
+
+pub returns-then-tag-ne-SIGNATURE : goal.returns-then-tag-ne-SIGNATURE
+returns-then-tag-ne-SIGNATURE c = search verify-ways
+
+pub returns-then-not-goes_with : goal.returns-then-not-goes_with
+returns-then-not-goes_with c = search verify-ways
+
+pub returns-then-part-body : goal.returns-then-part-body
+returns-then-part-body c = search verify-ways
+
+pub returns : goal.returns
+returns c = search verify-ways
