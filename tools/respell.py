@@ -112,7 +112,7 @@ def after():
             print(f"look: {' '.join(olds)} -> {new}, a library's name too")
     for f in antt:
         turn(f, lambda line: respell(line, names))
-    plain = {o: n for o, n in names.items() if "-" not in o}
+    plain = {o: n for o, n in names.items() if CAMEL.match(o)}
     for f in files(".rt"):
         turn(f, lambda line: respell(line, names if re.match(r"\s*(ghost|requires|ensures)\b", line) else plain, "//"))
     for f in files(".edit"):

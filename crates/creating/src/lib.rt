@@ -67,7 +67,7 @@ fn create_leaf(
 }
 
 // The pattern of a row.
-#[cycle(create_encryption_create_let_create_parts_create_row_create_tuple)]
+#[cycle(creating)]
 pub fn create_row(rows: &Rows, kinds: &Kinds, code: &mut Code, emission: &mut Emission, row: u8)
     requires { Row rows.now row emission.old }
     ensures { Creates rows.now kinds.now row emission.old code.old emission.new code.new }
@@ -83,7 +83,7 @@ pub fn create_row(rows: &Rows, kinds: &Kinds, code: &mut Code, emission: &mut Em
 }
 
 // e : E(key, p)
-#[cycle(create_encryption_create_let_create_parts_create_row_create_tuple)]
+#[cycle(creating)]
 fn create_encryption(
     rows: &Rows,
     kinds: &Kinds,
@@ -106,7 +106,7 @@ fn create_encryption(
 }
 
 // t : [p1 .. pn]
-#[cycle(create_encryption_create_let_create_parts_create_row_create_tuple)]
+#[cycle(creating)]
 fn create_tuple(
     rows: &Rows,
     kinds: &Kinds,
@@ -137,7 +137,7 @@ fn create_tuple(
 }
 
 // The parts of a tuple, from left to right, each into its scratch cell.
-#[cycle(create_encryption_create_let_create_parts_create_row_create_tuple)]
+#[cycle(creating)]
 fn create_parts(
     rows: &Rows,
     kinds: &Kinds,
@@ -160,7 +160,7 @@ fn create_parts(
 }
 
 // let r = p1 in p2
-#[cycle(create_encryption_create_let_create_parts_create_row_create_tuple)]
+#[cycle(creating)]
 fn create_let(
     rows: &Rows,
     kinds: &Kinds,

@@ -61,7 +61,7 @@ fn match_leaf(rows: &Rows, code: &mut Code, emission: &mut Emission, row: u8, wo
 }
 
 // The pattern of a row.
-#[cycle(match_encryption_match_let_match_parts_match_row_match_tuple)]
+#[cycle(matching)]
 pub fn match_row(rows: &Rows, code: &mut Code, emission: &mut Emission, row: u8)
     requires { Row rows.now row emission.old }
     ensures { Matches rows.now row emission.old code.old emission.new code.new }
@@ -77,7 +77,7 @@ pub fn match_row(rows: &Rows, code: &mut Code, emission: &mut Emission, row: u8)
 }
 
 // e : E(key, p)
-#[cycle(match_encryption_match_let_match_parts_match_row_match_tuple)]
+#[cycle(matching)]
 fn match_encryption(rows: &Rows, code: &mut Code, emission: &mut Emission, row: u8, word: u64)
     requires row_at { RowAt rows.now row word emission.old }
     requires word_value { (pattern_fields word).tag ≡ encryption_form }
@@ -94,7 +94,7 @@ fn match_encryption(rows: &Rows, code: &mut Code, emission: &mut Emission, row: 
 }
 
 // t : [p1 .. pn]
-#[cycle(match_encryption_match_let_match_parts_match_row_match_tuple)]
+#[cycle(matching)]
 fn match_tuple(rows: &Rows, code: &mut Code, emission: &mut Emission, row: u8, word: u64)
     requires row_at { RowAt rows.now row word emission.old }
     requires word_value { (pattern_fields word).tag ≡ tuple_form }
@@ -116,7 +116,7 @@ fn match_tuple(rows: &Rows, code: &mut Code, emission: &mut Emission, row: u8, w
 }
 
 // The parts of a tuple, from left to right.
-#[cycle(match_encryption_match_let_match_parts_match_row_match_tuple)]
+#[cycle(matching)]
 fn match_parts(
     rows: &Rows,
     code: &mut Code,
@@ -138,7 +138,7 @@ fn match_parts(
 }
 
 // let r = p1 in p2: p2 first, which must set r, and then p1 on what r holds.
-#[cycle(match_encryption_match_let_match_parts_match_row_match_tuple)]
+#[cycle(matching)]
 fn match_let(rows: &Rows, code: &mut Code, emission: &mut Emission, row: u8, word: u64)
     requires row_at { RowAt rows.now row word emission.old }
     requires word_value { (pattern_fields word).tag ≡ let_form }

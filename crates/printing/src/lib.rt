@@ -73,7 +73,7 @@ fn store_lines(out: &mut [u8], at: usize, objects: &[u16], messages: &[u16]) -> 
 }
 
 // The end line does not look at the cells.
-fn end_line_lem(
+fn end_line(
     out: &mut [u8],
     at: usize,
     answer: Ran,
@@ -107,7 +107,7 @@ pub fn ran(
         out.old 0 out.new result }
 {
     let after_code = code_lines(out, code);
-    let after_end = end_line_lem(out, after_code, answer, used, counter, accumulator);
+    let after_end = end_line(out, after_code, answer, used, counter, accumulator);
     if answer.number() != 0 {
         return after_end;
     }

@@ -45,7 +45,7 @@ fn survey_leaf(
 }
 
 // The pattern of a row.
-#[cycle(survey_encryption_survey_let_survey_parts_survey_row_survey_tuple)]
+#[cycle(surveying)]
 fn survey_row(create: bool, rows: &Rows, kinds: &Kinds, emission: &mut Emission, row: u8)
     requires stands { Stands rows.now row }
     requires emission_len { length emission.old ≡ 5 }
@@ -62,7 +62,7 @@ fn survey_row(create: bool, rows: &Rows, kinds: &Kinds, emission: &mut Emission,
 }
 
 // e : E(key, p): matched, e is set before p is looked at and only a plain key opens; created, e is set last.
-#[cycle(survey_encryption_survey_let_survey_parts_survey_row_survey_tuple)]
+#[cycle(surveying)]
 fn survey_encryption(
     create: bool,
     rows: &Rows,
@@ -93,7 +93,7 @@ fn survey_encryption(
 }
 
 // t : [p1 .. pn]: matched, t is set before the parts are looked at; created, after them.
-#[cycle(survey_encryption_survey_let_survey_parts_survey_row_survey_tuple)]
+#[cycle(surveying)]
 fn survey_tuple(
     create: bool,
     rows: &Rows,
@@ -119,7 +119,7 @@ fn survey_tuple(
 }
 
 // The parts of a tuple, from left to right.
-#[cycle(survey_encryption_survey_let_survey_parts_survey_row_survey_tuple)]
+#[cycle(surveying)]
 fn survey_parts(
     create: bool,
     rows: &Rows,
@@ -141,7 +141,7 @@ fn survey_parts(
 }
 
 // let r = p1 in p2: matched, r must be unset and p2 set it before p1 is looked at; created, p1 comes before r and p2.
-#[cycle(survey_encryption_survey_let_survey_parts_survey_row_survey_tuple)]
+#[cycle(surveying)]
 fn survey_let(create: bool, rows: &Rows, kinds: &Kinds, emission: &mut Emission, row: u8, word: u64)
     requires stands_at { StandsAt rows.now row word }
     requires emission_len { (length emission.old ≡ 5) × ((pattern_fields word).tag ≡ let_form) }

@@ -66,7 +66,7 @@ fn is_packed(word: u64) -> bool
 }
 
 // A byte is at most 255; nonces and keys are below the name counter; agents are any.
-fn number_fits_lem(word: u64, counter: u32) -> bool
+fn number_fits(word: u64, counter: u32) -> bool
     ensures { result ≡ number_fits counter (shape_of word) }
 {
     let t = tag(word);
@@ -78,7 +78,7 @@ fn number_fits_lem(word: u64, counter: u32) -> bool
 }
 
 // Parts have smaller row numbers than their owner.
-fn parts_below_lem(word: u64, row: usize) -> bool
+fn parts_below(word: u64, row: usize) -> bool
     ensures { result ≡ parts_below row (shape_of word) }
 {
     let n = used_slots(word);
@@ -123,14 +123,14 @@ fn has_shape(word: u64) -> bool
 fn atom_fits(word: u64, counter: u32) -> bool
     ensures { result ≡ (known_tag word && is_packed word && number_fits counter (shape_of word)) }
 {
-    has_shape(word) && number_fits_lem(word, counter)
+    has_shape(word) && number_fits(word, counter)
 }
 
 // The rules of a row that owns parts.
 fn owner_fits(rows: &[u64], row: usize, word: u64) -> bool
     ensures { result ≡ (known_tag word && is_packed word && parts_below row (shape_of word) && key_kind_fits rows.now (shape_of word)) }
 {
-    has_shape(word) && parts_below_lem(word, row) && key_kind_fits(rows, word)
+    has_shape(word) && parts_below(word, row) && key_kind_fits(rows, word)
 }
 
 // Every rule looks at the tag; told apart here, a row without parts is not asked for its parts and key.

@@ -20,7 +20,7 @@ use walk_values::values::{make_value, seal};
 use walks::{Walk, Walked};
 
 // The pattern of a row. The message that is created is in the hand of the walk that goes on.
-#[cycle(create_encryption_create_let_create_row_create_tuple)]
+#[cycle(creating)]
 pub fn create_row(
     rows: &Rows,
     kinds: &[u8],
@@ -89,7 +89,7 @@ pub fn create_row(
 }
 
 // e : E(key, p): the key, then p, then the encryption.
-#[cycle(create_encryption_create_let_create_row_create_tuple)]
+#[cycle(creating)]
 fn create_encryption(
     rows: &Rows,
     kinds: &[u8],
@@ -133,7 +133,7 @@ fn create_encryption(
 }
 
 // t : [p1 .. pn]: the parts from left to right, then the tuple of their rows.
-#[cycle(create_encryption_create_let_create_row_create_tuple)]
+#[cycle(creating)]
 fn create_tuple(
     rows: &Rows,
     kinds: &[u8],
@@ -181,7 +181,7 @@ fn create_tuple(
 }
 
 // let r = p1 in p2: p1, then r, then p2.
-#[cycle(create_encryption_create_let_create_row_create_tuple)]
+#[cycle(creating)]
 fn create_let(
     rows: &Rows,
     kinds: &[u8],

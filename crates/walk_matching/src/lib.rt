@@ -69,7 +69,7 @@ fn match_leaf(
 }
 
 // The pattern of a row.
-#[cycle(match_encryption_match_let_match_parts_match_row_match_tuple)]
+#[cycle(matching)]
 pub fn match_row(
     rows: &Rows,
     kinds: &[u8],
@@ -137,7 +137,7 @@ pub fn match_row(
 }
 
 // e : E(key, p). Only a plain key opens: another one was refused before the walk began.
-#[cycle(match_encryption_match_let_match_parts_match_row_match_tuple)]
+#[cycle(matching)]
 fn match_encryption(
     rows: &Rows,
     kinds: &[u8],
@@ -181,7 +181,7 @@ fn match_encryption(
 }
 
 // t : [p1 .. pn]
-#[cycle(match_encryption_match_let_match_parts_match_row_match_tuple)]
+#[cycle(matching)]
 fn match_tuple(
     rows: &Rows,
     kinds: &[u8],
@@ -231,7 +231,7 @@ fn match_tuple(
 }
 
 // The parts of a tuple from the kth on, from left to right.
-#[cycle(match_encryption_match_let_match_parts_match_row_match_tuple)]
+#[cycle(matching)]
 fn match_parts(
     rows: &Rows,
     kinds: &[u8],
@@ -289,7 +289,7 @@ fn match_parts(
 }
 
 // let r = p1 in p2: p2 first, which must set r, and then p1 on what r holds.
-#[cycle(match_encryption_match_let_match_parts_match_row_match_tuple)]
+#[cycle(matching)]
 fn match_let(
     rows: &Rows,
     kinds: &[u8],

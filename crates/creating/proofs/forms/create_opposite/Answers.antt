@@ -1,0 +1,6 @@
+use Rattle.creating.proofs.FormLaws.{opposite_done}
+use borrow.Author.Rules.{rules}
+use Rattle.creating.proofs.forms.create_opposite.Goals as goal
+
+pub returns : goal.returns
+returns c = search (opposite_done)

@@ -1,0 +1,6 @@
+use Rattle.creating.proofs.KeyLaws.{opposite_key}
+use borrow.Author.Rules.{rules}
+use Rattle.creating.proofs.keys.opposite_key.Goals as goal
+
+pub returns : goal.returns
+returns c = search (opposite_key)

@@ -1,0 +1,16 @@
+-- Where n is at most the length, the first n words are n in number.
+use mathlib.Core.Path.{sym, refl}
+use native.Mathlib.Omega.{arith}
+use lib.Seq.{length-take-le}
+use borrow.Author.Rules.{rules}
+use Rattle.delivery.proofs.DeliveryLaws.{part_fits, part_short}
+use Rattle.delivery.proofs.used.Goals as goal
+
+pub slice_bounds-result-end : goal.slice_bounds-result-end
+slice_bounds-result-end c = sym (length-take-le c.args.n c.args.code.now (omega (arith, c.if-n-code.true)))
+
+pub returns-then-n-code : goal.returns-then-n-code
+returns-then-n-code c = (part_fits c.args.n c.args.code.now (omega (arith, c.if-n-code.true)), refl)
+
+pub returns-else-n-code : goal.returns-else-n-code
+returns-else-n-code c = (part_short c.args.n c.args.code.now (omega (arith, c.if-n-code.false)), refl)
