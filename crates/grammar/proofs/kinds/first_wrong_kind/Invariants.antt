@@ -1,0 +1,19 @@
+use Prim.Native.Nat.{ℕ, ◌-◌, ◌≤◌}
+use mathlib.Core.Path.{refl, sym, ap, ◌∙◌}
+use mathlib.Core.Bool.{Bool, not}
+use mathlib.Core.List.{List}
+use native.Mathlib.Omega.{arith}
+use lib.ListN.{length, get_or}
+use borrow.Author.Rules.{rules, scaled_Fits}
+use Rattle.word.specs.Lowest.{place_of}
+use Rattle.word.proofs.ScanLaws.{Left, scan_hit, scan_miss, scan_end}
+use Rattle.patterns.specs.Row.{pattern_fields}
+use Rattle.patterns.specs.RowKinds.{row_kinds}
+use Rattle.patterns.proofs.KindLaws.{wrong_rows}
+use Rattle.grammar.proofs.kinds.first_wrong_kind.Given as goal
+
+abbrev pub invariant-loop-place : goal.invariant-loop-place
+invariant-loop-place l = (l.place ≤ length l.rows) × Left (wrong l.create l.kinds) l.rows l.place
+
+abbrev pub decreases-loop-place : goal.decreases-loop-place
+decreases-loop-place l = length l.rows - l.place

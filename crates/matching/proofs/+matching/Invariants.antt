@@ -1,0 +1,47 @@
+use Prim.Native.Nat.{ℕ, ◌+◌, ◌-◌, ◌*◌, ◌<◌}
+use mathlib.Core.Path.{◌≡◌, refl, sym, ◌∙◌}
+use native.Mathlib.Omega.{arith}
+use lib.Dec.{lit≤}
+use lib.ListN.{length}
+use borrow.Author.Rules.{rules}
+use Rattle.emission.proofs.BudgetLaws.{room_le, room_then, leaf_room}
+use Rattle.theory.specs.Compilers.{compile↓parts}
+use Rattle.patterns.proofs.StandingLaws.{slot, encryption_child, let_children, variable_low}
+use Rattle.emission.proofs.PartLaws.{Walked, parts_begin, parts_end, tuple_parts}
+use Rattle.matching.proofs.WalkLaws.{
+  encryption_asks,
+  encryption_done,
+  encryption_wrong,
+  let_second,
+  let_loads,
+  let_first,
+  let_done,
+  in_turn_lem,
+  part_loads,
+  part_asks,
+  part_done,
+  tuple_analyzes,
+  tuple_done,
+}
+use Rattle.matching.proofs.+matching.Given as goal
+
+abbrev pub decreases-match_encryption : goal.decreases-match_encryption
+decreases-match_encryption l = 8 * l.row + 6
+
+abbrev pub decreases-match_let : goal.decreases-match_let
+decreases-match_let l = 8 * l.row + 6
+
+abbrev pub decreases-match_parts : goal.decreases-match_parts
+decreases-match_parts l = 8 * l.row + 5
+
+abbrev pub decreases-match_row : goal.decreases-match_row
+decreases-match_row l = 8 * l.row + 7
+
+abbrev pub decreases-match_tuple : goal.decreases-match_tuple
+decreases-match_tuple l = 8 * l.row + 6
+
+abbrev pub invariant-match_parts-loop-k : goal.invariant-match_parts-loop-k
+invariant-match_parts-loop-k l = Walked compile↓parts l.rows l.row l.parts l.n l.initial.emission l.initial.code l.k l.emission l.code
+
+abbrev pub decreases-match_parts-loop-k : goal.decreases-match_parts-loop-k
+decreases-match_parts-loop-k l = l.n - l.k

@@ -1,0 +1,6 @@
+use Rattle.matching.proofs.FormLaws.{constant_done}
+use borrow.Author.Rules.{rules}
+use Rattle.matching.proofs.forms.match_constant.Goals as goal
+
+pub returns : goal.returns
+returns c = search (constant_done)

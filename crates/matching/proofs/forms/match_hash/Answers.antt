@@ -1,0 +1,6 @@
+use Rattle.matching.proofs.FormLaws.{hash_done}
+use borrow.Author.Rules.{rules}
+use Rattle.matching.proofs.forms.match_hash.Goals as goal
+
+pub returns : goal.returns
+returns c = search (hash_done)

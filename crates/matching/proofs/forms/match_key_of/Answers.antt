@@ -1,0 +1,6 @@
+use Rattle.matching.proofs.FormLaws.{key_of_done}
+use borrow.Author.Rules.{rules}
+use Rattle.matching.proofs.forms.match_key_of.Goals as goal
+
+pub returns : goal.returns
+returns c = search (key_of_done)

@@ -1,0 +1,37 @@
+use lib.Dec.{lit≤}
+use Rattle.emission.proofs.BudgetLaws.{room_le, room_then, leaf_room}
+use Rattle.patterns.proofs.StandingLaws.{signature_key, variable_low, key_low}
+use Rattle.matching.proofs.LeafLaws.{signed_plain, signed_opposite, signed_certified}
+use borrow.Author.Rules.{rules}
+use Rattle.matching.proofs.match_signature.Goals as goal
+
+pub decode-requires : goal.decode-requires
+decode-requires c = record { room_for = room_le (lit≤ tt) (lit≤ tt) (leaf_room _ _ _ _ c.requires.row_at); v_lt_variables = variable_low _ _ c.variable.ensures }
+
+pub verify-requires : goal.verify-requires
+verify-requires c = room_then (lit≤ tt) (lit≤ tt)
+    (leaf_room _ _ _ _ c.requires.row_at)
+    c.decode.ensures
+
+pub verify_opposite-requires : goal.verify_opposite-requires
+verify_opposite-requires c = record { public_lt_variables = key_low _ (signature_key c.requires.row_at.standing c.requires.word_value) _ c.key-key.ensures; room_for = room_then (lit≤ tt)
+          (lit≤ tt) (leaf_room _ _ _ _ c.requires.row_at) c.decode.ensures }
+
+pub verify_certified-requires : goal.verify_certified-requires
+verify_certified-requires c = record { key_lt_variables = key_low _ (signature_key c.requires.row_at.standing c.requires.word_value) _ c.key-key.ensures; room_for = room_then (lit≤ tt)
+          (lit≤ tt) (leaf_room _ _ _ _ c.requires.row_at) c.decode.ensures }
+
+pub returns-in-0 : goal.returns-in-0
+returns-in-0 c = search (signed_plain)
+
+pub returns-in-1 : goal.returns-in-1
+returns-in-1 c = search (signed_opposite)
+
+pub returns-in_default : goal.returns-in_default
+returns-in_default c =
+    let n = c.in_default.in_default-own.rest in
+    signed_certified _ _ _ c.requires.row_at c.requires.word_value _ _ _ _
+    c.variable.ensures
+    c.key-key.ensures c.raw-r.ensures
+    c.key_form-by.ensures
+    c.decode.ensures _ c.y-in_default.ensures n.0.1 n.1 c.verify_certified.ensures

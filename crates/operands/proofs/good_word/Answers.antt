@@ -1,0 +1,12 @@
+use Rattle.code.proofs.ReadLaws.{judging}
+use borrow.Author.Rules.{rules}
+use Rattle.operands.proofs.good_word.Goals as goal
+
+pub returns-then-word_of-word : goal.returns-then-word_of-word
+returns-then-word_of-word c = search judging
+
+pub returns-else-word_of-word : goal.returns-else-word_of-word
+returns-else-word_of-word c = search judging
+
+pub returns-in-Not : goal.returns-in-Not
+returns-in-Not c = search judging

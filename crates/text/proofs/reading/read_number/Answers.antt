@@ -1,0 +1,48 @@
+use Prim.Native.Nat.{◌-◌}
+use mathlib.Core.Path.{◌≡◌, refl}
+use native.Mathlib.Omega.{arith}
+use borrow.Author.Rules.{rules}
+use lib.ListN.{length}
+use Rattle.text.proofs.ReadStepLaws.{NumberLeft, digit_low, digit_high, digit-told, digit_read, number-steps}
+use Rattle.text.proofs.reading.read_number.Goals as goal
+
+pub returns-then-text-at : goal.returns-then-text-at
+returns-then-text-at c = search number-steps
+
+pub returns-then-not-is_digit : goal.returns-then-not-is_digit
+returns-then-not-is_digit c = search number-steps
+
+pub worth-value-requires : goal.worth-value-requires
+worth-value-requires c = search digit-told
+
+pub loop-place-init : goal.loop-place-init
+loop-place-init c = (refl, search number-steps)
+
+pub returns-then-most-value : goal.returns-then-most-value
+returns-then-most-value c = search number-steps
+
+pub returns-then-byte-end : goal.returns-then-byte-end
+returns-then-byte-end c = search number-steps
+
+pub returns-then-not-is_digit-2 : goal.returns-then-not-is_digit-2
+returns-then-not-is_digit-2 c = search number-steps
+
+pub returns-then-value-eq0 : goal.returns-then-value-eq0
+returns-then-value-eq0 c = search number-steps
+
+pub worth-requires : goal.worth-requires
+worth-requires c =
+    let says = c.is_digit-in-loop-place.ensures in
+    (digit_low _ says c.if-not-is_digit-2.false, digit_high _ says c.if-not-is_digit-2.false)
+
+pub loop-place-preserved : goal.loop-place-preserved
+loop-place-preserved c =
+    let turn = c.loop-place in
+    let inside = c.loop-place-test.true in (
+      turn.invariant.0,
+      digit_read _ _ _ _ _ _ turn.invariant.1 _ (omega (arith, inside, turn.invariant.0)) c.if-most-value.false
+          c.if-byte-end.false c.is_digit-in-loop-place.ensures c.if-not-is_digit-2.false c.if-value-eq0.false c.worth.ensures.0,
+    )
+
+pub returns : goal.returns
+returns c = search number-steps
