@@ -9,9 +9,6 @@ use Rattle.chains.proofs.DistinctLaws.{Passed, distinct_stop, distinct_next, dis
 use Rattle.chains.proofs.ChainLaws.{chain_below, headed_next, linked_next}
 use Rattle.chains.proofs.distinct_by_chains.Goals as goal
 
-chain-inside : (c : tie.After-chain-of invariant-loop decreases-loop) → c.chain-of.result < 4096
-chain-inside c = chain_below _ c.chain-of.result c.chain-of.ensures
-
 pub no_rows-newest-requires : goal.no_rows-newest-requires
 no_rows-newest-requires c = tt
 
@@ -26,10 +23,10 @@ pub chain_of-chain-requires : goal.chain_of-chain-requires
 chain_of-chain-requires c = tt
 
 pub offset_bounds-newest-chain : goal.offset_bounds-newest-chain
-offset_bounds-newest-chain c = omega (arith, chain-inside c)
+offset_bounds-newest-chain c = omega (arith, (chain_below _ c.chain_of-chain.result c.chain_of-chain.ensures))
 
 pub bounds-newest-chain : goal.bounds-newest-chain
-bounds-newest-chain c = chain-inside c
+bounds-newest-chain c = chain_below _ c.chain_of-chain.result c.chain_of-chain.ensures
 
 pub slice_bounds-on_chain-end : goal.slice_bounds-on_chain-end
 slice_bounds-on_chain-end c = sym c.loop-row.invariant.2
@@ -45,10 +42,10 @@ returns-then-on_chain c =
     distinct_stop a.rows.now a.used (omega arith) l.row l.invariant.3 _ (omega arith) c.on_chain.ensures c.if-on_chain.true
 
 pub offset_bounds-newest-chain-in-loop-row : goal.offset_bounds-newest-chain-in-loop-row
-offset_bounds-newest-chain-in-loop-row c = omega (arith, chain-inside c.before)
+offset_bounds-newest-chain-in-loop-row c = omega (arith, (chain_below _ c.chain_of-chain.result c.chain_of-chain.ensures))
 
 pub bounds-newest-chain-in-loop-row : goal.bounds-newest-chain-in-loop-row
-bounds-newest-chain-in-loop-row c = chain-inside c.before
+bounds-newest-chain-in-loop-row c = chain_below _ c.chain_of-chain.result c.chain_of-chain.ensures
 
 pub loop-row-preserved : goal.loop-row-preserved
 loop-row-preserved c =
@@ -59,7 +56,7 @@ loop-row-preserved c =
       length-set l.newest _ _ ∙ l.invariant.1,
       length-set l.older _ _ ∙ l.invariant.2,
       distinct_next a.rows.now a.used (omega arith) l.row l.invariant.3 _ (omega arith) c.on_chain.ensures c.if-on_chain.false,
-      headed_next a.rows.now l.newest l.older l.row chain.result chain.ensures l.invariant.4 (omega (arith, chain-inside c.before)),
+      headed_next a.rows.now l.newest l.older l.row chain.result chain.ensures l.invariant.4 (omega (arith, (chain_below _ c.chain_of-chain.result c.chain_of-chain.ensures))),
       linked_next a.rows.now l.newest l.older l.row chain.result chain.ensures l.invariant.4 (omega arith) l.invariant.5,
     )
 

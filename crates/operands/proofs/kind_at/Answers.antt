@@ -15,4 +15,4 @@ returns-then-at-kinds c =
 pub returns-else-at-lt-VARIABLES : goal.returns-else-at-lt-VARIABLES
 returns-else-at-lt-VARIABLES c =
     let given = c.args in
-    kind_none given.kinds.now given.v.0 (⊎_elim (λ way. omega (arith, ltb-false)) (λ way. omega arith) c.else-at-lt-VARIABLES.branch)
+    kind_none given.kinds.now given.v.0 (⊎_elim (λ way. omega (arith, ltb-false)) (λ way. omega arith) c.else-at-lt-VARIABLES.either)

@@ -12,14 +12,13 @@ decode-requires c = search decode_object
 
 pub create-requires : goal.create-requires
 create-requires c =
-    let fits = c.requires.t in
-    (search, (search create_object, create_kind _ _ fits _ c.in-Create.is))
+    let fits = c.requires.t in record { within = search; v_in_bounds = search create_object; v_bound = create_kind _ _ fits _ c.in-Create.is }
 
 pub analyze_tuple-requires : goal.analyze_tuple-requires
 analyze_tuple-requires c = search analyze_cells
 
 pub create_tuple-requires : goal.create_tuple-requires
-create_tuple-requires c = (search, (search create_tuple_object, search create_tuple_count))
+create_tuple-requires c = record { within = search; t_in_bounds = search create_tuple_object; n_le_most_parts = search create_tuple_count }
 
 pub opposite-requires : goal.opposite-requires
 opposite-requires c = record { within = search; public_in_bounds = search opposite_object }

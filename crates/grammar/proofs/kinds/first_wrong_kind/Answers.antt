@@ -10,10 +10,8 @@ use Rattle.word.proofs.ScanLaws.{Left, scan_hit, scan_miss, scan_end}
 use Rattle.patterns.specs.Row.{pattern_fields}
 use Rattle.patterns.specs.RowKinds.{row_kinds}
 use Rattle.patterns.proofs.KindLaws.{wrong_rows}
+use Rattle.grammar.proofs.kinds.first_wrong_kind.Invariants.{wrong}
 use Rattle.grammar.proofs.kinds.first_wrong_kind.Goals as goal
-
-abbrev wrong : Bool → List ℕ → ℕ → ℕ → Bool
-wrong create kinds place word = not (row_kinds create (λ v. get_or kinds v 0) (pattern_fields word))
 
 pub loop-place-init : goal.loop-place-init
 loop-place-init c = (omega arith, refl)
@@ -28,14 +26,14 @@ returns-then-not-row_kinds c =
     ap place_of
     (sym
     (wrong_rows _ _ _
-    ∙ scan_hit (wrong args.create args.kinds.now) args.rows.now 0 loop.place loop.invariant.1 (omega arith) (ap not (sym c.row_kinds.ensures) ∙ c.if-not-row_kinds.true)))
+    ∙ scan_hit (wrong args.create args.kinds.now) args.rows.now 0 loop.place loop.invariant.1 (omega arith) (ap not (sym c.row_kinds.ensures) ∙ (ap not c.if-not-row_kinds.true))))
 
 pub loop-place-preserved : goal.loop-place-preserved
 loop-place-preserved c =
     let loop = c.loop-place in
     let args = c.args in (
       omega arith,
-      scan_miss (wrong args.create args.kinds.now) args.rows.now 0 loop.place loop.invariant.1 (omega arith) (ap not (sym c.row_kinds.ensures) ∙ c.if-not-row_kinds.false),
+      scan_miss (wrong args.create args.kinds.now) args.rows.now 0 loop.place loop.invariant.1 (omega arith) (ap not (sym c.row_kinds.ensures) ∙ (ap not c.if-not-row_kinds.false)),
     )
 
 pub returns : goal.returns

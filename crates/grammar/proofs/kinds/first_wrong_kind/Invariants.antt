@@ -12,6 +12,9 @@ use Rattle.patterns.specs.RowKinds.{row_kinds}
 use Rattle.patterns.proofs.KindLaws.{wrong_rows}
 use Rattle.grammar.proofs.kinds.first_wrong_kind.Given as goal
 
+abbrev pub wrong : Bool → List ℕ → ℕ → ℕ → Bool
+wrong create kinds place word = not (row_kinds create (λ v. get_or kinds v 0) (pattern_fields word))
+
 abbrev pub invariant-loop-place : goal.invariant-loop-place
 invariant-loop-place l = (l.place ≤ length l.rows) × Left (wrong l.create l.kinds) l.rows l.place
 

@@ -18,23 +18,23 @@ loop-place-init c = (omega arith, refl)
 
 pub returns-then-not-marks-place : goal.returns-then-not-marks-place
 returns-then-not-marks-place c =
-    let marks = c.args.t1 in
+    let marks = c.args.marks in
     let count = c.args.count in
     let place = c.loop-place.place in
     let long = front_length marks count (search rules) c.requires in
-    ap place_of (sym (scan_hit _ (take (count - 1) marks) false place c.loop-place.invariant.1 (omega arith) (rw (get_or-take (count - 1) marks place false (omega arith)) c.if-not-marks-place.true)))
+    ap place_of (sym (scan_hit _ (take (count - 1) marks) false place c.loop-place.invariant.1 (omega arith) (rw (get_or-take (count - 1) marks place false (omega arith)) (ap not c.if-not-marks-place.true))))
 
 pub loop-place-preserved : goal.loop-place-preserved
 loop-place-preserved c =
-    let marks = c.args.t1 in
+    let marks = c.args.marks in
     let count = c.args.count in
     let place = c.loop-place.place in
     let long = front_length marks count (search rules) c.requires in
-    (omega arith, scan_miss _ (take (count - 1) marks) false place c.loop-place.invariant.1 (omega arith) (rw (get_or-take (count - 1) marks place false (omega arith)) c.if-not-marks-place.false))
+    (omega arith, scan_miss _ (take (count - 1) marks) false place c.loop-place.invariant.1 (omega arith) (rw (get_or-take (count - 1) marks place false (omega arith)) (ap not c.if-not-marks-place.false)))
 
 pub returns : goal.returns
 returns c =
-    let marks = c.args.t1 in
+    let marks = c.args.marks in
     let count = c.args.count in
     let long = front_length marks count (search rules) c.requires in
     ap place_of (sym (scan_end _ (take (count - 1) marks) false c.loop-place.place c.loop-place.invariant.1 (omega arith)))

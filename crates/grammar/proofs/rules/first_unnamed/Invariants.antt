@@ -11,7 +11,7 @@ use Rattle.word.proofs.ScanLaws.{Left, scan_hit, scan_miss, scan_end}
 use Rattle.grammar.proofs.rules.first_unnamed.Given as goal
 
 abbrev pub invariant-loop-place : goal.invariant-loop-place
-invariant-loop-place l = (place' ≤ l.count) × Left (λ place' mark. not mark) (take (l.count - 1) l.marks) place'
+invariant-loop-place l = (l.place ≤ l.count) × Left (λ at mark. not mark) (take (l.count - 1) l.marks) l.place
 
 abbrev pub decreases-loop-place : goal.decreases-loop-place
 decreases-loop-place l = l.count - l.place

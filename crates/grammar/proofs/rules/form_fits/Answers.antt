@@ -3,8 +3,6 @@ use Rattle.grammar.proofs.rules.form_fits.Goals as goal
 
 pub returns : goal.returns
 returns c =
-    let middle = c.before in
-    let first = middle.before.before.before.before in
     simp (
       c.all_below.ensures,
       c.key.ensures,
@@ -12,10 +10,10 @@ returns c =
       c.spare.ensures,
       c.rest_zero.ensures,
       c.raw.ensures,
-      middle.y.ensures,
-      middle.before.byte.ensures,
-      middle.before.before.key_form_lem.ensures,
-      first.variable.ensures,
-      first.before.slots.ensures,
-      first.before.before.count.ensures,
+      c.y.ensures,
+      c.byte.ensures,
+      c.key_form.ensures,
+      c.variable.ensures,
+      c.slots-children.ensures,
+      c.count-n.ensures,
     )

@@ -16,10 +16,9 @@ loop-slot-init c = (omega arith, c.requires, refl)
 pub bounds-children-slot : goal.bounds-children-slot
 bounds-children-slot c = omega (arith, c.child_count-n.ensures, children_count c.args.word)
 
--- TODO need slice-read-preserved
--- slice-read-again : tie.Need-slice-read-preserved invariant-loop decreases-loop
--- slice-read-again c =
---     rw (c.before.before.before.before.slots.ensures, c.before.before.loop.invariant.1) (slot_below c.before.before.before.before.before.before.args.word c.before.before.loop.slot)
+pub bounds-marks-child : goal.bounds-marks-child
+bounds-marks-child c =
+    rw (c.slots-children.ensures, c.loop-slot.invariant.1) (slot_below c.args.word c.loop-slot.slot)
 
 pub bounds-marks-child-in-loop-slot : goal.bounds-marks-child-in-loop-slot
 bounds-marks-child-in-loop-slot c =

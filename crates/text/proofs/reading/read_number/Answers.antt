@@ -1,3 +1,5 @@
+use mathlib.Core.Bool.{not}
+use mathlib.Core.Path.{ap}
 use Prim.Native.Nat.{◌-◌}
 use mathlib.Core.Path.{◌≡◌, refl}
 use native.Mathlib.Omega.{arith}
@@ -33,7 +35,7 @@ returns-then-value-eq0 c = search number-steps
 pub worth-requires : goal.worth-requires
 worth-requires c =
     let says = c.is_digit-in-loop-place.ensures in
-    (digit_low _ says c.if-not-is_digit-2.false, digit_high _ says c.if-not-is_digit-2.false)
+    (digit_low _ says (ap not c.if-not-is_digit-2.false), digit_high _ says (ap not c.if-not-is_digit-2.false))
 
 pub loop-place-preserved : goal.loop-place-preserved
 loop-place-preserved c =
@@ -41,7 +43,7 @@ loop-place-preserved c =
     let inside = c.loop-place-test.true in (
       turn.invariant.0,
       digit_read _ _ _ _ _ _ turn.invariant.1 _ (omega (arith, inside, turn.invariant.0)) c.if-most-value.false
-          c.if-byte-end.false c.is_digit-in-loop-place.ensures c.if-not-is_digit-2.false c.if-value-eq0.false c.worth.ensures.0,
+          c.if-byte-end.false c.is_digit-in-loop-place.ensures (ap not c.if-not-is_digit-2.false) c.if-value-eq0.false c.worth.ensures.0,
     )
 
 pub returns : goal.returns
