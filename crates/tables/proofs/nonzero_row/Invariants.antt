@@ -1,0 +1,16 @@
+-- The invariant: the rows passed leave the same answer.
+use Prim.Native.Nat.{◌≤◌, ◌-◌}
+use mathlib.Core.Path.{◌≡◌, sym, ap}
+use native.Mathlib.Omega.{arith}
+use lib.ListN.{length}
+use borrow.Author.Rules.{rules, scaled_Fits}
+use Rattle.word.specs.Lowest.{place_of}
+use Rattle.terms.specs.Rules.{nonzero_row}
+use Rattle.finder.proofs.BlockLaws.{nonzero_here, nonzero_next, nonzero_none}
+use Rattle.tables.proofs.nonzero_row.Given as goal
+
+abbrev pub invariant-loop-i : goal.invariant-loop-i
+invariant-loop-i l = (l.i ≤ length l.rows) × (nonzero_row l.rows l.from ≡ nonzero_row l.rows l.i)
+
+abbrev pub decreases-loop-i : goal.decreases-loop-i
+decreases-loop-i l = length l.rows - l.i

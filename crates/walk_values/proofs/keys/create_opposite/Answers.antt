@@ -1,0 +1,18 @@
+-- `walk_values::keys::create_opposite` meets its contract, a way out at a time.
+use Rattle.walk_values.proofs.KeyLaws.{opposite_asks, opposite_made, opposite-ways}
+use borrow.Author.Rules.{rules}
+use Rattle.walk_values.proofs.keys.create_opposite.Goals as goal
+
+pub opposite_key-requires : goal.opposite_key-requires
+opposite_key-requires c = opposite_asks _ _ _ _ _ _ _ _ _ _ c.get_variable-got.ensures _ c.in-Next.is c.requires
+
+pub returns-in-Next : goal.returns-in-Next
+returns-in-Next c =
+    opposite_made _ _ _ _ _ _ _ _ _ _ c.get_variable-got.ensures _ c.in-Next.is
+    c.opposite_key.ensures
+
+pub returns-in-Stuck : goal.returns-in-Stuck
+returns-in-Stuck c = search opposite-ways
+
+pub returns-in-NoRoom : goal.returns-in-NoRoom
+returns-in-NoRoom c = search opposite-ways
