@@ -4,7 +4,9 @@ use borrow.Author.Rules.{rules}
 use Rattle.walk_values.proofs.keys.create_opposite.Goals as goal
 
 pub opposite_key-requires : goal.opposite_key-requires
-opposite_key-requires c = opposite_asks _ _ _ _ _ _ _ _ _ _ c.get_variable-got.ensures _ c.in-Next.is c.requires
+opposite_key-requires c =
+    let asks = opposite_asks _ _ _ _ _ _ _ _ _ _ c.get_variable-got.ensures _ c.in-Next.is (c.requires.within, c.requires.public_in_bounds) in
+    record { within = asks.0; public_in_bounds = asks.1 }
 
 pub returns-in-Next : goal.returns-in-Next
 returns-in-Next c =

@@ -1,0 +1,15 @@
+use Prim.Native.Nat.{◌-◌, ◌≤◌}
+use mathlib.Core.Path.{◌≡◌, refl}
+use native.Mathlib.Omega.{arith}
+use lib.ListN.{length, drop}
+use borrow.Author.Rules.{rules}
+use Rattle.bundles.specs.Bundle.{clear_of}
+use Rattle.bundles.proofs.ClearLaws.{clear_here, set_here, all_clear}
+use Rattle.bundles.proofs.certificates_clear.Given as goal
+
+abbrev pub invariant-loop-place : goal.invariant-loop-place
+invariant-loop-place l =
+    (l.place-end ≡ length l.certificates) × (l.place ≤ length l.certificates) × (clear_of (drop l.place l.certificates) ≡ clear_of l.certificates)
+
+abbrev pub decreases-loop-place : goal.decreases-loop-place
+decreases-loop-place l = l.place-end - l.place

@@ -1,0 +1,8 @@
+use mathlib.Core.Path.{refl}
+use borrow.Author.Rules.{rules}
+use Rattle.bundles.specs.Bundle.{header_of}
+use Rattle.bundles.proofs.header_of.Goals as goal
+
+pub returns : goal.returns
+unfolding header_of
+returns c = refl

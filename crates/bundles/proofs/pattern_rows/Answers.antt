@@ -1,0 +1,11 @@
+use native.Mathlib.Omega.{arith}
+use borrow.Author.Rules.{rules}
+use Rattle.bundles.proofs.BundleLaws.{fields}
+use Rattle.bundles.proofs.pattern_rows.Goals as goal
+
+pub read_words-requires : goal.read_words-requires
+read_words-requires c = omega (arith, fields _ _ c.requires.0)
+
+pub returns : goal.returns
+returns c =
+    rw (fields _ _ c.requires.0).pattern c.read_words.ensures

@@ -1,0 +1,24 @@
+-- `leaf_matching::stages::same_as` meets its contract, a way out at a time.
+use Rattle.leaf_matching.proofs.StageLaws.{stage_stuck, stage_full, same_not, same_holds}
+use borrow.Author.Rules.{rules}
+use Rattle.leaf_matching.proofs.stages.same_as.Goals as goal
+
+pub returns-in-Stuck : goal.returns-in-Stuck
+returns-in-Stuck c = search (stage_stuck)
+
+pub returns-in-NoRoom : goal.returns-in-NoRoom
+returns-in-NoRoom c = search (stage_full)
+
+pub returns-in-Not : goal.returns-in-Not
+returns-in-Not c =
+    let came3 = c.came-in-Next-1 in
+    let same = c.same-tested in
+    let tested = c.tested-1 in
+    λ kind. same_not _ _ kind _ came3.given.1 same.ensures _ tested.given.1
+
+pub returns-in-Holds : goal.returns-in-Holds
+returns-in-Holds c =
+    let came3 = c.came-in-Next-1 in
+    let same = c.same-tested in
+    let enum_told = c.enum_told-1 in
+    λ kind. same_holds _ _ kind _ came3.given.1 same.ensures enum_told.given.1

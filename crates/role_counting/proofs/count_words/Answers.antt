@@ -1,0 +1,79 @@
+-- The halves so far are counted, and the rest goes on from the cells that they set.
+use Prim.Native.Nat.{◌-◌, ◌≤◌}
+use mathlib.Core.Path.{refl, sym, ◌∙◌}
+use native.Mathlib.Omega.{arith}
+use lib.ListN.{length}
+use borrow.Author.Rules.{rules}
+use Rattle.knowing.specs.Known.{known}
+use Rattle.compiler.specs.CompileKnown.{from_known}
+use Rattle.calls.proofs.RoleLaws.{rows_inside}
+use Rattle.role_counting.proofs.CountLaws.{part_of, Counting, counting_none, counting_small, counting_few, counting_more, counting_refused, counting_all}
+use Rattle.role_counting.proofs.count_words.Goals as goal
+
+pub loop-half-init : goal.loop-half-init
+loop-half-init c = (counting_none _ _ _ _ c.requires.2 refl, omega arith)
+
+pub bounds-counts-half : goal.bounds-counts-half
+bounds-counts-half c = c.loop-half-test.true
+
+pub overflow_cast-end : goal.overflow_cast-end
+overflow_cast-end c = omega (arith, c.shared_slice_known-in-loop-half-1.given c.loop-half.half)
+
+pub overflow_add-end : goal.overflow_add-end
+overflow_add-end c = omega (arith, rows_inside _ _ _ _ c.loop-half.invariant.0.reached c.loop-half-test.true, c.well_formed.0.1)
+
+pub offset_bounds-rows-row : goal.offset_bounds-rows-row
+offset_bounds-rows-row c = omega (arith, rows_inside _ _ _ _ c.loop-half.invariant.0.reached c.loop-half-test.true, c.well_formed.0.1)
+
+-- TODO need slice-bounds-count-half-start
+-- part-count-half-start : tie.Need-slice-bounds-count-half-start invariant-loop decreases-loop
+-- part-count-half-start c = omega arith
+
+-- TODO need slice-bounds-count-half-end
+-- part-count-half-end : tie.Need-slice-bounds-count-half-end invariant-loop decreases-loop
+-- part-count-half-end c = rows_inside _ _ _ _ c.before.before.loop.invariant.0.reached c.before.loop-test.true
+
+pub overflow_cast-result : goal.overflow_cast-result
+overflow_cast-result c = omega (arith, c.loop-half-test.true, c.requires.1)
+
+pub returns-then-number-ne0 : goal.returns-then-number-ne0
+returns-then-number-ne0 c =
+    counting_refused _ _ _ _ c.loop-half.invariant.0
+    c.loop-half-test.true (rw (part_of c.loop-half.row _ _)
+    at c.count_half-left.ensures)
+    (λ e. c.if-number-ne0.true (c.number.ensures.0 ∙ e))
+
+pub overflow_add-words : goal.overflow_add-words
+overflow_add-words c = omega (
+  arith,
+  counting_small _ _ _ _ c.loop-half.invariant.0,
+  c.loop-half.invariant.1,
+  c.requires.1,
+)
+
+pub overflow_add-words-in-loop-half : goal.overflow_add-words-in-loop-half
+overflow_add-words-in-loop-half c =
+    let loop = c.loop-half in
+    omega (
+      arith,
+      counting_small _ _ _ _ loop.invariant.0,
+      loop.invariant.1,
+      c.place.ensures,
+      counting_few _ _ _ _ loop.invariant.0 c.loop-half-test.true
+          (rw (part_of loop.row _ _) at c.count_half-left.ensures)
+          (sym c.number.ensures.0 ∙ c.if-number-ne0.false),
+      c.requires.1,
+    )
+
+pub loop-half-preserved : goal.loop-half-preserved
+loop-half-preserved c =
+    let loop = c.loop-half in
+    rw c.place.ensures (
+      counting_more _ _ _ _ loop.invariant.0 c.loop-half-test.true
+          (rw (part_of loop.row _ _) at c.count_half-left.ensures)
+          (sym c.number.ensures.0 ∙ c.if-number-ne0.false),
+      omega arith,
+    )
+
+pub returns : goal.returns
+returns c = counting_all _ _ _ _ c.loop-half.invariant.0 c.loop-half-test.false c.loop-half.invariant.1 c.requires.0

@@ -1,0 +1,31 @@
+use Prim.Native.Nat.{ℕ, ◌+◌, ◌-◌, ◌*◌, ◌<◌}
+use mathlib.Core.Path.{◌≡◌, refl, sym, ◌∙◌}
+use native.Mathlib.Omega.{arith}
+use lib.ListN.{length}
+use borrow.Author.Rules.{rules}
+use borrow.Author.Tests.{not-true, not-false}
+use Rattle.patterns.proofs.StandingLaws.{slot, stands_below, encryption_key, encryption_child, let_children, variable_low}
+use Rattle.surveys.proofs.ChildLaws.{encryption_created, encryption_matched, encryption_wrong, let_created, let_matched}
+use Rattle.surveys.proofs.PartLaws.{PartsLooked, parts_begin, parts_next, parts_end, tuple_children, tuple_created, tuple_matched}
+use Rattle.surveys.proofs.+surveying.Given as goal
+
+abbrev pub decreases-survey_encryption : goal.decreases-survey_encryption
+decreases-survey_encryption l = 8 * l.row + 6
+
+abbrev pub decreases-survey_let : goal.decreases-survey_let
+decreases-survey_let l = 8 * l.row + 6
+
+abbrev pub decreases-survey_parts : goal.decreases-survey_parts
+decreases-survey_parts l = 8 * l.row + 5
+
+abbrev pub decreases-survey_row : goal.decreases-survey_row
+decreases-survey_row l = 8 * l.row + 7
+
+abbrev pub decreases-survey_tuple : goal.decreases-survey_tuple
+decreases-survey_tuple l = 8 * l.row + 6
+
+abbrev pub invariant-survey_parts-loop-k : goal.invariant-survey_parts-loop-k
+invariant-survey_parts-loop-k l = PartsLooked l.create l.rows l.kinds l.children l.n l.initial.emission l.k l.emission
+
+abbrev pub decreases-survey_parts-loop-k : goal.decreases-survey_parts-loop-k
+decreases-survey_parts-loop-k l = l.n - l.k

@@ -1,0 +1,6 @@
+use Rattle.surveys.proofs.KeyLaws.{opposite_created}
+use borrow.Author.Rules.{rules}
+use Rattle.surveys.proofs.keys.create_opposite.Goals as goal
+
+pub returns : goal.returns
+returns c = search (opposite_created)

@@ -1,0 +1,12 @@
+use Rattle.surveys.proofs.KeyLaws.{variable-ways}
+use borrow.Author.Rules.{rules}
+use Rattle.surveys.proofs.keys.create_variable.Goals as goal
+
+pub returns-then-object_known : goal.returns-then-object_known
+returns-then-object_known c = search variable-ways
+
+pub returns-then-creatable : goal.returns-then-creatable
+returns-then-creatable c = search variable-ways
+
+pub returns-else-creatable : goal.returns-else-creatable
+returns-else-creatable c = search variable-ways

@@ -1,0 +1,6 @@
+use Rattle.surveys.proofs.KeyLaws.{key_derived}
+use borrow.Author.Rules.{rules}
+use Rattle.surveys.proofs.keys.derive_key.Goals as goal
+
+pub returns : goal.returns
+returns c = search (key_derived)

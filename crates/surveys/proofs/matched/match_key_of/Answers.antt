@@ -1,0 +1,6 @@
+use Rattle.surveys.proofs.LeafLaws.{key_of_matched}
+use borrow.Author.Rules.{rules}
+use Rattle.surveys.proofs.matched.match_key_of.Goals as goal
+
+pub returns : goal.returns
+returns c = search (key_of_matched)

@@ -1,0 +1,36 @@
+-- The checks leave a root row to stand at; what the looks hold is what emission is refused with.
+use Prim.Native.Nat.{ℕ}
+use mathlib.Core.Path.{refl, ap, ◌∙◌}
+use mathlib.Core.Bool.{Bool}
+use mathlib.Core.List.{List}
+use native.Mathlib.Omega.{arith}
+use lib.ListN.{length}
+use borrow.Author.Rules.{rules}
+use Rattle.word.proofs.CopyLaws.{laid}
+use Rattle.knowing.specs.Known.{known}
+use Rattle.calls.proofs.HalfLaws.{KnownPassed, known_passed}
+use Rattle.layout.proofs.RowLaws.{root_pattern, root_stands}
+use Rattle.surveys.proofs.FoundLaws.{pattern_found}
+use Rattle.surveys.proofs.survey.Goals as goal
+
+pub lay_rows-requires : goal.lay_rows-requires
+lay_rows-requires c = record { pattern_len_bound = (known_passed c.args.create c.args.pattern.now c.args.kinds.now (known c.args.objects) c.requires).lengths.most; rows_len = ap length c.no_rows-rows.ensures }
+
+pub overflow_sub-root : goal.overflow_sub-root
+overflow_sub-root c = (known_passed c.args.create c.args.pattern.now c.args.kinds.now (known c.args.objects) c.requires).lengths.least
+
+pub overflow_cast-root : goal.overflow_cast-root
+overflow_cast-root c = omega (arith, (known_passed c.args.create c.args.pattern.now c.args.kinds.now (known c.args.objects) c.requires).lengths.most)
+
+pub all_kinds-all-requires : goal.all_kinds-all-requires
+all_kinds-all-requires c = (known_passed c.args.create c.args.pattern.now c.args.kinds.now (known c.args.objects) c.requires).lengths.kinds_length
+
+pub survey_row-requires : goal.survey_row-requires
+survey_row-requires c =
+    rw (laid c.args.pattern.now 96 0 c.no_rows-rows.ensures c.lay_rows.ensures)
+    (record { stands = root_stands c.args.pattern.now (known_passed c.args.create c.args.pattern.now c.args.kinds.now (known c.args.objects) c.requires).lengths.least (known_passed c.args.create c.args.pattern.now c.args.kinds.now (known c.args.objects) c.requires).lengths.most (known_passed c.args.create c.args.pattern.now c.args.kinds.now (known c.args.objects) c.requires).rows_good; emission_len = refl })
+
+pub returns : goal.returns
+returns c =
+    let d = rw (laid c.args.pattern.now 96 0 c.no_rows-rows.ensures c.lay_rows.ensures, c.all_kinds-all.ensures) at c.survey_row.ensures in
+    c.found.ensures ∙ pattern_found c.args.create c.args.pattern.now c.args.kinds.now (root_pattern c.args.pattern.now (known_passed c.args.create c.args.pattern.now c.args.kinds.now (known c.args.objects) c.requires).lengths.least (known_passed c.args.create c.args.pattern.now c.args.kinds.now (known c.args.objects) c.requires).lengths.most) d
