@@ -25,13 +25,8 @@ overflow_add-end c = omega (arith, rows_inside _ _ _ _ c.loop-half.invariant.0.r
 pub offset_bounds-rows-row : goal.offset_bounds-rows-row
 offset_bounds-rows-row c = omega (arith, rows_inside _ _ _ _ c.loop-half.invariant.0.reached c.loop-half-test.true, c.well_formed.0.1)
 
--- TODO need slice-bounds-count-half-start
--- part-count-half-start : tie.Need-slice-bounds-count-half-start invariant-loop decreases-loop
--- part-count-half-start c = omega arith
-
--- TODO need slice-bounds-count-half-end
--- part-count-half-end : tie.Need-slice-bounds-count-half-end invariant-loop decreases-loop
--- part-count-half-end c = rows_inside _ _ _ _ c.before.before.loop.invariant.0.reached c.before.loop-test.true
+pub slice_bounds-count_half-end : goal.slice_bounds-count_half-end
+slice_bounds-count_half-end c = rows_inside _ _ _ _ c.loop-half.invariant.0.reached c.loop-half-test.true
 
 pub overflow_cast-result : goal.overflow_cast-result
 overflow_cast-result c = omega (arith, c.loop-half-test.true, c.requires.1)

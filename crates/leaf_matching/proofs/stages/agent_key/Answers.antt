@@ -14,19 +14,15 @@ returns-in-NoRoom c = search (stage_full)
 
 pub returns-in-Not : goal.returns-in-Not
 returns-in-Not c =
-    let came3 = c.came-in-Next-1 in
     let object-at = c.object_at-whose in
     let if1 = c.if-whose in
     let key_of_lem = c.key_of-opened in
-    let opened = c.opened-1 in
-    agent_not _ _ _ _ _ came3.given.1 _ object-at.ensures if1.false key_of_lem.ensures _ opened.given.1
+    agent_not _ _ _ _ _ c.in-Next.is _ object-at.ensures if1.false key_of_lem.ensures _ c.in-Not.is
 
 pub returns-in-Row : goal.returns-in-Row
 returns-in-Row c =
-    let came3 = c.came-in-Next-1 in
     let object-at = c.object_at-whose in
     let if1 = c.if-whose in
     let key_of_lem = c.key_of-opened in
-    let opened2 = c.opened-in-Row-1 in
     let meeting = c.meeting in
-    agent_row _ _ _ _ _ came3.given.1 _ object-at.ensures if1.false key_of_lem.ensures _ _ opened2.given.1 meeting.ensures
+    agent_row _ _ _ _ _ c.in-Next.is _ object-at.ensures if1.false key_of_lem.ensures _ _ c.in-Row.is meeting.ensures

@@ -11,14 +11,10 @@ returns-in-NoRoom c = search (stage_full)
 
 pub returns-in-Not : goal.returns-in-Not
 returns-in-Not c =
-    let came3 = c.came-in-Next-1 in
     let same = c.same-tested in
-    let tested = c.tested-1 in
-    λ kind. same_not _ _ kind _ came3.given.1 same.ensures _ tested.given.1
+    λ kind. same_not _ _ kind _ c.in-Next.is same.ensures _ c.in-Not.is
 
 pub returns-in-Holds : goal.returns-in-Holds
 returns-in-Holds c =
-    let came3 = c.came-in-Next-1 in
     let same = c.same-tested in
-    let enum_told = c.enum_told-1 in
-    λ kind. same_holds _ _ kind _ came3.given.1 same.ensures enum_told.given.1
+    λ kind. same_holds _ _ kind _ c.in-Next.is same.ensures c.in-Holds.is

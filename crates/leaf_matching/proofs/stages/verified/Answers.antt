@@ -6,10 +6,9 @@ use Rattle.leaf_matching.proofs.stages.verified.Goals as goal
 pub returns-then-body : goal.returns-then-body
 returns-then-body c =
     let start = c.requires in
-    let came3 = c.came-in-Next-1 in
     let message-at = c.message_at-body in
     let if1 = c.if-body in
-    verify_unset _ _ _ _ (start) _ _ came3.given.1 _ message-at.ensures if1.true
+    verify_unset _ _ _ _ (start) _ _ c.in-Next.is _ message-at.ensures if1.true
 
 pub returns-in-Stuck : goal.returns-in-Stuck
 returns-in-Stuck c = search (stage_stuck)
@@ -20,19 +19,15 @@ returns-in-NoRoom c = search (stage_full)
 pub returns-in-Not : goal.returns-in-Not
 returns-in-Not c =
     let start = c.requires in
-    let came3 = c.came-in-Next-1 in
     let message-at = c.message_at-body in
     let if1 = c.if-body in
     let verify = c.verify-tested in
-    let tested = c.tested-1 in
-    verify_not _ _ _ _ (start) _ _ came3.given.1 _ message-at.ensures if1.false verify.ensures _ tested.given.1
+    verify_not _ _ _ _ (start) _ _ c.in-Next.is _ message-at.ensures if1.false verify.ensures _ c.in-Not.is
 
 pub returns-in-Holds : goal.returns-in-Holds
 returns-in-Holds c =
     let start = c.requires in
-    let came3 = c.came-in-Next-1 in
     let message-at = c.message_at-body in
     let if1 = c.if-body in
     let verify = c.verify-tested in
-    let enum_told = c.enum_told-1 in
-    verify_holds _ _ _ _ (start) _ _ came3.given.1 _ message-at.ensures if1.false verify.ensures enum_told.given.1
+    verify_holds _ _ _ _ (start) _ _ c.in-Next.is _ message-at.ensures if1.false verify.ensures c.in-Holds.is

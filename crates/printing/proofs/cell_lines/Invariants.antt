@@ -1,0 +1,20 @@
+-- The invariant: the lines of the cells passed are written.
+use Prim.Native.Nat.{◌-◌, ◌≤◌}
+use mathlib.Core.Path.{◌≡◌, refl}
+use native.Mathlib.Omega.{arith}
+use lib.ListN.{length, take, length-take}
+use lib.Seq.{take_all}
+use borrow.Author.Rules.{rules}
+use Rattle.text.specs.Written.{Wrote}
+use Rattle.text.proofs.WrittenLaws.{wrote_length}
+use Rattle.printing.specs.Listing.{cell_lines}
+use Rattle.printing.proofs.NumberedLaws.{no_line, one_line}
+use Rattle.printing.proofs.LineLaws.{cells_numbered, cells_end}
+use Rattle.printing.proofs.cell_lines.Given as goal
+
+abbrev pub invariant-loop-number : goal.invariant-loop-number
+invariant-loop-number l =
+    (l.number-end ≡ length l.cells) × (l.number ≤ length l.cells) × Wrote (cell_lines l.word 0 (take l.number l.cells)) l.initial.out l.at l.out l.next
+
+abbrev pub decreases-loop-number : goal.decreases-loop-number
+decreases-loop-number l = l.number-end - l.number

@@ -1,0 +1,20 @@
+-- The invariant: the lines of the words passed are written.
+use Prim.Native.Nat.{◌-◌, ◌≤◌}
+use mathlib.Core.Path.{◌≡◌, refl}
+use native.Mathlib.Omega.{arith}
+use lib.ListN.{length, take, length-take}
+use lib.Seq.{take_all}
+use borrow.Author.Rules.{rules}
+use Rattle.text.specs.Written.{Wrote}
+use Rattle.text.proofs.WrittenLaws.{wrote_length}
+use Rattle.printing.specs.Listing.{code_lines}
+use Rattle.printing.proofs.NumberedLaws.{no_line, one_line}
+use Rattle.printing.proofs.LineLaws.{code_numbered, code_end}
+use Rattle.printing.proofs.code_lines.Given as goal
+
+abbrev pub invariant-loop-place : goal.invariant-loop-place
+invariant-loop-place l =
+    (l.place-end ≡ length l.code) × (l.place ≤ length l.code) × Wrote (code_lines 0 (take l.place l.code)) l.initial.out 0 l.out l.next
+
+abbrev pub decreases-loop-place : goal.decreases-loop-place
+decreases-loop-place l = l.place-end - l.place

@@ -1,0 +1,6 @@
+use borrow.Author.Rules.{rules}
+use Rattle.printing.proofs.RanLaws.{ways}
+use Rattle.printing.proofs.end_line.Goals as goal
+
+pub returns : goal.returns
+returns c = search ways

@@ -1,0 +1,24 @@
+use mathlib.Core.Path.{sym}
+use native.Mathlib.Omega.{arith}
+use lib.ListN.{length-take}
+use lib.Seq.{length-take-le}
+use borrow.Author.Rules.{rules}
+use Rattle.printing.proofs.LineLaws.{cells_end}
+use Rattle.printing.proofs.RanLaws.{ways}
+use Rattle.printing.proofs.store_lines.Goals as goal
+
+-- TODO need slice-aggregate-cell-lines-3
+-- slice-aggregate-cell-lines-3 : tie.Need-slice-aggregate-cell-lines-3
+-- slice-aggregate-cell-lines-3 c = sym (length-take-le 64 c.before.before.before.before.before.before.before.before.before.before.before.args.messages.now (omega arith))
+
+pub cell_lines-requires : goal.cell_lines-requires
+cell_lines-requires c =
+    omega (
+      arith,
+      cells_end _ _ c.cell_lines-next.ensures (omega arith),
+      length-take 64
+          c.args.messages.now,
+    )
+
+pub returns : goal.returns
+returns c = search ways

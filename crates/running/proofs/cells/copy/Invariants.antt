@@ -1,0 +1,13 @@
+-- Up to the cell the two slices agree.
+use Prim.Native.Nat.{◌-◌}
+use native.Mathlib.Omega.{arith}
+use borrow.Author.Rules.{scaled_Fits}
+use lib.ListN.{length}
+use Rattle.word.proofs.CopyLaws.{Copied, copied_none, copied_more, copied_whole}
+use Rattle.running.proofs.cells.copy.Given as goal
+
+abbrev pub invariant-loop-cell : goal.invariant-loop-cell
+invariant-loop-cell l = Copied l.from l.initial.to l.to l.cell
+
+abbrev pub decreases-loop-cell : goal.decreases-loop-cell
+decreases-loop-cell l = length l.from - l.cell

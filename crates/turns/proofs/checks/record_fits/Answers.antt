@@ -1,0 +1,5 @@
+use borrow.Author.Rules.{rules}
+use Rattle.turns.proofs.checks.record_fits.Goals as goal
+
+pub returns : goal.returns
+returns c = rw (c.valid.ensures, c.cell_fits.ensures)
