@@ -15,7 +15,7 @@ overflow_add-end c =
     let put : HalfPut c.args.place c.args.code.now c.compile_known-left.result.answer c.compile_known-left.new.buffer (known c.compile_known-left.result.objects)
     (known c.compile_known-left.result.named)
     (half c.args.create c.args.pattern.now c.args.kinds.now (from_known (known c.args.objects) (known c.args.named))) = half_put _ _ _ _ _ _ (c.compile_known-left.ensures ∙ known_half _ _ _ _ _ _) c.requires in
-    omega (arith, c.place-count.ensures, put.fits, c.good.1.1.1.1.1.1.0.1)
+    omega (arith, c.place-count.ensures, put.fits, c.well_formed.1.1.1.1.1.1.0.1)
 
 pub slice_bounds-buffer-end : goal.slice_bounds-buffer-end
 slice_bounds-buffer-end c =
@@ -36,7 +36,7 @@ offset_bounds-code-place c =
     let put : HalfPut c.args.place c.args.code.now c.compile_known-left.result.answer c.compile_known-left.new.buffer (known c.compile_known-left.result.objects)
     (known c.compile_known-left.result.named)
     (half c.args.create c.args.pattern.now c.args.kinds.now (from_known (known c.args.objects) (known c.args.named))) = half_put _ _ _ _ _ _ (c.compile_known-left.ensures ∙ known_half _ _ _ _ _ _) c.requires in
-    omega (arith, put.fits, c.good.1.1.1.1.1.1.0.1)
+    omega (arith, put.fits, c.well_formed.1.1.1.1.1.1.0.1)
 
 pub slice_bounds-copy-end-2 : goal.slice_bounds-copy-end-2
 slice_bounds-copy-end-2 c =

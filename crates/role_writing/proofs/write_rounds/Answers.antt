@@ -39,7 +39,9 @@ overflow_cast-end c = omega (arith, c.shared_slice_known-in-loop-round-2-1.given
 
 pub overflow_add-end-in-loop-round : goal.overflow_add-end-in-loop-round
 overflow_add-end-in-loop-round c =
-    omega (arith, (ahead _ _ _ _ _ _ (all c).all (all c).ranges c.requires.counts_len.0 c.loop-round.invariant c.loop-round-test.true).next.rows_left, c.well_formed.0.1)
+    let all : AllCompiled (length c.args.code.now)
+    (whole c.args.kinds.now c.args.counts.now c.args.rows.now (from_known (known c.args.objects) (known c.args.named))) = all_compiled _ _ c.requires.rounds_fit in
+    omega (arith, (ahead _ _ _ _ _ _ all.all all.fits c.requires.counts_len.0 c.loop-round.invariant c.loop-round-test.true).next.rows_left, c.well_formed.0.1)
 
 pub offset_bounds-rows-row : goal.offset_bounds-rows-row
 offset_bounds-rows-row c = omega (
@@ -61,20 +63,26 @@ offset_bounds-rows-middle c = omega (
 
 pub slice_bounds-write_round-end-in-loop-round : goal.slice_bounds-write_round-end-in-loop-round
 slice_bounds-write_round-end-in-loop-round c =
-    omega (arith, (ahead _ _ _ _ _ _ (all c).all (all c).ranges c.requires.counts_len.0 c.loop-round.invariant c.loop-round-test.true).next.rows_left)
+    let all : AllCompiled (length c.args.code.now)
+    (whole c.args.kinds.now c.args.counts.now c.args.rows.now (from_known (known c.args.objects) (known c.args.named))) = all_compiled _ _ c.requires.rounds_fit in
+    omega (arith, (ahead _ _ _ _ _ _ all.all all.fits c.requires.counts_len.0 c.loop-round.invariant c.loop-round-test.true).next.rows_left)
 
 pub write_round-left-requires : goal.write_round-left-requires
 write_round-left-requires c =
+    let all : AllCompiled (length c.args.code.now)
+    (whole c.args.kinds.now c.args.counts.now c.args.rows.now (from_known (known c.args.objects) (known c.args.named))) = all_compiled _ _ c.requires.rounds_fit in
     let loop = c.loop-round in
-    rw (part_of loop.row _ _, part_of (loop.row + _) _ _) (round_fits _ _ _ _ _ _ (all c).all (all c).ranges c.requires.counts_len.0 loop.invariant
+    rw (part_of loop.row _ _, part_of (loop.row + _) _ _) (round_fits _ _ _ _ _ _ all.all all.fits c.requires.counts_len.0 loop.invariant
     c.loop-round-test.true)
 
 pub overflow_cast-ends : goal.overflow_cast-ends
 overflow_cast-ends c =
+    let all : AllCompiled (length c.args.code.now)
+    (whole c.args.kinds.now c.args.counts.now c.args.rows.now (from_known (known c.args.objects) (known c.args.named))) = all_compiled _ _ c.requires.rounds_fit in
     let loop = c.loop-round in
     omega (
       arith,
-      end_small _ _ _ _ _ _ (all c).all (all c).ranges c.requires.counts_len.0 loop.invariant
+      end_small _ _ _ _ _ _ all.all all.fits c.requires.counts_len.0 loop.invariant
           c.loop-round-test.true
           (rw (part_of loop.row _ _, part_of (loop.row + _) _ _) at c.write_round-left.ensures),
       c.loop-round-test.true,
@@ -97,8 +105,10 @@ bounds-ends-round c = omega (
 
 pub loop-round-preserved : goal.loop-round-preserved
 loop-round-preserved c =
+    let all : AllCompiled (length c.args.code.now)
+    (whole c.args.kinds.now c.args.counts.now c.args.rows.now (from_known (known c.args.objects) (known c.args.named))) = all_compiled _ _ c.requires.rounds_fit in
     let loop = c.loop-round in
-    writing_more _ _ _ _ _ _ (all c).all (all c).ranges c.requires.counts_len.0 loop.invariant
+    writing_more _ _ _ _ _ _ all.all all.fits c.requires.counts_len.0 loop.invariant
     c.loop-round-test.true
     (rw (part_of loop.row _ _, part_of (loop.row + _) _ _) at c.write_round-left.ensures)
 
@@ -109,4 +119,8 @@ pub shape_of-code : goal.shape_of-code
 shape_of-code c = c.loop-round.invariant.code_long
 
 pub returns : goal.returns
-returns c = writing_all _ _ _ _ _ _ (all c).all (all c).ranges c.requires.counts_len.0 c.loop-round.invariant c.loop-round-test.false
+returns c =
+    let all : AllCompiled (length c.args.code.now)
+    (whole c.args.kinds.now c.args.counts.now c.args.rows.now (from_known (known c.args.objects) (known c.args.named))) = all_compiled _ _ c.requires.rounds_fit in
+    let written = writing_all _ _ _ _ _ _ all.all all.fits c.requires.counts_len.0 c.loop-round.invariant c.loop-round-test.false in
+    record { ends_after = written.0; code_after = written.1 }

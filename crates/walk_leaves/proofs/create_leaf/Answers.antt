@@ -46,7 +46,7 @@ certified_key-requires c = record { within = c.requires.within; key_in_bounds = 
   ) }
 
 pub create_signature-requires : goal.create_signature-requires
-create_signature-requires c = let s = c.requires in record { stands_at = s.stands_at; word_value = sym c.tag-tag.ensures ∙ c.in-6.is; within = s.leaf.1.0; objects_len = s.leaf.1.1 }
+create_signature-requires c = let s = c.requires in record { stands_at = s.stands_at; word_value = sym c.tag-tag.ensures ∙ c.in-6.is; within = s.within; objects_len = s.objects_len }
 
 pub create_hash-requires : goal.create_hash-requires
 create_hash-requires c = record { within = c.requires.within; h_in_bounds = (

@@ -8,7 +8,7 @@ pub hashed-made-requires : goal.hashed-made-requires
 hashed-made-requires c =
     let start = c.requires in
     let inputs = c.args in
-    let decode = c.decode-decoded in record { r_lt_named_cells = start.h_in_bounds.1; inside = decoded_inside _ (kind_in inputs.kinds.now) _ _ _ _ decode.ensures start.within }
+    let decode = c.decode-decoded in record { r_lt_named_cells = start.r_lt_named_cells; inside = decoded_inside _ (kind_in inputs.kinds.now) _ _ _ _ decode.ensures start.within }
 
 pub returns : goal.returns
 returns c = search (hash_same)

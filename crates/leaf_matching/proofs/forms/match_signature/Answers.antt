@@ -8,7 +8,7 @@ pub signing_key-keyed-requires : goal.signing_key-keyed-requires
 signing_key-keyed-requires c =
     let inputs = c.args in
     let decode = c.decode-decoded in
-    let start = c.requires in record { inside = decoded_inside _ (kind_in inputs.kinds.now) _ _ _ _ decode.ensures start.within; word_in_bounds = decoded_low _ (kind_in inputs.kinds.now) _ _ _ _ decode.ensures start.word_in_bounds.1.0; word_bound = start.word_in_bounds.1.1 }
+    let start = c.requires in record { inside = decoded_inside _ (kind_in inputs.kinds.now) _ _ _ _ decode.ensures start.within; word_in_bounds = decoded_low _ (kind_in inputs.kinds.now) _ _ _ _ decode.ensures start.word_in_bounds_2; word_bound = start.word_bound }
 
 pub verified-requires : goal.verified-requires
 verified-requires c = search (raw_low)

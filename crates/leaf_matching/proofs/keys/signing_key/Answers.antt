@@ -24,7 +24,7 @@ returns-in-0 c =
     let key_form_lem = c.key_form-by in
     let inner-arm = c.in-0 in
     let held-key = c.held_key in
-    signing_held _ _ _ _ _ _ start.word_in_bounds.1 _ c.in-Next.is _ _ key.ensures y.ensures _ key_form_lem.ensures inner-arm.is held-key.ensures
+    signing_held _ _ _ _ _ _ start.word_bound _ c.in-Next.is _ _ key.ensures y.ensures _ key_form_lem.ensures inner-arm.is held-key.ensures
 
 pub returns-in-1 : goal.returns-in-1
 returns-in-1 c =
@@ -34,7 +34,7 @@ returns-in-1 c =
     let key_form_lem = c.key_form-by in
     let inner-arm = c.in-1 in
     let opposite-of = c.opposite_of in
-    signing_opposite _ _ _ _ _ _ start.word_in_bounds.1 _ c.in-Next.is _ _ key.ensures y.ensures _ key_form_lem.ensures inner-arm.is opposite-of.ensures
+    signing_opposite _ _ _ _ _ _ start.word_bound _ c.in-Next.is _ _ key.ensures y.ensures _ key_form_lem.ensures inner-arm.is opposite-of.ensures
 
 pub returns-in_default : goal.returns-in_default
 returns-in_default c =
@@ -44,5 +44,5 @@ returns-in_default c =
     let key_form_lem = c.key_form-by in
     let inner-arm = c.in_default in
     let certified_key_lem = c.certified_key in
-    signing_certified _ _ _ _ _ _ start.word_in_bounds.1 _ c.in-Next.is _ _ key.ensures y.ensures _ key_form_lem.ensures inner-arm.rest.0.1 inner-arm.rest.1
+    signing_certified _ _ _ _ _ _ start.word_bound _ c.in-Next.is _ _ key.ensures y.ensures _ key_form_lem.ensures inner-arm.in_default-own.rest.0.1 inner-arm.in_default-own.rest.1
     certified_key_lem.ensures

@@ -1,0 +1,32 @@
+-- The cycle of `create_row` meets its contracts: the row number falls at each child.
+use mathlib.Core.Path.{refl, sym, ◌∙◌}
+use mathlib.Core.List.{[]}
+use native.Mathlib.Omega.{arith}
+use Rattle.machine.specs.Machine.{slices}
+use Rattle.patterns.proofs.StandingLaws.{slot, stands_below, encryption_key, encryption_child, let_children, variable_low}
+use Rattle.walk_values.proofs.ThenLaws.{next_kept, next_within}
+use Rattle.walk_leaves.proofs.FormLaws.{key_asks, raw_low}
+use Rattle.walk_creating.proofs.ChildLaws.{key_stuck, key_full, part_stuck, part_full, part_sealed, let_stuck, let_full, let_set, let_second}
+use Rattle.walk_creating.proofs.PartLaws.{Gathered, tuple_few, part_low, gathered_none, gathered_more, tuple_stuck, tuple_full, tuple_made}
+use borrow.Author.Rules.{rules}
+use Prim.Native.Nat.{ℕ, ◌+◌, ◌-◌, ◌*◌, ◌<◌}
+use Rattle.walk_creating.proofs.+creating.Given as goal
+
+abbrev pub decreases-create_encryption : goal.decreases-create_encryption
+decreases-create_encryption l = 8 * l.row + 6
+
+abbrev pub decreases-create_let : goal.decreases-create_let
+decreases-create_let l = 8 * l.row + 6
+
+abbrev pub decreases-create_row : goal.decreases-create_row
+decreases-create_row l = 8 * l.row + 7
+
+abbrev pub decreases-create_tuple : goal.decreases-create_tuple
+decreases-create_tuple l = 8 * l.row + 6
+
+abbrev pub invariant-create_tuple-loop-k : goal.invariant-create_tuple-loop-k
+invariant-create_tuple-loop-k l =
+    Gathered l.rows l.kinds l.word l.initial.here (slices l.initial.objects l.initial.named l.initial.terms l.certificates) l.k l.parts l.here (slices l.objects l.named l.terms l.certificates)
+
+abbrev pub decreases-create_tuple-loop-k : goal.decreases-create_tuple-loop-k
+decreases-create_tuple-loop-k l = l.count - l.k
