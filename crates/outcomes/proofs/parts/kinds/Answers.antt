@@ -1,0 +1,6 @@
+use borrow.Author.Rules.{rules}
+use Rattle.outcomes.proofs.PartLaws.{whole}
+use Rattle.outcomes.proofs.parts.kinds.Goals as goal
+
+pub returns : goal.returns
+returns c = whole c.kinds.ensures

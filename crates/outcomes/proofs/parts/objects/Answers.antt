@@ -1,0 +1,6 @@
+use borrow.Author.Rules.{rules}
+use Rattle.outcomes.proofs.PartLaws.{whole}
+use Rattle.outcomes.proofs.parts.objects.Goals as goal
+
+pub returns : goal.returns
+returns c = whole c.object_cells.ensures
