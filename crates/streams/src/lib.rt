@@ -31,3 +31,52 @@ pub fn read_full<R: Read>(input: &mut R, buf: &mut [u8]) -> io::Result<usize>
     }
     Ok(done)
 }
+
+#[cfg(test)]
+mod tests {
+    use super::*;
+    use std::test::Fail;
+
+    // Gives a byte a read, and fails where none is left.
+    #[derive(Drop)]
+    struct Drip {
+        left: u8,
+    }
+
+    impl Read for Drip {
+        fn read(&mut self, buf: &mut [u8]) -> io::Result<usize> {
+            if buf.len() == 0 {
+                return Ok(0);
+            }
+            if self.left == 0 {
+                return Err(io::Error::from(io::ErrorKind::Other));
+            }
+            buf[0] = self.left;
+            self.left -= 1;
+            Ok(1)
+        }
+    }
+
+    #[test]
+    fn fills_by_short_reads(rt: HostRuntime) -> Result<(), Fail> {
+        let mut buf = [0u8; 3];
+        assert_eq!(rt; read_full(&mut Drip { left: 5 }, &mut buf)?, 3);
+        assert_eq!(rt; buf, [5, 4, 3]);
+        Ok(())
+    }
+
+    #[test]
+    fn fails_where_a_read_does(rt: HostRuntime) {
+        let mut buf = [0u8; 3];
+        assert!(rt; read_full(&mut Drip { left: 2 }, &mut buf).is_err());
+    }
+
+    #[test]
+    fn stops_at_the_end(rt: HostRuntime) -> Result<(), Fail> {
+        let mut input: &[u8] = b"ab";
+        let mut buf = [0u8; 3];
+        assert_eq!(rt; read_full(&mut input, &mut buf)?, 2);
+        assert_eq!(rt; buf, [97, 98, 0]);
+        Ok(())
+    }
+}
