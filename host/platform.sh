@@ -42,20 +42,36 @@ set_up_compilers() {
     export CARGO_TARGET_X86_64_UNKNOWN_LINUX_GNU_RUNNER=$emulator
 }
 
-# Makes FILE by a command of the kit, unless it is there and no source is newer.
-made_by() { # FILE COMMAND..
-    made=$1
-    shift
-    if [ -e "$made" ]; then
-        newer=$(find "$top/crates.txt" "$top/crates" -newer "$made" -type f | head -n 1)
-        [ -n "$newer" ] || return 0
-    fi
-    if ! has rt; then
-        echo "the Rattle kit's command rt is not on the PATH" >&2
-        exit 2
-    fi
-    (cd "$top" && "$@") >&2 && touch "$made"
+# Whether FILE is there and no source is newer.
+is_made() { # FILE
+    [ -e "$1" ] && [ -z "$(find "$top/crates.txt" "$top/crates" -name out -prune -o -newer "$1" -type f -print | head -n 1)" ]
 }
+
+# Copies to FILE what a command of the kit leaves as NAME in out/ of CRATE, unless FILE is there and no source is newer. The command runs
+# in the crate's folder, and not where an earlier one, as rt ci, left the same.
+made_by() { # FILE CRATE NAME COMMAND..
+    made=$1 folder=$top/crates/$2 left=$top/crates/$2/out/$3
+    shift 3
+    is_made "$made" && return
+    if ! is_made "$left"; then
+        if ! has rt; then
+            echo "the Rattle kit's command rt is not on the PATH" >&2
+            exit 2
+        fi
+        (cd "$folder" && "$@") && touch "$left" || return 1
+    fi
+    mkdir -p "$(dirname "$made")" && cp "$left" "$made"
+}
+
+proves_library() { rt lib >&2; }
+
+# Runs the program on no input: what it prints is not wanted.
+proves_program() { rt run </dev/null >/dev/null; }
+
+# The proved archive, under the name that C callers link.
+made_archive() { made_by "$archive" cram_c libcram_c.a proves_library; }
+
+made_program() { made_by "$top/target/bin/$1" "$1" "$1" proves_program; } # NAME
 
 # What the program `reading` reads: the bundle's length in eight bytes, the bundle, and the code lines.
 reading_input() { # BUNDLE LINES

@@ -56,10 +56,7 @@ program_tests() {
     count $wrong 'listing of bundles made from a seed'
 }
 
-made() {
-    made_by "$archive" rt staticlib cram && made_by "$top/target/bin/listing" rt check listing &&
-        made_by "$top/target/bin/reading" rt check reading
-}
+made() { made_archive && made_program listing && made_program reading; }
 
 if made; then
     set_up_compilers

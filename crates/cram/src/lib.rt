@@ -15,8 +15,7 @@ pub mod session;
 mod tables;
 
 // The code of a pattern; create is 0 for matching, 1 for creating.
-#[unsafe(no_mangle)]
-pub extern "C" fn cram_compile(
+pub fn cram_compile(
     create: u8,
     pattern: &[u8],
     kinds: &[u8],
@@ -58,8 +57,7 @@ pub extern "C" fn cram_compile(
 }
 
 // Code over stores and a table of terms.
-#[unsafe(no_mangle)]
-pub extern "C" fn cram_run(
+pub fn cram_run(
     kinds: &[u8],
     objects: &mut [u8],
     messages: &mut [u8],

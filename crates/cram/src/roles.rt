@@ -5,8 +5,7 @@ ghost use Rattle.role_lending.specs.RoleEntry.{role_entry};
 use role_lending::RoleAnswer;
 
 // The code of all the rounds of a role.
-#[unsafe(no_mangle)]
-pub extern "C" fn cram_compile_role(
+pub fn cram_compile_role(
     rows: &[u8],
     counts: &[u8],
     kinds: &[u8],

@@ -9,8 +9,7 @@ use lending::{RoundAnswer, TakeAnswer, arrays, runs, sessions};
 use numbers::limits::MOST_ROUND_WORDS;
 
 // A round's code over a session record, stores and a table of terms.
-#[unsafe(no_mangle)]
-pub extern "C" fn cram_round(
+pub fn cram_round(
     session: &mut [u8],
     rounds: u32,
     kinds: &[u8],
@@ -69,8 +68,7 @@ pub extern "C" fn cram_round(
 }
 
 // The answer that waits; 1 is a record of another length.
-#[unsafe(no_mangle)]
-pub extern "C" fn cram_take(session: &mut [u8]) -> TakeAnswer
+pub fn cram_take(session: &mut [u8]) -> TakeAnswer
     ensures { record { answer = result; session = session.new } ≡ take_entry session.old }
 {
     if session.len() != RECORD_BYTES {

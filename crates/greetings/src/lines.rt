@@ -1,39 +1,40 @@
 // What is printed.
-use libc::STDOUT_FILENO;
+use std::io;
 
-pub fn number(n: u32) {
-    io::write_all(STDOUT_FILENO, b" ");
-    io::print_decimal(STDOUT_FILENO, n as u64);
+pub fn number(rt: &impl Print, n: u32) -> io::Result<()> {
+    print!(rt; " {n}")
 }
 
-pub fn end() {
-    io::write_all(STDOUT_FILENO, b"\n");
+pub fn end(rt: &impl Print) -> io::Result<()> {
+    println!(rt;)
 }
 
-fn cell(name: &[u8], i: usize, row: u16) {
+fn cell(rt: &impl Print, name: &[u8], i: usize, row: u16) -> io::Result<()> {
     if row != 65535 {
-        io::write_all(STDOUT_FILENO, name);
-        io::print_decimal(STDOUT_FILENO, i as u64);
-        number(row as u32);
-        end();
+        rt.write_all(name)?;
+        print!(rt; "{i}")?;
+        number(rt, row as u32)?;
+        end(rt)?;
     }
+    Ok(())
 }
 
 // Each cell that is set, as in a listing.
-pub fn cells(name: &[u8], cells: &[u16]) {
+pub fn cells(rt: &impl Print, name: &[u8], cells: &[u16]) -> io::Result<()> {
     for i in 0..cells.len() {
-        cell(name, i, cells[i]);
+        cell(rt, name, i, cells[i])?;
     }
+    Ok(())
 }
 
-fn row(word: u64) {
-    io::print_hex(STDOUT_FILENO, word, 16);
-    end();
+fn row(rt: &impl Print, word: u64) -> io::Result<()> {
+    println!(rt; "{word:016x}")
 }
 
 // Each row of the table, in hexadecimal digits.
-pub fn rows(rows: &[u64]) {
+pub fn rows(rt: &impl Print, rows: &[u64]) -> io::Result<()> {
     for i in 0..rows.len() {
-        row(rows[i]);
+        row(rt, rows[i])?;
     }
+    Ok(())
 }

@@ -9,10 +9,12 @@ mod written;
 
 use lines::rows;
 use player::{Player, Turn, compile, left, play};
+use std::io;
 
-fn initiator() -> Player {
+fn initiator(rt: &impl Print) -> io::Result<Player> {
     let halves = written::initiator_halves();
     compile(
+        rt,
         b"a",
         &halves,
         &[1, 4, 4, 2, 1, 1],
@@ -21,9 +23,10 @@ fn initiator() -> Player {
     )
 }
 
-fn responder() -> Player {
+fn responder(rt: &impl Print) -> io::Result<Player> {
     let halves = written::responder_halves();
     compile(
+        rt,
         b"b",
         &halves,
         &[4, 4, 2, 1, 1, 1],
@@ -33,24 +36,24 @@ fn responder() -> Player {
 }
 
 // A greets B with A and a nonce, B answers with that nonce and its own, and A with B's.
-fn greet() -> Turn {
-    let a = initiator();
-    let b = responder();
-    let first = play(b"a greets", a, written::start());
-    let second = play(b"b answers", b, first.sent);
-    let third = play(b"a answers", first.player, second.sent);
-    let fourth = play(b"b is greeted", second.player, third.sent);
-    let fifth = play(b"a ends", third.player, fourth.sent);
-    left(fifth.player);
-    play(b"b ends", fourth.player, fifth.sent)
+fn greet(rt: &impl Print) -> io::Result<Turn> {
+    let a = initiator(rt)?;
+    let b = responder(rt)?;
+    let first = play(rt, b"a greets", a, written::start())?;
+    let second = play(rt, b"b answers", b, first.sent)?;
+    let third = play(rt, b"a answers", first.player, second.sent)?;
+    let fourth = play(rt, b"b is greeted", second.player, third.sent)?;
+    let fifth = play(rt, b"a ends", third.player, fourth.sent)?;
+    left(rt, &fifth.player)?;
+    play(rt, b"b ends", fourth.player, fifth.sent)
 }
 
 // A round that there is not has no code, and that is 1.
-fn main() {
-    let last = greet();
-    left(last.player);
-    let over = play(b"no round left", last.player, last.sent);
+fn main(rt: HostRuntime) -> io::Result<()> {
+    let last = greet(&rt)?;
+    left(&rt, &last.player)?;
+    let over = play(&rt, b"no round left", last.player, last.sent)?;
     let sent = over.sent;
     let table = sent.rows;
-    rows(&table);
+    rows(&rt, &table)
 }

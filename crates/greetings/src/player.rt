@@ -2,9 +2,9 @@
 use crate::lines::{cells, end, number};
 use crate::written::{ROOM, certificates};
 use answers::{Rounded, Session};
-use libc::STDOUT_FILENO;
 use numbers::limits::{MESSAGE_CELLS, VARIABLES};
 use role_counting::RoleCompiled;
+use std::io;
 
 // Each of the two roles has so many rounds, and so many words.
 const ROUNDS: usize = 3;
@@ -47,39 +47,40 @@ struct Ended {
     rows: [u64; ROOM],
 }
 
-fn compiled_line(name: &[u8], compiled: RoleCompiled) {
+fn compiled_line(rt: &impl Print, name: &[u8], compiled: RoleCompiled) -> io::Result<()> {
     let answer = compiled.answer;
-    io::write_all(STDOUT_FILENO, name);
-    number(answer.number());
-    number(answer.place());
-    number(compiled.half);
-    end();
+    rt.write_all(name)?;
+    number(rt, answer.number())?;
+    number(rt, answer.place())?;
+    number(rt, compiled.half)?;
+    end(rt)
 }
 
 // The halves with the rows of each; no message cell is set, and no message waits yet.
 pub fn compile(
+    rt: &impl Print,
     name: &[u8],
     halves: &[u64],
     counts: &[u8],
     kinds: [u8; VARIABLES],
     objects: [u16; VARIABLES],
-) -> Player {
+) -> io::Result<Player> {
     let named = [65535u16; VARIABLES];
     let mut ends = [0u16; ROUNDS];
     let mut code = [0u32; WORDS];
     let compiled = roles::compile_role(
         halves, counts, &kinds, &objects, &named, &mut ends, &mut code,
     );
-    compiled_line(name, compiled);
+    compiled_line(rt, name, compiled)?;
     let messages = [65535u16; MESSAGE_CELLS];
-    Player {
+    Ok(Player {
         ends: ends,
         code: code,
         session: no_session(),
         kinds: kinds,
         objects: objects,
         messages: messages,
-    }
+    })
 }
 
 fn no_session() -> Session {
@@ -93,7 +94,7 @@ fn no_session() -> Session {
 }
 
 // A record with a message, up to date with the table.
-fn told(session: Session, sent: Sent) -> Session {
+fn told(session: Session, sent: &Sent) -> Session {
     Session {
         used: sent.used,
         counter: sent.counter,
@@ -103,15 +104,15 @@ fn told(session: Session, sent: Sent) -> Session {
     }
 }
 
-fn line(name: &[u8], answer: Rounded, sent: Sent) {
-    io::write_all(STDOUT_FILENO, name);
-    number(answer.number());
-    number(answer.place());
-    number(answer.reason());
-    number(sent.used);
-    number(sent.counter);
-    number(sent.message);
-    end();
+fn line(rt: &impl Print, name: &[u8], answer: Rounded, sent: &Sent) -> io::Result<()> {
+    rt.write_all(name)?;
+    number(rt, answer.number())?;
+    number(rt, answer.place())?;
+    number(rt, answer.reason())?;
+    number(rt, sent.used)?;
+    number(rt, sent.counter)?;
+    number(rt, sent.message)?;
+    end(rt)
 }
 
 // The round that comes next, of some code, on a record that is up to date.
@@ -143,11 +144,11 @@ fn round(player: Player, sent: Sent, session: Session, code: &[u32]) -> Ended {
 }
 
 // The player's next round, and the answer taken from it.
-pub fn play(name: &[u8], player: Player, sent: Sent) -> Turn {
+pub fn play(rt: &impl Print, name: &[u8], player: Player, sent: Sent) -> io::Result<Turn> {
     let ends = player.ends;
     let code = player.code;
     let kinds = player.kinds;
-    let session = told(player.session, sent);
+    let session = told(player.session, &sent);
     let part = roles::round_part(&code, &ends, session.round as usize);
     let ended = round(player, sent, session, part);
     let after = ended.session;
@@ -160,7 +161,7 @@ pub fn play(name: &[u8], player: Player, sent: Sent) -> Turn {
         message: waited.answer,
     };
     let answer = ended.answer;
-    line(name, answer, next);
+    line(rt, name, answer, &next)?;
     let waiting = waited.session;
     let objects = ended.objects;
     let messages = ended.messages;
@@ -172,16 +173,16 @@ pub fn play(name: &[u8], player: Player, sent: Sent) -> Turn {
         objects: objects,
         messages: messages,
     };
-    Turn {
+    Ok(Turn {
         player: ready,
         sent: next,
-    }
+    })
 }
 
 // The cells that are set in the end, scratch too.
-pub fn left(player: Player) {
+pub fn left(rt: &impl Print, player: &Player) -> io::Result<()> {
     let objects = player.objects;
     let messages = player.messages;
-    cells(b"o ", &objects);
-    cells(b"m ", &messages);
+    cells(rt, b"o ", &objects)?;
+    cells(rt, b"m ", &messages)
 }
