@@ -50,20 +50,6 @@ returns-then-number-ne0 c =
     c.compiled-answer.ensures c.number-number.ensures.0 c.place-place.ensures
     args.objects.now args.messages.now args.rows.now c.if-number-ne0.true)
 
-pub slice_bounds-ran-end : goal.slice_bounds-ran-end
-slice_bounds-ran-end c =
-    let few : c.place-place.result ≤ 767 = few_words _ _
-    c.requires.0
-    _ c.compiled-answer.ensures c.number-number.ensures.0 c.place-place.ensures
-    c.if-number-ne0.false in
-    (omega (
-  arith,
-  few,
-  c.compiled-answer.auto,
-  long_room
-      c.requires.1,
-))
-
 pub slice_bounds-ran-end-2 : goal.slice_bounds-ran-end-2
 slice_bounds-ran-end-2 c =
     let few : c.place-place.result ≤ 767 = few_words _ _

@@ -18,10 +18,10 @@ create_encryption-create_key-keyed-requires t c = let s = c.requires in record {
 pub create_encryption-create_row-inner-requires : goal.create_encryption-create_row-inner-requires
 create_encryption-create_row-inner-requires t c =
     let s = c.requires in
-    let low = encryption_child s.word_value _ (slot _ _ 0 c.slots-children.ensures)
-    s.within in
-    let asked = key_asks _ _ _ _ _ _ _ _ _ _ c.create_key-keyed.ensures _ c.in-Next.is s.objects_len.0 s.objects_len.1.0 in
-    (omega (arith, s.stands_at, low), (stands_below s.word_value.stands low, (asked.0, (asked.1, s.objects_len.1.1))))
+    let low = encryption_child s.stands_at _ (slot _ _ 0 c.slots-children.ensures)
+    s.word_value in
+    let asked = key_asks _ _ _ _ _ _ _ _ _ _ c.create_key-keyed.ensures _ c.in-Next.is s.within s.objects_len.0 in
+    (omega (arith, c.decreases, low), (stands_below s.stands_at.stands low, (asked.0, (asked.1, s.objects_len.1))))
 
 pub create_encryption-seal-requires : goal.create_encryption-seal-requires
 create_encryption-seal-requires t c =
@@ -74,8 +74,8 @@ pub create_let-create_row-bound-requires : goal.create_let-create_row-bound-requ
 create_let-create_row-bound-requires t c =
     let s = c.requires in
     let slots = c.slots-children.ensures in
-    let low = (let_children s.word_value _ (slot _ _ 0 slots) _ (slot _ _ 1 slots) s.within).0 in
-    (omega (arith, s.stands_at, low), (stands_below s.word_value.stands low, (s.objects_len.0, s.objects_len.1)))
+    let low = (let_children s.stands_at _ (slot _ _ 0 slots) _ (slot _ _ 1 slots) s.word_value).0 in
+    (omega (arith, c.decreases, low), (stands_below s.stands_at.stands low, (s.within, s.objects_len)))
 
 pub create_let-returns-then-known : goal.create_let-returns-then-known
 create_let-returns-then-known t c =
@@ -97,14 +97,14 @@ pub create_let-create_row-requires : goal.create_let-create_row-requires
 create_let-create_row-requires t c =
     let s = c.requires in
     let slots = c.slots-children.ensures in
-    let low = (let_children s.word_value _ (slot _ _ 0 slots) _ (slot _ _ 1 slots) s.within).1 in
+    let low = (let_children s.stands_at _ (slot _ _ 0 slots) _ (slot _ _ 1 slots) s.word_value).1 in
     let first = c.create_row-bound.ensures in
-    let long = s.objects_len.1 in (
-      omega (arith, s.stands_at, low),
+    let long = s.objects_len in (
+      omega (arith, c.decreases, low),
       (
-        stands_below s.word_value.stands low,
+        stands_below s.stands_at.stands low,
         (
-          next_within first c.in-Next.is s.objects_len.0,
+          next_within first c.in-Next.is s.within,
           ((next_kept first).lengths.objects_length ∙ long.0, c.set_message.auto.messages ∙ (next_kept first).lengths.messages_length ∙ long.1),
         ),
       ),
@@ -142,17 +142,17 @@ create_let-returns-in-NoRoom t c =
 pub create_row-create_encryption-requires : goal.create_row-create_encryption-requires
 create_row-create_encryption-requires t c =
     let s = c.requires in
-    (omega (arith, s.stands), (record { here = refl; stands = s.within }, (sym c.tag-tag.ensures ∙ c.in-5.is, s.objects_len)))
+    (omega (arith, c.decreases), (record { here = refl; stands = s.stands }, (sym c.tag-tag.ensures ∙ c.in-5.is, (s.within, s.objects_len))))
 
 pub create_row-create_tuple-requires : goal.create_row-create_tuple-requires
 create_row-create_tuple-requires t c =
     let s = c.requires in
-    (omega (arith, s.stands), (record { here = refl; stands = s.within }, (sym c.tag-tag.ensures ∙ c.in-8.is, s.objects_len)))
+    (omega (arith, c.decreases), (record { here = refl; stands = s.stands }, (sym c.tag-tag.ensures ∙ c.in-8.is, (s.within, s.objects_len))))
 
 pub create_row-create_let-requires : goal.create_row-create_let-requires
 create_row-create_let-requires t c =
     let s = c.requires in
-    (omega (arith, s.stands), (record { here = refl; stands = s.within }, (sym c.tag-tag.ensures ∙ c.in-9.is, s.objects_len)))
+    (omega (arith, c.decreases), (record { here = refl; stands = s.stands }, (sym c.tag-tag.ensures ∙ c.in-9.is, (s.within, s.objects_len))))
 
 pub create_row-create_leaf-requires : goal.create_row-create_leaf-requires
 create_row-create_leaf-requires t c =
@@ -174,11 +174,11 @@ pub create_tuple-create_row-made-requires : goal.create_tuple-create_row-made-re
 create_tuple-create_row-made-requires t c =
     let s = c.requires in
     let inv = c.loop-k.invariant in
-    let low = part_low s.word_value s.within _ c.count-count.ensures _ _ (slot _ _ _ c.slots-children.ensures) c.loop-k-test.true in (
-      omega (arith, s.stands_at, low),
+    let low = part_low s.stands_at s.word_value _ c.count-count.ensures _ _ (slot _ _ _ c.slots-children.ensures) c.loop-k-test.true in (
+      omega (arith, c.decreases, low),
       (
-        stands_below s.word_value.stands low,
-        (inv.within, (inv.kept.lengths.objects_length ∙ s.objects_len.1.0, inv.kept.lengths.messages_length ∙ s.objects_len.1.1)),
+        stands_below s.stands_at.stands low,
+        (inv.within, (inv.kept.lengths.objects_length ∙ s.objects_len.0, inv.kept.lengths.messages_length ∙ s.objects_len.1)),
       ),
     )
 

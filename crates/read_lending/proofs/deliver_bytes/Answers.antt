@@ -1,0 +1,44 @@
+use Prim.Native.Nat.{ℕ, ◌≤◌}
+use mathlib.Core.Path.{◌≡◌, sym}
+use mathlib.Core.Option.{Option}
+use native.Mathlib.Omega.{arith}
+use lib.ListN.{length, take}
+use lib.Seq.{length-take-le}
+use borrow.Author.Rules.{rules}
+use Rattle.answers.specs.First.{first}
+use Rattle.code_reading.specs.Reading.{word_refusals}
+use Rattle.code_reading.specs.LineAnswers.{looked_of}
+use Rattle.code_reading.specs.declared.Looked.{Looked}
+use Rattle.code_reading.specs.declared.Looked.TheVariants as Looked
+use Rattle.code_reading.specs.declared.answer.ReadBack.{ReadBack}
+use Rattle.code_reading.proofs.DeliverLaws.{found_fits}
+use Rattle.read_lending.proofs.BytesLaws.{not_words, refuses_bytes, fills_bytes}
+use Rattle.read_lending.proofs.deliver_bytes.Goals as goal
+
+pub returns-then-code-ne0 : goal.returns-then-code-ne0
+returns-then-code-ne0 c =
+    let refused : Option ReadBack = first (word_refusals c.args.lines (take c.args.lines c.args.words.now) c.args.kinds.now) in
+    rw c.numbers.ensures (not_words refused c.args.lines c.args.words.now c.args.code.now c.if-code-ne0.true)
+
+pub slice_bounds-read-end : goal.slice_bounds-read-end
+slice_bounds-read-end c =
+    sym (length-take-le c.in-Words.count c.args.words.now (fits c c.look_words-looked.ensures c.in-Words.is).1)
+
+pub pack-requires : goal.pack-requires
+pack-requires c =
+    let few = fits c c.look_words-looked.ensures c.in-Words.is in
+    (omega (arith, few.0, length-take-le c.in-Words.count c.args.words.now few.1), c.if-code-ne0.false)
+
+pub returns-in-Words : goal.returns-in-Words
+returns-in-Words c =
+    let refused : Option ReadBack = first (word_refusals c.args.lines (take c.args.lines c.args.words.now) c.args.kinds.now) in
+    fills_bytes refused c.args.lines c.args.words.now c.args.code.now
+    c.if-code-ne0.false c.look_words-looked.ensures c.in-Words.is
+    c.pack.ensures
+
+pub returns-in-Refused : goal.returns-in-Refused
+returns-in-Refused c =
+    let refused : Option ReadBack = first (word_refusals c.args.lines (take c.args.lines c.args.words.now) c.args.kinds.now) in
+    rw c.numbers-in-Refused.ensures
+    (refuses_bytes refused c.args.lines c.args.words.now c.args.code.now
+    c.if-code-ne0.false c.look_words-looked.ensures c.in-Refused.is)
