@@ -1,6 +1,4 @@
--- Laws of a round, and the steps of the walks over a lent session.
+-- Laws of a round.
 pub mod PlaceLaws
 pub mod PlayLaws
 pub mod NewRowLaws
-pub mod Walk
-pub mod Lent

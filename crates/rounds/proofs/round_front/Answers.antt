@@ -28,7 +28,8 @@ play-requires c =
   terms = c.args.terms.now;
 } in
     let words : List ℕ = c.args.code.now in
-    found_none _ (sym c.in-Accepted.is ∙ c.look-found.ensures ∙ found_same x words c.requires)
+    let accepted = found_none _ (sym c.in-Accepted.is ∙ c.look-found.ensures ∙ found_same x words c.requires) in
+    record { code_value = accepted.0; used_value = accepted.1 }
 
 pub returns-in-Refused : goal.returns-in-Refused
 returns-in-Refused c =

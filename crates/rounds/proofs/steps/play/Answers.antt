@@ -113,10 +113,9 @@ steps-left-requires c =
 } in
     let words : List ℕ = c.args.code.now in
     let passes : RoundPassed x words = round_passed x words c.requires.code_value in
-    let s =
-    c.before in ready (passes s)
+    ready passes
     c.object_cells-new_objects.ensures c.message_cells-new_messages.ensures
-    (middle_part (words s)) s.pre.1
+    (middle_part words) c.requires.used_value
 
 pub in_round-requires : goal.in_round-requires
 in_round-requires c =
@@ -131,12 +130,10 @@ in_round-requires c =
 } in
     let words : List ℕ = c.args.code.now in
     let passes : RoundPassed x words = round_passed x words c.requires.code_value in
-    let s =
-    c.before
-    in place_small (x s) (words s) _ _
+    place_small x words _ _
     c.object_cells-new_objects.ensures
-    c.message_cells-new_messages.ensures (middle_part (words s))
-    c.steps-left.ensures.0 (passes s).within.words.1 (passes s).within.words.0
+    c.message_cells-new_messages.ensures (middle_part words)
+    c.steps-left.ensures.0 passes.within.words.1 passes.within.words.0
 
 pub returns-then-number-ne0 : goal.returns-then-number-ne0
 returns-then-number-ne0 c =
@@ -171,7 +168,6 @@ copy-requires c =
     let passes : RoundPassed x words = round_passed x words c.requires.code_value in
     omega (
   arith,
-  (search rules),
   passes.valid.within.objects,
 )
 
@@ -190,7 +186,6 @@ copy-requires-2 c =
     let passes : RoundPassed x words = round_passed x words c.requires.code_value in
     omega (
   arith,
-  (search rules),
   passes.valid.within.messages,
 )
 
@@ -223,14 +218,12 @@ returns c =
 } in
     let words : List ℕ = c.args.code.now in
     let passes : RoundPassed x words = round_passed x words c.requires.code_value in
-    let s =
-    c.before in
-    round_sent (x s) (words s) _ _
+    round_sent x words _ _
     c.object_cells-new_objects.ensures
-    c.message_cells-new_messages.ensures (middle_part (words s))
+    c.message_cells-new_messages.ensures (middle_part words)
     c.steps-left.ensures.0
-    s.pre.0 c.in_round.ensures
-    (passes s).within.words.0
+    c.requires.code_value c.in_round.ensures
+    passes.within.words.0
     (sym c.number.ensures.0 ∙
     c.if-number-ne0.false)
     c.steps-left.ensures.1
