@@ -22,11 +22,11 @@ returns-then-code-ne0 c =
 
 pub slice_bounds-read-end : goal.slice_bounds-read-end
 slice_bounds-read-end c =
-    sym (length-take-le c.in-Words.count c.args.words.now (fits c c.look_words-looked.ensures c.in-Words.is).1)
+    sym (length-take-le c.in-Words.count c.args.words.now (found_fits c.args.lines c.args.words.now c.args.kinds.now c.requires c.look_words-looked.ensures c.in-Words.is).1)
 
 pub pack-requires : goal.pack-requires
 pack-requires c =
-    let few = fits c c.look_words-looked.ensures c.in-Words.is in
+    let few = found_fits c.args.lines c.args.words.now c.args.kinds.now c.requires c.look_words-looked.ensures c.in-Words.is in
     (omega (arith, few.0, length-take-le c.in-Words.count c.args.words.now few.1), c.if-code-ne0.false)
 
 pub returns-in-Words : goal.returns-in-Words
