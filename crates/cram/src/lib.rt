@@ -69,7 +69,7 @@ pub fn cram_run(
 ) -> RunAnswer
     ensures { record { answer = result; objects = objects.new; messages = messages.new; terms = terms.new }
         ≡ run_entry (record {
-          kinds = kinds.entry.now;
+          kinds = kinds.now;
           objects = objects.old;
           messages = messages.old;
           certificates = certificates.now;

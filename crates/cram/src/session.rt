@@ -19,9 +19,9 @@ pub fn cram_round(
     terms: &mut [u8],
     code: &[u8],
 ) -> RoundAnswer
-    ensures { record { answer = result; session = session.exit.now; objects = objects.new; messages = messages.new; terms = terms.new }
+    ensures { record { answer = result; session = session.new; objects = objects.new; messages = messages.new; terms = terms.new }
         ≡ round_entry (record {
-          session = session.entry.now;
+          session = session.old;
           rounds = rounds;
           kinds = kinds.now;
           objects = objects.old;

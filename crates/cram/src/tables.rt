@@ -26,7 +26,7 @@ fn over_rows(
 ) -> Outcome
     requires { (length terms.old ≡ 8 * length rows.old) × (length rows.old ≤ most_term_rows) × ZeroFrom 0 rows.old }
     ensures { let o = run (record {
-      kinds = kinds.entry.now;
+      kinds = kinds.now;
       objects = objects;
       messages = messages;
       certificates = certificates.now;
@@ -67,7 +67,7 @@ pub fn over_table(
 ) -> Outcome
     requires { (length terms.old ≡ 8 * (length terms.old / 8)) × (length terms.old / 8 ≤ most_term_rows) }
     ensures { let o = run (record {
-      kinds = kinds.entry.now;
+      kinds = kinds.now;
       objects = objects;
       messages = messages;
       certificates = certificates.now;

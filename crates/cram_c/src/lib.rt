@@ -42,7 +42,7 @@ pub extern "C" fn cram_run(
 ) -> RunAnswer
     ensures { record { answer = result; objects = objects.new; messages = messages.new; terms = terms.new }
         ≡ run_entry (record {
-          kinds = kinds.entry.now;
+          kinds = kinds.now;
           objects = objects.old;
           messages = messages.old;
           certificates = certificates.now;
@@ -76,7 +76,7 @@ pub extern "C" fn cram_compile_role(
 ) -> RoleAnswer
     ensures { record { answer = result; ends = ends.new; code = code.new }
         ≡ role_entry ends.old code.old (record {
-          rows = rows.entry.now;
+          rows = rows.now;
           counts = counts.now;
           kinds = kinds.now;
           objects = objects.now;
@@ -98,9 +98,9 @@ pub extern "C" fn cram_round(
     terms: &mut [u8],
     code: &[u8],
 ) -> RoundAnswer
-    ensures { record { answer = result; session = session.exit.now; objects = objects.new; messages = messages.new; terms = terms.new }
+    ensures { record { answer = result; session = session.new; objects = objects.new; messages = messages.new; terms = terms.new }
         ≡ round_entry (record {
-          session = session.entry.now;
+          session = session.old;
           rounds = rounds;
           kinds = kinds.now;
           objects = objects.old;

@@ -63,7 +63,7 @@ fn look_at_stores(
     counter: u32,
 ) -> Finding
     ensures { result ≡ found_before (first (store_refusals (record {
-      kinds = kinds.entry.now;
+      kinds = kinds.now;
       objects = objects.now;
       messages = named.now;
       certificates = certificates.now;
@@ -114,7 +114,7 @@ pub fn look(
 ) -> Finding
     requires { (length objects.now ≡ variables) × (length named.now ≡ named_cells) }
     ensures { result ≡ found_before (first (direct_refusals create pattern.now (record {
-      kinds = kinds.entry.now;
+      kinds = kinds.now;
       objects = objects.now;
       messages = named.now;
       certificates = certificates.now;

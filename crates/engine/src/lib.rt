@@ -45,7 +45,7 @@ pub fn direct_cells(
 ) -> Outcome
     ensures { record { answer = result.answer; objects = result.objects; named = result.named; accumulator = result.accumulator; terms = terms.new; counter = result.counter }
         ≡ direct create pattern.now (record {
-          kinds = kinds.entry.now;
+          kinds = kinds.now;
           objects = objects;
           messages = named;
           certificates = certificates.now;
@@ -101,7 +101,7 @@ pub fn direct(
 ) -> Tried
     ensures { record { answer = result.answer; objects = objects.new; named = named.new; accumulator = result.accumulator; terms = terms.new; counter = result.counter }
         ≡ direct create pattern.now (record {
-          kinds = kinds.entry.now;
+          kinds = kinds.now;
           objects = objects.old;
           messages = named.old;
           certificates = certificates.now;

@@ -71,7 +71,7 @@ pub fn walk(
     }) used }
     ensures { record { answer = result.answer; objects = result.objects; named = result.named; accumulator = result.accumulator; terms = terms.new; counter = result.counter }
         ≡ walked_from create pattern.now (record {
-          kinds = kinds.entry.now;
+          kinds = kinds.now;
           objects = objects;
           messages = named;
           certificates = certificates.now;

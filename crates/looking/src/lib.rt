@@ -54,7 +54,7 @@ pub fn look(
     words: &[u32],
 ) -> Finding
     ensures { result ≡ found_by (first (refusals (record {
-      kinds = kinds.entry.now;
+      kinds = kinds.now;
       objects = objects.now;
       messages = messages.now;
       certificates = certificates.now;

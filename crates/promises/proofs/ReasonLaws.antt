@@ -142,6 +142,19 @@ module _ (s : State row_world) where
     unset_stuck (Verify v r) (inr (inl e)) = past (s.stores.σ v.0) _ λ k. one (message row_world s r.0) _ e
     unset_stuck (Verify v r) (inr (inr (inl e))) = past (s.stores.σ v.0) _ λ k. past (message row_world s r.0) _ λ b. one s.accumulator _ e
     unset_stuck (Hash h) (inl e) = one s.accumulator _ e
+    unset_stuck (Load r) (inr x3) = elim x3 [ ]
+    unset_stuck (Store r) (inr x4) = elim x4 [ ]
+    unset_stuck (Decode v) (inr x5) = elim x5 [ ]
+    unset_stuck (Encode v) (inr x6) = elim x6 [ ]
+    unset_stuck (AnalyzeTuple t b n) (inr x7) = elim x7 [ ]
+    unset_stuck (Opposite K k) (inr x8) = elim x8 [ ]
+    unset_stuck KeyOf (inr x9) = elim x9 [ ]
+    unset_stuck (Match r) (inr (inr x11)) = elim x11 [ ]
+    unset_stuck (Encrypt v) (inr (inr x12)) = elim x12 [ ]
+    unset_stuck (Decrypt v) (inr (inr x13)) = elim x13 [ ]
+    unset_stuck (Sign v) (inr (inr x14)) = elim x14 [ ]
+    unset_stuck (Verify v r) (inr (inr (inr x16))) = elim x16 [ ]
+    unset_stuck (Hash h) (inr x15) = elim x15 [ ]
 
     -- 4, 6 and 7 by the shape
     taken_not : (m n : ℕ) (sh : Shape ℕ) → length (parts_of sh) ≢ n → taken row_model m n sh ≡ not 4
@@ -339,13 +352,17 @@ module _ (s : State row_world) where
       fills_so h (tuple {t} {b} {n} ms c out) = rw (cells_done b.0 n ms c) (make_full (tupled ms) x _ out)
 
       pub step_stuck : (i : Instruction) (why : ℕ) → T (operands_fit kind i) → (now i ≡ stuck place why) ↔ Sticks s kind i why
-      step_stuck i why h = (λ e. from (rw e at (ends i h)), sticks_so)
+      step_stuck i why h = (λ e. from (ends i h) e, sticks_so)
         where
-          from : Ends i (stuck place why) → Sticks s kind i why
-          from (sticks p) = p
+          from : {o : Outcome (State row_world)} → Ends i o → o ≡ stuck place why → Sticks s kind i why
+          from (goes {t = t}) e = cc
+          from (sticks {why = other} p) e = let same : other ≡ why = cc in subst (Sticks s kind i) same p
+          from (fills p) e = cc
 
       pub step_full : (i : Instruction) → T (operands_fit kind i) → (now i ≡ room place) ↔ Fills s kind i
-      step_full i h = (λ e. from (rw e at (ends i h)), fills_so h)
+      step_full i h = (λ e. from (ends i h) e, fills_so h)
         where
-          from : Ends i (room place) → Fills s kind i
-          from (fills p) = p
+          from : {o : Outcome (State row_world)} → Ends i o → o ≡ room place → Fills s kind i
+          from (goes {t = t}) e = cc
+          from (sticks p) e = cc
+          from (fills p) e = p

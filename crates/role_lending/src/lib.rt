@@ -56,7 +56,7 @@ pub fn compile_role(
 ) -> RoleAnswer
     ensures { record { answer = result; ends = ends.new; code = code.new }
         ≡ role_entry ends.old code.old (record {
-          rows = rows.entry.now;
+          rows = rows.now;
           counts = counts.now;
           kinds = kinds.now;
           objects = objects.now;

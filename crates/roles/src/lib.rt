@@ -23,7 +23,7 @@ pub fn compile_role(
 ) -> RoleCompiled
     ensures { record { answer = result.answer; half = result.half; ends = ends.new; code = code.new }
         ≡ role ends.old code.old (record {
-          rows = rows.entry.now;
+          rows = rows.now;
           counts = counts.now;
           kinds = kinds.now;
           objects = objects.now;

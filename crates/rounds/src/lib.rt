@@ -131,7 +131,7 @@ pub fn round_of(
 
 // The same in place.
 pub fn take(session: &mut Session) -> u32
-    ensures { record { session = session.exit.now; answer = result } ≡ taken_of session.entry.now }
+    ensures { record { session = session.new; answer = result } ≡ taken_of session.old }
 {
     let t = take_of(*session);
     *session = t.session;
@@ -148,9 +148,9 @@ pub fn round(
     terms: &mut [u64],
     code: &[u32],
 ) -> Rounded
-    ensures { record { answer = result; session = session.exit.now; objects = objects.new; messages = messages.new; terms = terms.new }
+    ensures { record { answer = result; session = session.new; objects = objects.new; messages = messages.new; terms = terms.new }
         ≡ round (record {
-          session = session.entry.now;
+          session = session.old;
           rounds = rounds;
           kinds = kinds.now;
           objects = objects.old;

@@ -50,7 +50,7 @@ pub fn run_cells(
     requires { Front terms.old front }
     ensures { (record { answer = result.answer; objects = result.objects; messages = result.messages; accumulator = result.accumulator; terms = terms.new; counter = result.counter }
         ≡ run (record {
-          kinds = kinds.entry.now;
+          kinds = kinds.now;
           objects = objects;
           messages = messages;
           certificates = certificates.now;
@@ -135,7 +135,7 @@ pub fn run(
 ) -> Ended
     ensures { (record { answer = result.answer; objects = objects.new; messages = messages.new; accumulator = result.accumulator; terms = terms.new; counter = result.counter }
         ≡ run (record {
-          kinds = kinds.entry.now;
+          kinds = kinds.now;
           objects = objects.old;
           messages = messages.old;
           certificates = certificates.now;
