@@ -94,7 +94,7 @@ pub record Says : Type 0 where
   pub compiles : (κs : Lfts 5) (lent : ArgsD Compile.signature κs) (answer : ResD Compile.signature κs) (left : AtExit Compile.ended κs)
       → CompileReads.Learnt κs lent answer left → compiled_to κs lent answer left ≡ compileOf κs lent
   pub uses : (κs : Lfts 1) (lent : ArgsD Used.signature κs) (part : ResD Used.signature κs) (left : AtExit Used.ended κs)
-      → UsedReads.Learnt κs lent part left → (part.now ≡ used_of κs lent) × (part.ref_ptr ≡ lent.0.ptr)
+      → UsedReads.Learnt κs lent part left → (part.now ≡ used_of κs lent) × (part.ref_ptr ≡ lent.0.ref_ptr)
   pub runs : (κs : Lfts 6) (lent : ArgsD Run.signature κs) (ended : ResD Run.signature κs) (left : AtExit Run.ended κs)
       → RunReads.Learnt κs lent ended left → (ran_to κs lent ended left ≡ run_of κs lent) × (ended.used ≡ used_with ended.answer (ran_to κs lent ended left).terms)
   pub opens : (κs : Lfts 1) (lent : ArgsD Open.signature κs) (found : ResD Open.signature κs) (left : AtExit Open.ended κs)
