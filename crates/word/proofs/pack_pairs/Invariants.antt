@@ -1,6 +1,5 @@
 use Prim.Native.Nat.{◌-◌}
-use borrow.Author.Rules.{rules}
-use Rattle.word.proofs.ByteLaws.{Packed, packing}
+use Rattle.word.proofs.ByteLaws.{Packed}
 use Rattle.word.proofs.pack_pairs.Given as goal
 
 abbrev pub invariant-loop-place : goal.invariant-loop-place

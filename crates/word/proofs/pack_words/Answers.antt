@@ -1,6 +1,4 @@
-use Prim.Native.Nat.{◌-◌}
-use borrow.Author.Rules.{rules}
-use Rattle.word.proofs.ByteLaws.{Packed, packing}
+use Rattle.word.proofs.ByteLaws.{packing}
 use Rattle.word.proofs.pack_words.Goals as goal
 
 pub loop-place-init : goal.loop-place-init

@@ -1,7 +1,6 @@
 use native.Mathlib.Omega.{arith}
 use lib.ListN.{length-set}
 use Rattle.word.proofs.ByteLaws.{sets_pair}
-use borrow.Author.Rules.{rules}
 use Rattle.word.proofs.put_pair.Goals as goal
 
 pub bounds-bytes-at-2 : goal.bounds-bytes-at-2

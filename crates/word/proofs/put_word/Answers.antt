@@ -1,5 +1,4 @@
 use Rattle.word.proofs.ByteLaws.{sets_split}
-use borrow.Author.Rules.{rules}
 use Rattle.word.proofs.put_word.Goals as goal
 
 pub returns : goal.returns

@@ -1,5 +1,4 @@
 use Rattle.word.proofs.ByteLaws.{number_split}
-use borrow.Author.Rules.{rules}
 use Rattle.word.proofs.quad_at.Goals as goal
 
 pub returns : goal.returns

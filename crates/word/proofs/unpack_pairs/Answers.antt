@@ -1,8 +1,6 @@
-use Prim.Native.Nat.{◌-◌}
 use native.Mathlib.Omega.{arith}
 use lib.ListN.{length-set}
-use borrow.Author.Rules.{rules}
-use Rattle.word.proofs.ByteLaws.{Unpacked, unpacking}
+use Rattle.word.proofs.ByteLaws.{unpacking}
 use Rattle.word.proofs.unpack_pairs.Goals as goal
 
 pub loop-place-init : goal.loop-place-init

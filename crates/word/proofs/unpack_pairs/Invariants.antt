@@ -1,8 +1,5 @@
 use Prim.Native.Nat.{◌-◌}
-use native.Mathlib.Omega.{arith}
-use lib.ListN.{length-set}
-use borrow.Author.Rules.{rules}
-use Rattle.word.proofs.ByteLaws.{Unpacked, unpacking}
+use Rattle.word.proofs.ByteLaws.{Unpacked}
 use Rattle.word.proofs.unpack_pairs.Given as goal
 
 abbrev pub invariant-loop-place : goal.invariant-loop-place

@@ -1,6 +1,4 @@
-use Prim.Native.Nat.{◌-◌}
-use borrow.Author.Rules.{rules}
-use Rattle.word.proofs.ByteLaws.{Unpacked, unpacking}
+use Rattle.word.proofs.ByteLaws.{unpacking}
 use Rattle.word.proofs.unpack_quads.Goals as goal
 
 pub loop-place-init : goal.loop-place-init

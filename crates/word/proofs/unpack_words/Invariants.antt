@@ -1,6 +1,5 @@
 use Prim.Native.Nat.{◌-◌}
-use borrow.Author.Rules.{rules}
-use Rattle.word.proofs.ByteLaws.{Unpacked, unpacking}
+use Rattle.word.proofs.ByteLaws.{Unpacked}
 use Rattle.word.proofs.unpack_words.Given as goal
 
 abbrev pub invariant-loop-place : goal.invariant-loop-place

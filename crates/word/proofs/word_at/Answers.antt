@@ -1,5 +1,4 @@
 use Rattle.word.proofs.ByteLaws.{number_word}
-use borrow.Author.Rules.{rules}
 use Rattle.word.proofs.word_at.Goals as goal
 
 pub returns : goal.returns
