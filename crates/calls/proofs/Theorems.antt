@@ -9,7 +9,6 @@ use Rattle.answers.specs.declared.Compiled.TheVariants.{Done}
 use Rattle.answers.specs.declared.Ran.{Ran}
 use Rattle.stores.specs.Cells.{held}
 use Rattle.patterns.specs.Tree.{pattern_of}
-use Rattle.theory.specs.Outcome.{stuck, room}
 use Rattle.theory.specs.RowModel.{row_world}
 use Rattle.theory.specs.Machine.{State}
 use Rattle.theory.specs.Rules.{create}

@@ -12,7 +12,7 @@ use lib.Seq.{length-take-le}
 use lib.ListN.{length, take, drop, get_or, take-append-drop, length-map, get_or-eq_default}
 use lib.Seq.{take-append_seam, drop-append_seam}
 use Rattle.word.proofs.All.{all_get_d}
-use Rattle.word.specs.Bytes.{whole, elements, spelled}
+use Rattle.word.specs.Bytes.{elements, spelled}
 use Rattle.word.proofs.TestLaws.{both, equals, at_most, stable, is_true, is_false}
 use Rattle.word.proofs.ByteLaws.{Below, length_spelled, spelled_append, elements_spelled, spelled_elements}
 use Rattle.answers.specs.Numbers.{compiled_number, compiled_place, ran_number}

@@ -15,7 +15,7 @@ use Rattle.answers.specs.declared.Compiled.TheVariants.{Done, Limit, BadStore, B
 use Rattle.stores.specs.Valid.{declared}
 use Rattle.theory.specs.Emission.{Env, refuse}
 use Rattle.calls.specs.Half.{half}
-use Rattle.calls.specs.Role.{RoleLent, RoleOutcome, compiled, rounds_of, in_turn, ends_from, role_refused, role_written, role_by, role_fits, halves_of, role}
+use Rattle.calls.specs.Role.{RoleLent, RoleOutcome, rounds_of, in_turn, ends_from, role_refused, role_written, role_by, role_fits, halves_of, role}
 use Rattle.promises.specs.Conditions.{BadVariable, BadPatternAt, GoodPattern, WrongKindAt}
 use Rattle.promises.specs.Roles.{RoleAnswers, RoleWithin, rows_of_half, creates_half, FewRows, HalfChecked, half_emission, Reached, start, next, HalfTurn, WholeRole, RoleTable}
 use Rattle.promises.proofs.ConditionLaws.{bad_variable}

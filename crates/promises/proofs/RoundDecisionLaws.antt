@@ -17,7 +17,6 @@ use Rattle.terms.proofs.TableLaws.{used_rows_lem}
 use Rattle.stores.specs.Cells.{unset, held}
 use Rattle.stores.specs.GoodStores.{UnsetOrUsed}
 use Rattle.patterns.specs.Tree.{pattern_of}
-use Rattle.theory.specs.Outcome.{done}
 use Rattle.theory.specs.RowModel.{row_world}
 use Rattle.theory.specs.Machine.{State, exec}
 use Rattle.theory.specs.Emission.{Env}

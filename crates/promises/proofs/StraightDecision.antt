@@ -29,7 +29,7 @@ use Rattle.patterns.specs.Tree.{pattern_of}
 use Rattle.theory.specs.TermModel.{Term}
 use Rattle.theory.specs.Figure2.{TermStores, Matches}
 use Rattle.theory.specs.Figure3.{Creates}
-use Rattle.calls.specs.Compile.{SameSet, code_words, compiled_code, compile}
+use Rattle.calls.specs.Compile.{SameSet, code_words, compiled_code}
 use Rattle.calls.specs.Run.{Lent, RunOutcome, state_over, lent_after, left_by, run}
 use Rattle.calls.specs.Direct.{DirectOutcome, direct}
 use Rattle.calls.specs.CompileThenRun.{lent_to_run, ran_as, row_emitting, handed_back, ran_outcome, then_run, compile_then_run}

@@ -10,7 +10,6 @@ use lib.Dec.{T, eqb}
 use lib.ListN.{length, get_or, take, drop, length-map, length-append}
 use Rattle.word.proofs.TestLaws.{both, equals, at_most}
 use Rattle.numbers.specs.Kinds.{kind_in}
-use Rattle.numbers.specs.Limits.{variables}
 use Rattle.answers.specs.declared.Compiled.{Compiled}
 use Rattle.code.specs.Instruction.{word_of}
 use Rattle.stores.specs.Valid.{kinds_fit, declared}

@@ -10,7 +10,7 @@ use lib.Seq.{drop-cons, drop-length, get_or-take, take-suc-set}
 use Rattle.answers.specs.declared.Reason.{Reason}
 use Rattle.numbers.specs.Kinds.{kind_in}
 use Rattle.numbers.specs.declared.Object.{Object}
-use Rattle.patterns.specs.Pattern.{tuple, Parts, end, part}
+use Rattle.patterns.specs.Pattern.{tuple, Parts, end}
 use Rattle.patterns.specs.Row.{pattern_fields, children_of}
 use Rattle.patterns.specs.Standing.{pattern_in, StandsAt}
 use Rattle.patterns.specs.Tree.{parts_by}

@@ -1,5 +1,5 @@
 // Keys that are made of another key or of an agent, in a match and in a creation alike.
-ghost use Rattle.std.specs.Prelude.{◌≡◌, ℕ, ◌<◌, length};
+ghost use Rattle.std.specs.Prelude.{ℕ, ◌<◌, length};
 ghost use Rattle.numbers.specs.Kinds.{kind_in};
 ghost use Rattle.theory.specs.World.{op};
 ghost use Rattle.theory.specs.RowModel.{row_world};

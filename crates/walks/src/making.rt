@@ -1,5 +1,5 @@
 // A term that is made takes the row that equals it, or else the first unused row. What a variable is to hold has to be of its kind.
-ghost use Rattle.std.specs.Prelude.{◌≡◌, ◌<◌, length};
+ghost use Rattle.std.specs.Prelude.{◌<◌, length};
 ghost use Rattle.numbers.specs.Kinds.{kind_in};
 ghost use Rattle.stores.specs.Cells.{held};
 ghost use Rattle.theory.specs.RowModel.{row_world};

@@ -1,5 +1,4 @@
 use native.Mathlib.Omega.{arith}
-use borrow.Author.Rules.{rules}
 use Rattle.bundles.proofs.BundleLaws.{fields}
 use Rattle.bundles.proofs.certificates.Goals as goal
 

@@ -1,9 +1,7 @@
-use Prim.Native.Nat.{◌-◌, ◌≤◌}
-use mathlib.Core.Path.{◌≡◌, refl}
+use Prim.Native.Nat.{◌-◌}
+use mathlib.Core.Path.{refl}
 use native.Mathlib.Omega.{arith}
-use lib.ListN.{length, drop}
 use borrow.Author.Rules.{rules}
-use Rattle.bundles.specs.Bundle.{clear_of}
 use Rattle.bundles.proofs.ClearLaws.{clear_here, set_here, all_clear}
 use Rattle.bundles.proofs.certificates_clear.Goals as goal
 

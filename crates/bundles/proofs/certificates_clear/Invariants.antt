@@ -1,10 +1,7 @@
 use Prim.Native.Nat.{◌-◌, ◌≤◌}
-use mathlib.Core.Path.{◌≡◌, refl}
-use native.Mathlib.Omega.{arith}
+use mathlib.Core.Path.{◌≡◌}
 use lib.ListN.{length, drop}
-use borrow.Author.Rules.{rules}
 use Rattle.bundles.specs.Bundle.{clear_of}
-use Rattle.bundles.proofs.ClearLaws.{clear_here, set_here, all_clear}
 use Rattle.bundles.proofs.certificates_clear.Given as goal
 
 abbrev pub invariant-loop-place : goal.invariant-loop-place

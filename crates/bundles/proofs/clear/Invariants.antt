@@ -1,9 +1,7 @@
 use Prim.Native.Nat.{◌-◌}
-use mathlib.Core.Path.{◌≡◌, refl}
-use native.Mathlib.Omega.{arith}
+use mathlib.Core.Path.{◌≡◌}
 use lib.ListN.{length}
-use borrow.Author.Rules.{rules}
-use Rattle.bundles.proofs.FillLaws.{Filled, filled_none, filled_more, filled_all}
+use Rattle.bundles.proofs.FillLaws.{Filled}
 use Rattle.bundles.proofs.clear.Given as goal
 
 abbrev pub invariant-loop-place : goal.invariant-loop-place

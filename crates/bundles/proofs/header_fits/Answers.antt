@@ -1,4 +1,3 @@
-use borrow.Author.Rules.{rules}
 use Rattle.bundles.proofs.OpeningLaws.{within-ways}
 use Rattle.bundles.proofs.header_fits.Goals as goal
 

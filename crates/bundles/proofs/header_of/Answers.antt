@@ -1,5 +1,4 @@
 use mathlib.Core.Path.{refl}
-use borrow.Author.Rules.{rules}
 use Rattle.bundles.specs.Bundle.{header_of}
 use Rattle.bundles.proofs.header_of.Goals as goal
 

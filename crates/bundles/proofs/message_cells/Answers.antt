@@ -1,5 +1,4 @@
 use native.Mathlib.Omega.{arith}
-use borrow.Author.Rules.{rules}
 use Rattle.stores.specs.Cells.{unset}
 use Rattle.bundles.specs.Opening.{bundle_in}
 use Rattle.bundles.proofs.BundleLaws.{fields}

@@ -1,4 +1,3 @@
-use borrow.Author.Rules.{rules}
 use Rattle.bundles.proofs.OpeningLaws.{opening-ways}
 use Rattle.bundles.proofs.open.Goals as goal
 

@@ -1,8 +1,7 @@
 use Prim.Native.Nat.{◌-◌}
 use native.Mathlib.Omega.{arith}
 use lib.ListN.{length-set}
-use borrow.Author.Rules.{rules}
-use Rattle.bundles.proofs.KindLaws.{KindsRead, kinds_none, kinds_more, kinds_all}
+use Rattle.bundles.proofs.KindLaws.{kinds_none, kinds_more, kinds_all}
 use Rattle.bundles.proofs.read_kinds.Goals as goal
 
 pub loop-place-init : goal.loop-place-init

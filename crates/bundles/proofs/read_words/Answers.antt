@@ -1,6 +1,5 @@
 use mathlib.Core.Path.{◌∙◌}
 use native.Mathlib.Omega.{arith}
-use borrow.Author.Rules.{rules}
 use Rattle.bundles.proofs.WordLaws.{words_read}
 use Rattle.bundles.proofs.read_words.Goals as goal
 

@@ -1,9 +1,8 @@
 use Prim.Native.Nat.{◌-◌}
-use mathlib.Core.Path.{◌≡◌, refl}
+use mathlib.Core.Path.{refl}
 use native.Mathlib.Omega.{arith}
-use lib.ListN.{length}
 use borrow.Author.Rules.{rules}
-use Rattle.bundles.proofs.FillLaws.{Filled, filled_none, filled_more, filled_all}
+use Rattle.bundles.proofs.FillLaws.{filled_none, filled_more, filled_all}
 use Rattle.bundles.proofs.unset_all.Goals as goal
 
 pub loop-place-init : goal.loop-place-init

@@ -1,10 +1,7 @@
-use Prim.Native.Nat.{◌-◌, ◌≤◌}
-use mathlib.Core.Path.{◌≡◌, refl, sym, ◌∙◌}
+use Prim.Native.Nat.{◌-◌}
+use mathlib.Core.Path.{refl, sym, ◌∙◌}
 use native.Mathlib.Omega.{arith}
-use lib.ListN.{length, drop}
-use borrow.Author.Rules.{rules, scaled_Fits}
-use borrow.Author.Tests.{not-true, not-false}
-use Rattle.stores.specs.Certificates.{agents_once}
+use borrow.Author.Rules.{scaled_Fits}
 use Rattle.stores.proofs.LoopLaws.{once_stop, once_next, once_end}
 use Rattle.certificates.proofs.agents_once.Goals as goal
 

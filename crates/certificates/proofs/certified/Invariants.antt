@@ -1,10 +1,7 @@
 use Prim.Native.Nat.{◌-◌, ◌≤◌}
-use mathlib.Core.Path.{◌≡◌, refl, sym, ◌∙◌}
-use native.Mathlib.Omega.{arith}
+use mathlib.Core.Path.{◌≡◌}
 use lib.ListN.{length, drop}
-use borrow.Author.Rules.{rules, scaled_Fits}
 use Rattle.stores.specs.Certificates.{certified}
-use Rattle.stores.proofs.LoopLaws.{certified_here, certified_next, certified_end}
 use Rattle.certificates.proofs.certified.Given as goal
 
 abbrev pub invariant-loop-i : goal.invariant-loop-i

@@ -1,11 +1,6 @@
 use Prim.Native.Nat.{◌-◌}
-use mathlib.Core.Path.{◌≡◌, refl, sym, ap, ◌∙◌}
-use mathlib.Core.Bool.{not}
-use native.Mathlib.Omega.{arith}
+use mathlib.Core.Path.{◌≡◌}
 use lib.ListN.{length, drop}
-use borrow.Author.Rules.{rules, scaled_Fits}
-use borrow.Author.Tests.{eq-eqb, ne_eqb}
-use Rattle.word.proofs.ScanLaws.{each_stop, each_next, each_end}
 use Rattle.stores.proofs.LoopLaws.{nowhere}
 use Rattle.certificates.proofs.stands_nowhere.Given as goal
 

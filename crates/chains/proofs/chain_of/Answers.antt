@@ -1,7 +1,6 @@
 -- The halves have 33 bits when they are added, and the product fits a word.
 use mathlib.Core.Path.{refl}
 use native.Mathlib.Omega.{arith}
-use borrow.Author.Rules.{rules}
 use Rattle.chains.specs.Chains.{chain_of}
 use Rattle.chains.proofs.ChainLaws.{product_fits}
 use Rattle.chains.proofs.chain_of.Goals as goal

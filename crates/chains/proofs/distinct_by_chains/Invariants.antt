@@ -1,12 +1,9 @@
 -- The invariant: none of the rows passed repeats an earlier one, and each is on its chain.
-use Prim.Native.Nat.{◌<◌, ◌≤◌, ◌-◌}
-use mathlib.Core.Path.{◌≡◌, refl, sym, ◌∙◌}
-use native.Mathlib.Omega.{arith}
-use lib.ListN.{length, length-set}
-use borrow.Author.Rules.{rules}
+use Prim.Native.Nat.{◌≤◌, ◌-◌}
+use mathlib.Core.Path.{◌≡◌}
+use lib.ListN.{length}
 use Rattle.chains.specs.Chains.{Headed, Linked}
-use Rattle.chains.proofs.DistinctLaws.{Passed, distinct_stop, distinct_next, distinct_end}
-use Rattle.chains.proofs.ChainLaws.{chain_below, headed_next, linked_next}
+use Rattle.chains.proofs.DistinctLaws.{Passed}
 use Rattle.chains.proofs.distinct_by_chains.Given as goal
 
 abbrev pub invariant-loop-row : goal.invariant-loop-row

@@ -1,9 +1,8 @@
 -- The invariant: none of the rows passed repeats an earlier one.
-use Prim.Native.Nat.{◌≤◌, ◌-◌}
+use Prim.Native.Nat.{◌-◌}
 use mathlib.Core.Path.{refl}
 use native.Mathlib.Omega.{arith}
-use borrow.Author.Rules.{rules}
-use Rattle.chains.proofs.DistinctLaws.{Passed, distinct_stop, distinct_next, distinct_end}
+use Rattle.chains.proofs.DistinctLaws.{distinct_stop, distinct_next, distinct_end}
 use Rattle.chains.proofs.distinct_by_search.Goals as goal
 
 pub loop-row-init : goal.loop-row-init

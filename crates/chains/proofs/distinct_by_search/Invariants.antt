@@ -1,9 +1,6 @@
 -- The invariant: none of the rows passed repeats an earlier one.
 use Prim.Native.Nat.{◌≤◌, ◌-◌}
-use mathlib.Core.Path.{refl}
-use native.Mathlib.Omega.{arith}
-use borrow.Author.Rules.{rules}
-use Rattle.chains.proofs.DistinctLaws.{Passed, distinct_stop, distinct_next, distinct_end}
+use Rattle.chains.proofs.DistinctLaws.{Passed}
 use Rattle.chains.proofs.distinct_by_search.Given as goal
 
 abbrev pub invariant-loop-row : goal.invariant-loop-row

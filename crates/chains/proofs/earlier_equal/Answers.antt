@@ -1,6 +1,5 @@
 -- An equal row is found among the earlier ones, or none.
 use Rattle.chains.proofs.DistinctLaws.{search-ways}
-use borrow.Author.Rules.{rules}
 use Rattle.chains.proofs.earlier_equal.Goals as goal
 
 pub returns-in-At : goal.returns-in-At

@@ -1,9 +1,7 @@
 -- The invariant: the earlier rows that equal the word lie at the row come to or before it.
-use Prim.Native.Nat.{◌≤◌}
 use native.Mathlib.Omega.{arith}
-use borrow.Author.Rules.{rules}
 use Rattle.chains.proofs.DistinctLaws.{earlier_none, earlier_some}
-use Rattle.chains.proofs.ChainLaws.{Ahead, ahead_first, ahead_next, ahead_end}
+use Rattle.chains.proofs.ChainLaws.{ahead_first, ahead_next, ahead_end}
 use Rattle.chains.proofs.on_chain.Goals as goal
 
 pub loop-at-init : goal.loop-at-init

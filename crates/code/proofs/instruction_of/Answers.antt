@@ -1,5 +1,4 @@
 use Rattle.code.proofs.ReadLaws.{reads_as, reads_none}
-use borrow.Author.Rules.{rules}
 use Rattle.code.proofs.instruction_of.Goals as goal
 
 pub returns-in-2 : goal.returns-in-2

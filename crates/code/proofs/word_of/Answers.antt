@@ -1,5 +1,4 @@
 use Rattle.code.proofs.ReadLaws.{spells_as}
-use borrow.Author.Rules.{rules}
 use Rattle.code.proofs.word_of.Goals as goal
 
 pub returns-in-Load : goal.returns-in-Load

@@ -1,15 +1,10 @@
-use Prim.Native.Nat.{ℕ, ◌≤◌}
-use mathlib.Core.Path.{◌≡◌, sym}
+use mathlib.Core.Path.{sym}
 use mathlib.Core.Option.{Option}
 use native.Mathlib.Omega.{arith}
-use lib.ListN.{length, take}
+use lib.ListN.{take}
 use lib.Seq.{length-take-le}
-use borrow.Author.Rules.{rules}
 use Rattle.answers.specs.First.{first}
 use Rattle.code_reading.specs.Reading.{word_refusals}
-use Rattle.code_reading.specs.LineAnswers.{looked_of}
-use Rattle.code_reading.specs.declared.Looked.{Looked}
-use Rattle.code_reading.specs.declared.Looked.TheVariants as Looked
 use Rattle.code_reading.specs.declared.answer.ReadBack.{ReadBack}
 use Rattle.code_reading.proofs.DeliverLaws.{found_fits, delivers_refusal, delivers_words}
 use Rattle.code_reading.proofs.deliver_words.Goals as goal

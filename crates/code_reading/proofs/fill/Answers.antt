@@ -1,4 +1,3 @@
-use borrow.Author.Rules.{rules}
 use Rattle.code_reading.proofs.DeliverLaws.{fill_short, fill_fits}
 use Rattle.code_reading.proofs.fill.Goals as goal
 

@@ -5,7 +5,6 @@ use mathlib.Core.List.{List}
 use native.Mathlib.Omega.{arith}
 use lib.ListN.{length, get_or, take}
 use lib.Seq.{length-take-le}
-use borrow.Author.Rules.{rules}
 use Rattle.word.proofs.ScanLaws.{placed_at, placed_nowhere}
 use Rattle.code.specs.Words.{bad_word}
 use Rattle.code_reading.proofs.DeliverLaws.{too_many_lines, kinds_limit, bad_word_found, words_found}

@@ -1,4 +1,3 @@
-use borrow.Author.Rules.{rules}
 use Rattle.code_reading.proofs.DeliverLaws.{bad_line_read, good_lines_read}
 use Rattle.code_reading.proofs.read_code.Goals as goal
 

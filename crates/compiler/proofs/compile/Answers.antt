@@ -4,7 +4,6 @@ use mathlib.Core.Path.{◌≡◌, sym, ◌∙◌}
 use native.Mathlib.Omega.{arith}
 use lib.ListN.{length}
 use lib.Seq.{length-take-le}
-use borrow.Author.Rules.{rules}
 use Rattle.answers.specs.Numbers.{compiled_number}
 use Rattle.compiler.proofs.OverCells.{Compiles, cells_limit, cells_lengths, known_compiles}
 use Rattle.compiler.proofs.compile.Goals as goal
@@ -29,14 +28,14 @@ pub returns-then-number-ne0 : goal.returns-then-number-ne0
 returns-then-number-ne0 c =
     let lengths : (length c.args.objects.now ≡ 64) × (length c.args.named.now ≡ 64) = cells_lengths _ _ c.if-objects-named.false in
     let compiles : Compiles c.args.create c.args.pattern.now c.args.kinds.now c.args.objects.now c.args.named.now c.compile_known-left.result.answer c.compile_known-left.new.buffer =
-        known_compiles _ _ _ _ _ _ _ lengths.0 lengths.1 c.set_cells.ensures c.set_cells-2.ensures _ c.no_words-buffer.ensures c.compile_known-left.ensures in
+    known_compiles _ _ _ _ _ _ _ lengths.0 lengths.1 c.set_cells.ensures c.set_cells-2.ensures _ c.no_words-buffer.ensures c.compile_known-left.ensures in
     compiles.refused _ (λ e. c.if-number-ne0.true (c.number.ensures.0 ∙ e))
 
 pub slice_bounds-buffer-end : goal.slice_bounds-buffer-end
 slice_bounds-buffer-end c =
     let lengths : (length c.args.objects.now ≡ 64) × (length c.args.named.now ≡ 64) = cells_lengths _ _ c.if-objects-named.false in
     let compiles : Compiles c.args.create c.args.pattern.now c.args.kinds.now c.args.objects.now c.args.named.now c.compile_known-left.result.answer c.compile_known-left.new.buffer =
-        known_compiles _ _ _ _ _ _ _ lengths.0 lengths.1 c.set_cells.ensures c.set_cells-2.ensures _ c.no_words-buffer.ensures c.compile_known-left.ensures in
+    known_compiles _ _ _ _ _ _ _ lengths.0 lengths.1 c.set_cells.ensures c.set_cells-2.ensures _ c.no_words-buffer.ensures c.compile_known-left.ensures in
     let zero : compiled_number c.compile_known-left.result.answer ≡ 0 = sym c.number.ensures.0 ∙ c.if-number-ne0.false in
     let inside : c.place-count.result ≤ length c.compile_known-left.new.buffer = omega (arith, c.place-count.ensures, compiles.few zero, compiles.long zero) in
     inside
@@ -45,7 +44,7 @@ pub slice_bounds-deliver-end : goal.slice_bounds-deliver-end
 slice_bounds-deliver-end c =
     let lengths : (length c.args.objects.now ≡ 64) × (length c.args.named.now ≡ 64) = cells_lengths _ _ c.if-objects-named.false in
     let compiles : Compiles c.args.create c.args.pattern.now c.args.kinds.now c.args.objects.now c.args.named.now c.compile_known-left.result.answer c.compile_known-left.new.buffer =
-        known_compiles _ _ _ _ _ _ _ lengths.0 lengths.1 c.set_cells.ensures c.set_cells-2.ensures _ c.no_words-buffer.ensures c.compile_known-left.ensures in
+    known_compiles _ _ _ _ _ _ _ lengths.0 lengths.1 c.set_cells.ensures c.set_cells-2.ensures _ c.no_words-buffer.ensures c.compile_known-left.ensures in
     let zero : compiled_number c.compile_known-left.result.answer ≡ 0 = sym c.number.ensures.0 ∙ c.if-number-ne0.false in
     let inside : c.place-count.result ≤ length c.compile_known-left.new.buffer = omega (arith, c.place-count.ensures, compiles.few zero, compiles.long zero) in
     sym (length-take-le c.place-count.result _ inside)
@@ -54,7 +53,7 @@ pub deliver-requires : goal.deliver-requires
 deliver-requires c =
     let lengths : (length c.args.objects.now ≡ 64) × (length c.args.named.now ≡ 64) = cells_lengths _ _ c.if-objects-named.false in
     let compiles : Compiles c.args.create c.args.pattern.now c.args.kinds.now c.args.objects.now c.args.named.now c.compile_known-left.result.answer c.compile_known-left.new.buffer =
-        known_compiles _ _ _ _ _ _ _ lengths.0 lengths.1 c.set_cells.ensures c.set_cells-2.ensures _ c.no_words-buffer.ensures c.compile_known-left.ensures in
+    known_compiles _ _ _ _ _ _ _ lengths.0 lengths.1 c.set_cells.ensures c.set_cells-2.ensures _ c.no_words-buffer.ensures c.compile_known-left.ensures in
     let zero : compiled_number c.compile_known-left.result.answer ≡ 0 = sym c.number.ensures.0 ∙ c.if-number-ne0.false in
     let inside : c.place-count.result ≤ length c.compile_known-left.new.buffer = omega (arith, c.place-count.ensures, compiles.few zero, compiles.long zero) in
     let fits : c.place-count.result ≤ 768 = omega (arith, c.place-count.ensures, compiles.few zero) in
@@ -64,6 +63,6 @@ pub returns : goal.returns
 returns c =
     let lengths : (length c.args.objects.now ≡ 64) × (length c.args.named.now ≡ 64) = cells_lengths _ _ c.if-objects-named.false in
     let compiles : Compiles c.args.create c.args.pattern.now c.args.kinds.now c.args.objects.now c.args.named.now c.compile_known-left.result.answer c.compile_known-left.new.buffer =
-        known_compiles _ _ _ _ _ _ _ lengths.0 lengths.1 c.set_cells.ensures c.set_cells-2.ensures _ c.no_words-buffer.ensures c.compile_known-left.ensures in
+    known_compiles _ _ _ _ _ _ _ lengths.0 lengths.1 c.set_cells.ensures c.set_cells-2.ensures _ c.no_words-buffer.ensures c.compile_known-left.ensures in
     let zero : compiled_number c.compile_known-left.result.answer ≡ 0 = sym c.number.ensures.0 ∙ c.if-number-ne0.false in
     c.deliver.ensures ∙ rw c.place-count.ensures (compiles.delivered _ zero)

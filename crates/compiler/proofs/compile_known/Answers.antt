@@ -1,6 +1,5 @@
 -- A refusal clears the buffer; otherwise the walk says what its words are.
 use mathlib.Core.Path.{sym, ◌∙◌}
-use borrow.Author.Rules.{rules}
 use Rattle.knowing.proofs.FindingLaws.{found_some, found_none}
 use Rattle.compiler.proofs.WalkLaws.{refused_known}
 use Rattle.compiler.proofs.compile_known.Goals as goal

@@ -2,8 +2,6 @@
 use Prim.Native.Nat.{◌≤◌}
 use mathlib.Core.Path.{◌≡◌, sym, ◌∙◌}
 use native.Mathlib.Omega.{arith}
-use borrow.Author.Rules.{rules}
-use borrow.Author.Tests.{not-true, not-false}
 use lib.Seq.{length-take-le}
 use lib.Dec.{eqb}
 use lib.ListN.{length}
@@ -108,12 +106,11 @@ deliver-requires c =
     c.compile_known-left.ensures) in
     let zero : compiled_number c.compile_known-left.result.answer ≡ 0 = sym c.number.ensures.0 ∙ c.if-number-ne0.false in
     let few : c.place-count.result ≤ 767 = rw c.place-count.ensures (compiles.few zero) in
-    let inside : c.place-count.result ≤ length c.compile_known-left.new.buffer = omega (arith, few, compiles.long zero) in
-    (
-  rw (length-take-le c.place-count.result _ inside)
-      (omega (arith, few)),
-  fits.code_bytes,
-)
+    let inside : c.place-count.result ≤ length c.compile_known-left.new.buffer = omega (arith, few, compiles.long zero) in (
+      rw (length-take-le c.place-count.result _ inside)
+          (omega (arith, few)),
+      fits.code_bytes,
+    )
 
 pub returns : goal.returns
 returns c =

@@ -1,14 +1,12 @@
-use mathlib.Core.Path.{◌≡◌, refl, sym, ◌∙◌}
+use mathlib.Core.Path.{refl, sym, ◌∙◌}
 use native.Mathlib.Omega.{arith}
-use lib.ListN.{length}
 use Rattle.emission.proofs.BudgetLaws.{leaf_room}
 use Rattle.patterns.proofs.StandingLaws.{slot, encryption_key, encryption_child, let_children, variable_low}
-use Rattle.emission.proofs.PartLaws.{Walked, parts_begin, parts_end}
-use Rattle.creating.specs.Creates.{parts_code}
+use Rattle.emission.proofs.PartLaws.{parts_begin, parts_end}
 use Rattle.creating.proofs.LeafLaws.{key_room}
 use Rattle.creating.proofs.ChildLaws.{encryption_inside, encrypt_room, seal_room, encryption_done, let_first, let_store, let_second, let_done}
 use Rattle.creating.proofs.PartLaws.{in_turn_lem, part_asks, part_stores, part_done, tuple_asks, tuple_create, tuple_encode, tuple_done}
-use Prim.Native.Nat.{ℕ, ◌+◌, ◌-◌, ◌*◌, ◌<◌}
+use Prim.Native.Nat.{◌-◌}
 use borrow.Author.Rules.{rules}
 use Rattle.creating.proofs.+creating.Goals as goal
 
@@ -33,9 +31,12 @@ create_encryption-encrypt-requires t c =
 pub create_encryption-decode-requires : goal.create_encryption-decode-requires
 create_encryption-decode-requires t c =
     let asked = c.requires in
-    let first = slot _ _ 0 c.slots-children.ensures in record { room_for = seal_room _ _ _ asked.row_at asked.word_value _ first c.create_key.ensures
-          c.create_row.ensures c.encrypt.ensures; v_lt_variables = variable_low _ _
-          c.variable-e.ensures }
+    let first = slot _ _ 0 c.slots-children.ensures in record {
+      room_for = seal_room _ _ _ asked.row_at asked.word_value _ first c.create_key.ensures
+          c.create_row.ensures c.encrypt.ensures;
+      v_lt_variables = variable_low _ _
+          c.variable-e.ensures;
+    }
 
 pub create_encryption-returns : goal.create_encryption-returns
 create_encryption-returns t c =
@@ -118,34 +119,34 @@ create_parts-returns t c =
     parts_end (in_turn_lem _) _ _ _ _ (search rules) c.requires _ c.loop-k.invariant c.loop-k-test.false
 
 pub create_row-create_encryption-requires : goal.create_row-create_encryption-requires
-create_row-create_encryption-requires t c =
-    (
-      omega (arith, c.decreases),
-      (record { standing = record { here = refl; stands = c.requires.stands }; room = c.requires.room }, sym c.tag-tag.ensures ∙ c.in-5.is),
-    )
+create_row-create_encryption-requires t c = (
+  omega (arith, c.decreases),
+  (record { standing = record { here = refl; stands = c.requires.stands }; room = c.requires.room }, sym c.tag-tag.ensures ∙ c.in-5.is),
+)
 
 pub create_row-create_tuple-requires : goal.create_row-create_tuple-requires
-create_row-create_tuple-requires t c =
-    (
-      omega (arith, c.decreases),
-      (record { standing = record { here = refl; stands = c.requires.stands }; room = c.requires.room }, sym c.tag-tag.ensures ∙ c.in-8.is),
-    )
+create_row-create_tuple-requires t c = (
+  omega (arith, c.decreases),
+  (record { standing = record { here = refl; stands = c.requires.stands }; room = c.requires.room }, sym c.tag-tag.ensures ∙ c.in-8.is),
+)
 
 pub create_row-create_let-requires : goal.create_row-create_let-requires
-create_row-create_let-requires t c =
-    (
-      omega (arith, c.decreases),
-      (record { standing = record { here = refl; stands = c.requires.stands }; room = c.requires.room }, sym c.tag-tag.ensures ∙ c.in-9.is),
-    )
+create_row-create_let-requires t c = (
+  omega (arith, c.decreases),
+  (record { standing = record { here = refl; stands = c.requires.stands }; room = c.requires.room }, sym c.tag-tag.ensures ∙ c.in-9.is),
+)
 
 pub create_row-create_leaf-requires : goal.create_row-create_leaf-requires
 create_row-create_leaf-requires t c =
     let tag = c.tag-tag.ensures in
-    let other = c.in_default.in_default-own.rest in record { row_at = record {
+    let other = c.in_default.in_default-own.rest in record {
+      row_at = record {
         standing = record { here = refl; stands = c.requires.stands };
         room = c.requires.room;
-      }; leaf = record
-          { encryption = λ h. other.0.0.1 (tag ∙ h); tuple = λ h. other.0.1 (tag ∙ h); let_in = λ h. other.1 (tag ∙ h) } }
+      };
+      leaf = record
+          { encryption = λ h. other.0.0.1 (tag ∙ h); tuple = λ h. other.0.1 (tag ∙ h); let_in = λ h. other.1 (tag ∙ h) };
+    }
 
 pub create_tuple-take-first-requires : goal.create_tuple-take-first-requires
 create_tuple-take-first-requires t c =
@@ -176,10 +177,13 @@ create_tuple-scratch-cell-requires t c = omega (
 pub create_tuple-create_tuple-requires : goal.create_tuple-create_tuple-requires
 create_tuple-create_tuple-requires t c =
     let asked = c.requires in
-    let taken = c.take-first.ensures in record { room_for = tuple_create _ _ _ asked.row_at asked.word_value _ c.count-n.ensures
+    let taken = c.take-first.ensures in record {
+      room_for = tuple_create _ _ _ asked.row_at asked.word_value _ c.count-n.ensures
           _ c.slots.ensures _ _ c.parts_of.ensures taken.0
-          taken.1 _ c.create_parts.ensures; t_lt_variables = variable_low _ _
-          c.variable-t.ensures }
+          taken.1 _ c.create_parts.ensures;
+      t_lt_variables = variable_low _ _
+          c.variable-t.ensures;
+    }
 
 pub create_tuple-encode-requires : goal.create_tuple-encode-requires
 create_tuple-encode-requires t c =

@@ -1,15 +1,6 @@
-use mathlib.Core.Path.{◌≡◌, refl, sym, ◌∙◌}
-use native.Mathlib.Omega.{arith}
-use lib.ListN.{length}
-use Rattle.emission.proofs.BudgetLaws.{leaf_room}
-use Rattle.patterns.proofs.StandingLaws.{slot, encryption_key, encryption_child, let_children, variable_low}
-use Rattle.emission.proofs.PartLaws.{Walked, parts_begin, parts_end}
+use Rattle.emission.proofs.PartLaws.{Walked}
 use Rattle.creating.specs.Creates.{parts_code}
-use Rattle.creating.proofs.LeafLaws.{key_room}
-use Rattle.creating.proofs.ChildLaws.{encryption_inside, encrypt_room, seal_room, encryption_done, let_first, let_store, let_second, let_done}
-use Rattle.creating.proofs.PartLaws.{in_turn_lem, part_asks, part_stores, part_done, tuple_asks, tuple_create, tuple_encode, tuple_done}
-use Prim.Native.Nat.{ℕ, ◌+◌, ◌-◌, ◌*◌, ◌<◌}
-use borrow.Author.Rules.{rules}
+use Prim.Native.Nat.{◌+◌, ◌-◌, ◌*◌}
 use Rattle.creating.proofs.+creating.Given as goal
 
 abbrev pub decreases-create_encryption : goal.decreases-create_encryption

@@ -1,5 +1,4 @@
 use Rattle.creating.proofs.LeafLaws.{leaf-asks, leaf_object, leaf_raw, leaf_constant, leaf_opposite, leaf_key_of, leaf_hash}
-use borrow.Author.Rules.{rules}
 use Rattle.creating.proofs.create_leaf.Goals as goal
 
 pub create_object-requires : goal.create_object-requires

@@ -1,6 +1,5 @@
 use Rattle.patterns.proofs.StandingLaws.{signature_key, variable_low}
 use Rattle.creating.proofs.LeafLaws.{key_room, body_room, sign_room, decode_room, signed}
-use borrow.Author.Rules.{rules}
 use Rattle.creating.proofs.create_signature.Goals as goal
 
 pub create_key-requires : goal.create_key-requires
@@ -14,10 +13,13 @@ sign-requires c = sign_room _ _ _ c.requires.row_at
     c.create_key.ensures c.load.ensures
 
 pub decode-requires : goal.decode-requires
-decode-requires c = record { room_for = decode_room _ _ _ c.requires.row_at
+decode-requires c = record {
+  room_for = decode_room _ _ _ c.requires.row_at
       c.create_key.ensures
-      c.load.ensures c.sign.ensures; v_lt_variables = variable_low _ _
-      c.variable-s.ensures }
+      c.load.ensures c.sign.ensures;
+  v_lt_variables = variable_low _ _
+      c.variable-s.ensures;
+}
 
 pub returns : goal.returns
 returns c = search (signed)

@@ -2,7 +2,7 @@
 use Prim.Native.Nat.{◌-◌}
 use native.Mathlib.Omega.{arith}
 use borrow.Author.Rules.{scaled_Fits}
-use Rattle.word.proofs.CopyLaws.{Copied, copied_none, copied_more, copied_all}
+use Rattle.word.proofs.CopyLaws.{copied_none, copied_more, copied_all}
 use Rattle.delivery.proofs.copy.Goals as goal
 
 pub loop-place-init : goal.loop-place-init

@@ -1,8 +1,6 @@
 -- Up to the place the words are copied.
 use Prim.Native.Nat.{◌-◌}
-use native.Mathlib.Omega.{arith}
-use borrow.Author.Rules.{scaled_Fits}
-use Rattle.word.proofs.CopyLaws.{Copied, copied_none, copied_more, copied_all}
+use Rattle.word.proofs.CopyLaws.{Copied}
 use Rattle.delivery.proofs.copy.Given as goal
 
 abbrev pub invariant-loop-place : goal.invariant-loop-place

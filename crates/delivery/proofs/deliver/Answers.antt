@@ -1,4 +1,3 @@
-use borrow.Author.Rules.{rules}
 use Rattle.delivery.proofs.DeliveryLaws.{too_short, all_fit}
 use Rattle.delivery.proofs.deliver.Goals as goal
 

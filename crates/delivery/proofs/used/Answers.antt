@@ -2,7 +2,6 @@
 use mathlib.Core.Path.{sym, refl}
 use native.Mathlib.Omega.{arith}
 use lib.Seq.{length-take-le}
-use borrow.Author.Rules.{rules}
 use Rattle.delivery.proofs.DeliveryLaws.{part_fits, part_short}
 use Rattle.delivery.proofs.used.Goals as goal
 

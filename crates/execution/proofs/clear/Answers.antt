@@ -1,9 +1,8 @@
 -- Up to the row the rows are cleared.
-use Prim.Native.Nat.{◌≤◌, ◌-◌}
+use Prim.Native.Nat.{◌-◌}
 use mathlib.Core.Path.{◌≡◌}
 use native.Mathlib.Omega.{arith}
 use borrow.Author.Rules.{scaled_Fits}
-use Rattle.execution.specs.Steps.{Cleared}
 use Rattle.execution.proofs.ClearLaws.{cleared_none, cleared_more}
 use Rattle.execution.proofs.clear.Goals as goal
 

@@ -1,10 +1,6 @@
 -- Up to the row the rows are cleared.
 use Prim.Native.Nat.{◌≤◌, ◌-◌}
-use mathlib.Core.Path.{◌≡◌}
-use native.Mathlib.Omega.{arith}
-use borrow.Author.Rules.{scaled_Fits}
 use Rattle.execution.specs.Steps.{Cleared}
-use Rattle.execution.proofs.ClearLaws.{cleared_none, cleared_more}
 use Rattle.execution.proofs.clear.Given as goal
 
 abbrev pub invariant-loop-row : goal.invariant-loop-row

@@ -2,10 +2,8 @@
 use Prim.Native.Nat.{◌-◌}
 use mathlib.Core.Path.{sym, ◌∙◌}
 use native.Mathlib.Omega.{arith}
-use borrow.Author.Rules.{rules, scaled_Fits}
-use lib.ListN.{length}
-use Rattle.execution.specs.Steps.{lent_from}
-use Rattle.execution.proofs.GoingLaws.{Going, going_start, going_within, going_good, going_next, going_counted, going_end, stuck_spans, stuck_ends, room_spans, room_ends}
+use borrow.Author.Rules.{scaled_Fits}
+use Rattle.execution.proofs.GoingLaws.{going_start, going_within, going_good, going_next, going_counted, going_end, stuck_spans, stuck_ends, room_spans, room_ends}
 use Rattle.execution.proofs.steps.Goals as goal
 
 pub loop-i-init : goal.loop-i-init

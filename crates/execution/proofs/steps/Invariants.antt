@@ -1,11 +1,8 @@
 -- The loop's invariant is a run that has come to a word.
 use Prim.Native.Nat.{◌-◌}
-use mathlib.Core.Path.{sym, ◌∙◌}
-use native.Mathlib.Omega.{arith}
-use borrow.Author.Rules.{rules, scaled_Fits}
 use lib.ListN.{length}
 use Rattle.execution.specs.Steps.{lent_from}
-use Rattle.execution.proofs.GoingLaws.{Going, going_start, going_within, going_good, going_next, going_counted, going_end, stuck_spans, stuck_ends, room_spans, room_ends}
+use Rattle.execution.proofs.GoingLaws.{Going}
 use Rattle.execution.proofs.steps.Given as goal
 
 abbrev pub invariant-loop-i : goal.invariant-loop-i

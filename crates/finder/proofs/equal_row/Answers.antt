@@ -1,10 +1,8 @@
 -- The invariant: the search over all rows is the search over those that are left.
-use Prim.Native.Nat.{◌≤◌}
-use mathlib.Core.Path.{◌≡◌, sym, ap}
+use mathlib.Core.Path.{sym, ap}
 use native.Mathlib.Omega.{arith}
-use borrow.Author.Rules.{rules, scaled_Fits}
+use borrow.Author.Rules.{scaled_Fits}
 use Rattle.word.specs.Lowest.{place_of}
-use Rattle.terms.specs.Finder.{equal_row}
 use Rattle.finder.proofs.BlockLaws.{left_here, left_lower, left_none}
 use Rattle.finder.proofs.equal_row.Goals as goal
 

@@ -1,11 +1,7 @@
 -- The invariant: the search over all rows is the search over those that are left.
 use Prim.Native.Nat.{◌≤◌}
-use mathlib.Core.Path.{◌≡◌, sym, ap}
-use native.Mathlib.Omega.{arith}
-use borrow.Author.Rules.{rules, scaled_Fits}
-use Rattle.word.specs.Lowest.{place_of}
+use mathlib.Core.Path.{◌≡◌}
 use Rattle.terms.specs.Finder.{equal_row}
-use Rattle.finder.proofs.BlockLaws.{left_here, left_lower, left_none}
 use Rattle.finder.proofs.equal_row.Given as goal
 
 abbrev pub invariant-loop-left : goal.invariant-loop-left

@@ -1,9 +1,7 @@
 -- The invariant: the search over all rows is the search over those that are left.
-use Prim.Native.Nat.{◌-◌, ◌≤◌}
-use mathlib.Core.Path.{◌≡◌, refl, sym, ◌∙◌}
+use Prim.Native.Nat.{◌-◌}
+use mathlib.Core.Path.{refl, sym, ◌∙◌}
 use native.Mathlib.Omega.{arith}
-use borrow.Author.Rules.{rules}
-use Rattle.terms.specs.Finder.{equal_row}
 use Rattle.finder.proofs.BlockLaws.{passes_block}
 use Rattle.finder.proofs.rows_left.Goals as goal
 

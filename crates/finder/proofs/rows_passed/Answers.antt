@@ -3,8 +3,7 @@ use Prim.Native.Nat.{◌≤◌, ◌-◌}
 use mathlib.Core.Path.{sym, ◌∙◌}
 use native.Mathlib.Omega.{arith}
 use lib.ListN.{length}
-use borrow.Author.Rules.{rules}
-use Rattle.terms.proofs.FinderLaws.{Absent, equal_absent}
+use Rattle.terms.proofs.FinderLaws.{equal_absent}
 use Rattle.finder.proofs.BlockLaws.{absent_block}
 use Rattle.finder.proofs.rows_passed.Goals as goal
 

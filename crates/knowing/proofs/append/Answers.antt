@@ -1,5 +1,4 @@
 use Rattle.knowing.proofs.StepLaws.{appended}
-use borrow.Author.Rules.{rules}
 use Rattle.knowing.proofs.append.Goals as goal
 
 pub returns : goal.returns

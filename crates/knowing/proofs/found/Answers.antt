@@ -1,6 +1,5 @@
 use mathlib.Core.Path.{sym, ap}
 use lib.ListN.{get_or}
-use borrow.Author.Rules.{rules}
 use Rattle.knowing.specs.Findings.{finding_of}
 use Rattle.knowing.proofs.FindingLaws.{refusal_at, no_refusal}
 use Rattle.knowing.proofs.found.Goals as goal

@@ -1,5 +1,4 @@
 use Rattle.knowing.proofs.StepLaws.{free-ways}
-use borrow.Author.Rules.{rules}
 use Rattle.knowing.proofs.free_raw.Goals as goal
 
 pub returns-then-raw_known : goal.returns-then-raw_known

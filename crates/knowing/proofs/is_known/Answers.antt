@@ -1,7 +1,6 @@
 use mathlib.Core.Path.{sym}
 use borrow.Author.Tests.{lt-ltb, le-ltb}
 use Rattle.knowing.specs.Known.{known}
-use borrow.Author.Rules.{rules}
 use Rattle.knowing.proofs.is_known.Goals as goal
 
 pub returns-then-v-lt-VARIABLES : goal.returns-then-v-lt-VARIABLES

@@ -1,5 +1,4 @@
 use Rattle.knowing.proofs.StepLaws.{read-ways}
-use borrow.Author.Rules.{rules}
 use Rattle.knowing.proofs.read_object.Goals as goal
 
 pub returns-then-object_known : goal.returns-then-object_known

@@ -1,7 +1,6 @@
 use mathlib.Core.Path.{sym}
 use borrow.Author.Tests.{eq-eqb, ne_eqb}
 use Rattle.knowing.specs.Meets.{refusing}
-use borrow.Author.Rules.{rules}
 use Rattle.knowing.proofs.refuse.Goals as goal
 
 pub returns-then-emission-eq0 : goal.returns-then-emission-eq0

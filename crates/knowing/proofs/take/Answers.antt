@@ -1,6 +1,5 @@
 use mathlib.Core.Path.{refl}
 use Rattle.knowing.proofs.StepLaws.{raised}
-use borrow.Author.Rules.{rules}
 use Rattle.knowing.proofs.take.Goals as goal
 
 pub returns : goal.returns

@@ -1,7 +1,7 @@
 -- Up to the variable the kinds are copied.
 use Prim.Native.Nat.{◌-◌}
 use native.Mathlib.Omega.{arith}
-use Rattle.word.proofs.CopyLaws.{Copied, copied_none, copied_more, copied_whole}
+use Rattle.word.proofs.CopyLaws.{copied_none, copied_more, copied_whole}
 use Rattle.layout.proofs.all_kinds.Goals as goal
 
 pub loop-v-init : goal.loop-v-init

@@ -1,7 +1,6 @@
 -- Up to the variable the kinds are copied.
 use Prim.Native.Nat.{◌-◌}
-use native.Mathlib.Omega.{arith}
-use Rattle.word.proofs.CopyLaws.{Copied, copied_none, copied_more, copied_whole}
+use Rattle.word.proofs.CopyLaws.{Copied}
 use Rattle.layout.proofs.all_kinds.Given as goal
 
 abbrev pub invariant-loop-v : goal.invariant-loop-v

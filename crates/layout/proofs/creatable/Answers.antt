@@ -1,5 +1,4 @@
 use Rattle.layout.proofs.KindLaws.{creatable_is}
-use borrow.Author.Rules.{rules}
 use Rattle.layout.proofs.creatable.Goals as goal
 
 pub returns : goal.returns

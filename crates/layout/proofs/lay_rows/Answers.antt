@@ -1,8 +1,8 @@
 -- Up to the row the pattern's rows are copied.
 use Prim.Native.Nat.{◌-◌}
 use native.Mathlib.Omega.{arith}
-use borrow.Author.Rules.{rules, scaled_Fits}
-use Rattle.word.proofs.CopyLaws.{Copied, copied_none, copied_more, copied_all}
+use borrow.Author.Rules.{scaled_Fits}
+use Rattle.word.proofs.CopyLaws.{copied_none, copied_more, copied_all}
 use Rattle.layout.proofs.lay_rows.Goals as goal
 
 pub loop-row-init : goal.loop-row-init

@@ -1,8 +1,6 @@
 -- Up to the row the pattern's rows are copied.
 use Prim.Native.Nat.{◌-◌}
-use native.Mathlib.Omega.{arith}
-use borrow.Author.Rules.{rules, scaled_Fits}
-use Rattle.word.proofs.CopyLaws.{Copied, copied_none, copied_more, copied_all}
+use Rattle.word.proofs.CopyLaws.{Copied}
 use Rattle.layout.proofs.lay_rows.Given as goal
 
 abbrev pub invariant-loop-row : goal.invariant-loop-row

@@ -6,8 +6,6 @@ use mathlib.Core.Option.{none}
 use mathlib.Core.List.{List}
 use native.Mathlib.Omega.{arith}
 use lib.ListN.{length}
-use borrow.Author.Rules.{rules}
-use borrow.Author.Tests.{not-true, not-false}
 use Rattle.terms.specs.Rules.{used_rows, bad_term}
 use Rattle.word.proofs.ScanLaws.{placed_at, placed_nowhere}
 use Rattle.terms.proofs.TableLaws.{used_rows_lem}
@@ -21,14 +19,14 @@ use Rattle.looking.proofs.look.Goals as goal
 pub returns-then-not-lengths_fit : goal.returns-then-not-lengths_fit
 returns-then-not-lengths_fit c =
     let x : Lent = record {
-  kinds = c.args.kinds.now;
-  objects = c.args.objects.now;
-  messages = c.args.messages.now;
-  certificates = c.args.certificates.now;
-  accumulator = c.args.accumulator;
-  terms = c.args.rows.now;
-  counter = c.args.counter;
-} in
+      kinds = c.args.kinds.now;
+      objects = c.args.objects.now;
+      messages = c.args.messages.now;
+      certificates = c.args.certificates.now;
+      accumulator = c.args.accumulator;
+      terms = c.args.rows.now;
+      counter = c.args.counter;
+    } in
     let words : List ℕ = c.args.words.now in
     found_limit x
     words (sym c.lengths_fit.ensures ∙ c.if-not-lengths_fit.true)
@@ -36,14 +34,14 @@ returns-then-not-lengths_fit c =
 pub first_bad_row-checked-requires : goal.first_bad_row-checked-requires
 first_bad_row-checked-requires c =
     let x : Lent = record {
-  kinds = c.args.kinds.now;
-  objects = c.args.objects.now;
-  messages = c.args.messages.now;
-  certificates = c.args.certificates.now;
-  accumulator = c.args.accumulator;
-  terms = c.args.rows.now;
-  counter = c.args.counter;
-} in
+      kinds = c.args.kinds.now;
+      objects = c.args.objects.now;
+      messages = c.args.messages.now;
+      certificates = c.args.certificates.now;
+      accumulator = c.args.accumulator;
+      terms = c.args.rows.now;
+      counter = c.args.counter;
+    } in
     let words : List ℕ = c.args.words.now in
     let fits : lengths_fit x words ≡ true = sym c.lengths_fit.ensures ∙ c.if-not-lengths_fit.false in
     let long : LentWithin x × (length words ≤ most_code_words) = (run_within x words).0 (true_holds fits) in
@@ -52,14 +50,14 @@ first_bad_row-checked-requires c =
 pub overflow_cast-counted : goal.overflow_cast-counted
 overflow_cast-counted c =
     let x : Lent = record {
-  kinds = c.args.kinds.now;
-  objects = c.args.objects.now;
-  messages = c.args.messages.now;
-  certificates = c.args.certificates.now;
-  accumulator = c.args.accumulator;
-  terms = c.args.rows.now;
-  counter = c.args.counter;
-} in
+      kinds = c.args.kinds.now;
+      objects = c.args.objects.now;
+      messages = c.args.messages.now;
+      certificates = c.args.certificates.now;
+      accumulator = c.args.accumulator;
+      terms = c.args.rows.now;
+      counter = c.args.counter;
+    } in
     let words : List ℕ = c.args.words.now in
     let fits : lengths_fit x words ≡ true = sym c.lengths_fit.ensures ∙ c.if-not-lengths_fit.false in
     let long : LentWithin x × (length words ≤ most_code_words) = (run_within x words).0 (true_holds fits) in
@@ -68,14 +66,14 @@ overflow_cast-counted c =
 pub overflow_cast-used : goal.overflow_cast-used
 overflow_cast-used c =
     let x : Lent = record {
-  kinds = c.args.kinds.now;
-  objects = c.args.objects.now;
-  messages = c.args.messages.now;
-  certificates = c.args.certificates.now;
-  accumulator = c.args.accumulator;
-  terms = c.args.rows.now;
-  counter = c.args.counter;
-} in
+      kinds = c.args.kinds.now;
+      objects = c.args.objects.now;
+      messages = c.args.messages.now;
+      certificates = c.args.certificates.now;
+      accumulator = c.args.accumulator;
+      terms = c.args.rows.now;
+      counter = c.args.counter;
+    } in
     let words : List ℕ = c.args.words.now in
     let fits : lengths_fit x words ≡ true = sym c.lengths_fit.ensures ∙ c.if-not-lengths_fit.false in
     let long : LentWithin x × (length words ≤ most_code_words) = (run_within x words).0 (true_holds fits) in
@@ -86,14 +84,14 @@ overflow_cast-used c =
 pub returns-then-not-valid : goal.returns-then-not-valid
 returns-then-not-valid c =
     let x : Lent = record {
-  kinds = c.args.kinds.now;
-  objects = c.args.objects.now;
-  messages = c.args.messages.now;
-  certificates = c.args.certificates.now;
-  accumulator = c.args.accumulator;
-  terms = c.args.rows.now;
-  counter = c.args.counter;
-} in
+      kinds = c.args.kinds.now;
+      objects = c.args.objects.now;
+      messages = c.args.messages.now;
+      certificates = c.args.certificates.now;
+      accumulator = c.args.accumulator;
+      terms = c.args.rows.now;
+      counter = c.args.counter;
+    } in
     let words : List ℕ = c.args.words.now in
     let fits : lengths_fit x words ≡ true = sym c.lengths_fit.ensures ∙ c.if-not-lengths_fit.false in
     let table : List ℕ = x.terms in
@@ -105,14 +103,14 @@ returns-then-not-valid c =
 pub first_bad_word-place-requires : goal.first_bad_word-place-requires
 first_bad_word-place-requires c =
     let x : Lent = record {
-  kinds = c.args.kinds.now;
-  objects = c.args.objects.now;
-  messages = c.args.messages.now;
-  certificates = c.args.certificates.now;
-  accumulator = c.args.accumulator;
-  terms = c.args.rows.now;
-  counter = c.args.counter;
-} in
+      kinds = c.args.kinds.now;
+      objects = c.args.objects.now;
+      messages = c.args.messages.now;
+      certificates = c.args.certificates.now;
+      accumulator = c.args.accumulator;
+      terms = c.args.rows.now;
+      counter = c.args.counter;
+    } in
     let words : List ℕ = c.args.words.now in
     let fits : lengths_fit x words ≡ true = sym c.lengths_fit.ensures ∙ c.if-not-lengths_fit.false in
     let long : LentWithin x × (length words ≤ most_code_words) = (run_within x words).0 (true_holds fits) in
@@ -121,14 +119,14 @@ first_bad_word-place-requires c =
 pub returns-in-Bad : goal.returns-in-Bad
 returns-in-Bad c =
     let x : Lent = record {
-  kinds = c.args.kinds.now;
-  objects = c.args.objects.now;
-  messages = c.args.messages.now;
-  certificates = c.args.certificates.now;
-  accumulator = c.args.accumulator;
-  terms = c.args.rows.now;
-  counter = c.args.counter;
-} in
+      kinds = c.args.kinds.now;
+      objects = c.args.objects.now;
+      messages = c.args.messages.now;
+      certificates = c.args.certificates.now;
+      accumulator = c.args.accumulator;
+      terms = c.args.rows.now;
+      counter = c.args.counter;
+    } in
     let words : List ℕ = c.args.words.now in
     let fits : lengths_fit x words ≡ true = sym c.lengths_fit.ensures ∙ c.if-not-lengths_fit.false in
     found_term x words fits c.used_rows-counted.ensures
@@ -137,14 +135,14 @@ returns-in-Bad c =
 pub returns-in-At : goal.returns-in-At
 returns-in-At c =
     let x : Lent = record {
-  kinds = c.args.kinds.now;
-  objects = c.args.objects.now;
-  messages = c.args.messages.now;
-  certificates = c.args.certificates.now;
-  accumulator = c.args.accumulator;
-  terms = c.args.rows.now;
-  counter = c.args.counter;
-} in
+      kinds = c.args.kinds.now;
+      objects = c.args.objects.now;
+      messages = c.args.messages.now;
+      certificates = c.args.certificates.now;
+      accumulator = c.args.accumulator;
+      terms = c.args.rows.now;
+      counter = c.args.counter;
+    } in
     let words : List ℕ = c.args.words.now in
     let fits : lengths_fit x words ≡ true = sym c.lengths_fit.ensures ∙ c.if-not-lengths_fit.false in
     let table : List ℕ = x.terms in
@@ -159,14 +157,14 @@ returns-in-At c =
 pub returns-in-Nowhere : goal.returns-in-Nowhere
 returns-in-Nowhere c =
     let x : Lent = record {
-  kinds = c.args.kinds.now;
-  objects = c.args.objects.now;
-  messages = c.args.messages.now;
-  certificates = c.args.certificates.now;
-  accumulator = c.args.accumulator;
-  terms = c.args.rows.now;
-  counter = c.args.counter;
-} in
+      kinds = c.args.kinds.now;
+      objects = c.args.objects.now;
+      messages = c.args.messages.now;
+      certificates = c.args.certificates.now;
+      accumulator = c.args.accumulator;
+      terms = c.args.rows.now;
+      counter = c.args.counter;
+    } in
     let words : List ℕ = c.args.words.now in
     let fits : lengths_fit x words ≡ true = sym c.lengths_fit.ensures ∙ c.if-not-lengths_fit.false in
     let table : List ℕ = x.terms in

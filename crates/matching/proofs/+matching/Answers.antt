@@ -1,28 +1,12 @@
-use Prim.Native.Nat.{ℕ, ◌+◌, ◌-◌, ◌*◌, ◌<◌}
-use mathlib.Core.Path.{◌≡◌, refl, sym, ◌∙◌}
+use Prim.Native.Nat.{◌-◌}
+use mathlib.Core.Path.{refl, sym, ◌∙◌}
 use native.Mathlib.Omega.{arith}
 use lib.Dec.{lit≤}
-use lib.ListN.{length}
 use borrow.Author.Rules.{rules}
 use Rattle.emission.proofs.BudgetLaws.{room_le, room_then, leaf_room}
-use Rattle.theory.specs.Compilers.{compile↓parts}
 use Rattle.patterns.proofs.StandingLaws.{slot, encryption_child, let_children, variable_low}
-use Rattle.emission.proofs.PartLaws.{Walked, parts_begin, parts_end, tuple_parts}
-use Rattle.matching.proofs.WalkLaws.{
-  encryption_asks,
-  encryption_done,
-  encryption_wrong,
-  let_second,
-  let_loads,
-  let_first,
-  let_done,
-  in_turn_lem,
-  part_loads,
-  part_asks,
-  part_done,
-  tuple_analyzes,
-  tuple_done,
-}
+use Rattle.emission.proofs.PartLaws.{parts_begin, parts_end, tuple_parts}
+use Rattle.matching.proofs.WalkLaws.{encryption_asks, encryption_done, encryption_wrong, let_second, let_loads, let_first, let_done, in_turn_lem, part_loads, part_asks, part_done, tuple_analyzes, tuple_done}
 use Rattle.matching.proofs.+matching.Goals as goal
 
 pub match_encryption-decode-requires : goal.match_encryption-decode-requires
@@ -127,31 +111,31 @@ match_parts-returns t c =
     parts_end in_turn_lem _ _ _ _ (search rules) c.requires _ c.loop-k.invariant c.loop-k-test.false
 
 pub match_row-match_encryption-requires : goal.match_row-match_encryption-requires
-match_row-match_encryption-requires t c =
-    (
-      omega (arith, c.decreases),
-      (record { standing = record { here = refl; stands = c.requires.stands }; room = c.requires.room }, sym c.tag-tag.ensures ∙ c.in-5.is),
-    )
+match_row-match_encryption-requires t c = (
+  omega (arith, c.decreases),
+  (record { standing = record { here = refl; stands = c.requires.stands }; room = c.requires.room }, sym c.tag-tag.ensures ∙ c.in-5.is),
+)
 
 pub match_row-match_tuple-requires : goal.match_row-match_tuple-requires
-match_row-match_tuple-requires t c =
-    (
-      omega (arith, c.decreases),
-      (record { standing = record { here = refl; stands = c.requires.stands }; room = c.requires.room }, sym c.tag-tag.ensures ∙ c.in-8.is),
-    )
+match_row-match_tuple-requires t c = (
+  omega (arith, c.decreases),
+  (record { standing = record { here = refl; stands = c.requires.stands }; room = c.requires.room }, sym c.tag-tag.ensures ∙ c.in-8.is),
+)
 
 pub match_row-match_let-requires : goal.match_row-match_let-requires
-match_row-match_let-requires t c =
-    (
-      omega (arith, c.decreases),
-      (record { standing = record { here = refl; stands = c.requires.stands }; room = c.requires.room }, sym c.tag-tag.ensures ∙ c.in-9.is),
-    )
+match_row-match_let-requires t c = (
+  omega (arith, c.decreases),
+  (record { standing = record { here = refl; stands = c.requires.stands }; room = c.requires.room }, sym c.tag-tag.ensures ∙ c.in-9.is),
+)
 
 pub match_row-match_leaf-requires : goal.match_row-match_leaf-requires
 match_row-match_leaf-requires t c =
     let n = c.in_default.in_default-own.rest in
-    let tag = c.tag-tag.ensures in record { row_at = record { standing = record { here = refl; stands = c.requires.stands }; room = c.requires.room }; leaf = record
-          { encryption = λ h. n.0.0.1 (tag ∙ h); tuple = λ h. n.0.1 (tag ∙ h); let_in = λ h. n.1 (tag ∙ h) } }
+    let tag = c.tag-tag.ensures in record {
+      row_at = record { standing = record { here = refl; stands = c.requires.stands }; room = c.requires.room };
+      leaf = record
+          { encryption = λ h. n.0.0.1 (tag ∙ h); tuple = λ h. n.0.1 (tag ∙ h); let_in = λ h. n.1 (tag ∙ h) };
+    }
 
 pub match_row-returns-in-5 : goal.match_row-returns-in-5
 match_row-returns-in-5 t c = c.match_encryption.ensures
@@ -195,17 +179,16 @@ match_tuple-parts_of-requires t c =
     )
 
 pub match_tuple-match_parts-requires : goal.match_tuple-match_parts-requires
-match_tuple-match_parts-requires t c =
-    (
-      omega (arith, c.decreases),
-      tuple_parts _ _ _ c.requires.row_at c.requires.word_value _
-          c.count-n.ensures _
-          c.slots.ensures _ _ c.parts_of.ensures
-          c.decode.ensures
-          c.take-first.ensures.0
-          c.take-first.ensures.1
-          c.analyze_tuple.ensures,
-    )
+match_tuple-match_parts-requires t c = (
+  omega (arith, c.decreases),
+  tuple_parts _ _ _ c.requires.row_at c.requires.word_value _
+      c.count-n.ensures _
+      c.slots.ensures _ _ c.parts_of.ensures
+      c.decode.ensures
+      c.take-first.ensures.0
+      c.take-first.ensures.1
+      c.analyze_tuple.ensures,
+)
 
 pub match_tuple-returns : goal.match_tuple-returns
 match_tuple-returns t c =

@@ -1,28 +1,6 @@
-use Prim.Native.Nat.{ℕ, ◌+◌, ◌-◌, ◌*◌, ◌<◌}
-use mathlib.Core.Path.{◌≡◌, refl, sym, ◌∙◌}
-use native.Mathlib.Omega.{arith}
-use lib.Dec.{lit≤}
-use lib.ListN.{length}
-use borrow.Author.Rules.{rules}
-use Rattle.emission.proofs.BudgetLaws.{room_le, room_then, leaf_room}
+use Prim.Native.Nat.{◌+◌, ◌-◌, ◌*◌}
 use Rattle.theory.specs.Compilers.{compile↓parts}
-use Rattle.patterns.proofs.StandingLaws.{slot, encryption_child, let_children, variable_low}
-use Rattle.emission.proofs.PartLaws.{Walked, parts_begin, parts_end, tuple_parts}
-use Rattle.matching.proofs.WalkLaws.{
-  encryption_asks,
-  encryption_done,
-  encryption_wrong,
-  let_second,
-  let_loads,
-  let_first,
-  let_done,
-  in_turn_lem,
-  part_loads,
-  part_asks,
-  part_done,
-  tuple_analyzes,
-  tuple_done,
-}
+use Rattle.emission.proofs.PartLaws.{Walked}
 use Rattle.matching.proofs.+matching.Given as goal
 
 abbrev pub decreases-match_encryption : goal.decreases-match_encryption

@@ -1,5 +1,4 @@
 use Rattle.matching.proofs.LeafLaws.{leaf-asks, leaf_object, leaf_raw, leaf_constant, leaf_opposite, leaf_key_of, leaf_hash}
-use borrow.Author.Rules.{rules}
 use Rattle.matching.proofs.match_leaf.Goals as goal
 
 pub match_object-requires : goal.match_object-requires

@@ -1,5 +1,4 @@
 use Rattle.code.proofs.KindLaws.{cells_some, cells_many}
-use borrow.Author.Rules.{rules}
 use Rattle.operands.proofs.cells_fit.Goals as goal
 
 pub returns-then-n-le-MOST_PARTS : goal.returns-then-n-le-MOST_PARTS

@@ -1,5 +1,4 @@
 use Rattle.code.proofs.KindLaws.{has_any, has_none}
-use borrow.Author.Rules.{rules}
 use Rattle.operands.proofs.declared.Goals as goal
 
 pub returns-then-kind-ge-BYTE : goal.returns-then-kind-ge-BYTE

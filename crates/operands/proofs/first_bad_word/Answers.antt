@@ -1,7 +1,5 @@
 use Prim.Native.Nat.{◌-◌}
-use borrow.Author.Rules.{rules}
-use lib.ListN.{get_or}
-use Rattle.code.proofs.ReadLaws.{GoodBefore, checking}
+use Rattle.code.proofs.ReadLaws.{checking}
 use Rattle.operands.proofs.first_bad_word.Goals as goal
 
 pub loop-place-init : goal.loop-place-init

@@ -1,7 +1,6 @@
 use Prim.Native.Nat.{◌-◌}
-use borrow.Author.Rules.{rules}
 use lib.ListN.{get_or}
-use Rattle.code.proofs.ReadLaws.{GoodBefore, checking}
+use Rattle.code.proofs.ReadLaws.{GoodBefore}
 use Rattle.operands.proofs.first_bad_word.Given as goal
 
 abbrev pub invariant-loop-place : goal.invariant-loop-place

@@ -1,5 +1,4 @@
 use Rattle.code.proofs.ReadLaws.{judging}
-use borrow.Author.Rules.{rules}
 use Rattle.operands.proofs.good_word.Goals as goal
 
 pub returns-then-word_of-word : goal.returns-then-word_of-word

@@ -1,5 +1,4 @@
 use Rattle.code.proofs.KindLaws.{has_first, has_second}
-use borrow.Author.Rules.{rules}
 use Rattle.operands.proofs.has_either.Goals as goal
 
 pub returns-then-kind-first : goal.returns-then-kind-first

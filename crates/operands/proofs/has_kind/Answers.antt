@@ -1,5 +1,4 @@
 use Rattle.code.proofs.KindLaws.{has_one}
-use borrow.Author.Rules.{rules}
 use Rattle.operands.proofs.has_kind.Goals as goal
 
 pub returns : goal.returns

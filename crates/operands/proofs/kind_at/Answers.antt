@@ -4,7 +4,6 @@ use native.Mathlib.Omega.{arith}
 use borrow.Author.Tests.{ltb-false}
 use lib.Seq.{get_or-take}
 use Rattle.code.proofs.KindLaws.{kind_none}
-use borrow.Author.Rules.{rules}
 use Rattle.operands.proofs.kind_at.Goals as goal
 
 pub returns-then-at-kinds : goal.returns-then-at-kinds

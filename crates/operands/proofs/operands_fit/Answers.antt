@@ -1,5 +1,4 @@
 use Rattle.code.proofs.KindLaws.{fits_as, split_kinds}
-use borrow.Author.Rules.{rules}
 use Rattle.operands.proofs.operands_fit.Goals as goal
 
 pub returns-in-StoreConst : goal.returns-in-StoreConst

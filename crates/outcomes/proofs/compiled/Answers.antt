@@ -1,7 +1,6 @@
 use mathlib.Core.Path.{sym}
 use native.Mathlib.Omega.{arith}
 use lib.Seq.{length-take-le}
-use borrow.Author.Rules.{rules}
 use Rattle.bundles.proofs.BundleLaws.{lengths}
 use Rattle.outcomes.proofs.PartLaws.{compile_given, front_length, front_inside}
 use Rattle.outcomes.proofs.compiled.Goals as goal

@@ -1,6 +1,5 @@
 use mathlib.Core.Path.{sym, ◌∙◌}
 use Rattle.outcomes.proofs.GivenLaws.{not_opened, is_opened}
-use borrow.Author.Rules.{rules}
 use Rattle.outcomes.proofs.given.Goals as goal
 
 pub given_by_bundle-requires : goal.given_by_bundle-requires

@@ -9,7 +9,6 @@ use Rattle.bundles.specs.Opening.{bundle_in}
 use Rattle.bundles.proofs.BundleLaws.{lengths}
 use Rattle.outcomes.proofs.PartLaws.{front_length, front_inside}
 use Rattle.outcomes.proofs.GivenLaws.{spare_set, spare_clear, compile_refuses, compile_runs, few_words, long_room}
-use borrow.Author.Rules.{rules}
 use Rattle.outcomes.proofs.given_by_bundle.Goals as goal
 
 pub slice_bounds-ran-end : goal.slice_bounds-ran-end
@@ -19,12 +18,12 @@ slice_bounds-ran-end c =
     _ c.compiled-answer.ensures c.number-number.ensures.0 c.place-place.ensures
     c.if-number-ne0.false in
     omega (
-  arith,
-  few,
-  c.compiled-answer.auto,
-  long_room
-      c.requires.1,
-)
+      arith,
+      few,
+      c.compiled-answer.auto,
+      long_room
+          c.requires.1,
+    )
 
 pub slice_bounds-pairs-end : goal.slice_bounds-pairs-end
 slice_bounds-pairs-end c = front_inside _ _ c.certificates-pairs.ensures (lengths _ _ c.requires.0).certificates
@@ -57,32 +56,31 @@ slice_bounds-ran-end-2 c =
     _ c.compiled-answer.ensures c.number-number.ensures.0 c.place-place.ensures
     c.if-number-ne0.false in
     sym (length-take-le c.place-place.result _ (omega (
-  arith,
-  few,
-  c.compiled-answer.auto,
-  long_room
-      c.requires.1,
-)))
+      arith,
+      few,
+      c.compiled-answer.auto,
+      long_room
+          c.requires.1,
+    )))
 
 pub ran-ended-requires : goal.ran-ended-requires
 ran-ended-requires c =
     let few : c.place-place.result ≤ 767 = few_words _ _
     c.requires.0
     _ c.compiled-answer.ensures c.number-number.ensures.0 c.place-place.ensures
-    c.if-number-ne0.false in
-    (
-  c.requires.0,
-  omega (
-    arith,
-    few,
-    length-take
-        c.place-place.result
-        c.compiled-answer.new.code,
-  ),
-  c.requires.2,
-  c.requires.3,
-  c.requires.4,
-)
+    c.if-number-ne0.false in (
+      c.requires.0,
+      omega (
+        arith,
+        few,
+        length-take
+            c.place-place.result
+            c.compiled-answer.new.code,
+      ),
+      c.requires.2,
+      c.requires.3,
+      c.requires.4,
+    )
 
 pub returns : goal.returns
 returns c =
@@ -103,10 +101,10 @@ returns c =
     c.place-place.ensures args.objects.now
     args.messages.now args.rows.now c.if-number-ne0.false
     (omega (
-  arith,
-  few,
-  c.compiled-answer.auto,
-  long_room
-      c.requires.1,
-))
+      arith,
+      few,
+      c.compiled-answer.auto,
+      long_room
+          c.requires.1,
+    ))
     c.ran-ended.ensures.0 c.ran-ended.ensures.1)

@@ -1,7 +1,6 @@
 use native.Mathlib.Omega.{arith}
 use Rattle.bundles.proofs.BundleLaws.{fields, lengths}
 use Rattle.outcomes.proofs.PartLaws.{run_lent, ran_counted, objects_lent, messages_lent, terms_lent, front_length, front_inside}
-use borrow.Author.Rules.{rules}
 use Rattle.outcomes.proofs.ran.Goals as goal
 
 pub term_rows-requires : goal.term_rows-requires

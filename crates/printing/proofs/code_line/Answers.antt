@@ -1,4 +1,3 @@
-use borrow.Author.Rules.{rules}
 use Rattle.printing.proofs.LineLaws.{ways}
 use Rattle.printing.proofs.code_line.Goals as goal
 

@@ -1,15 +1,9 @@
 -- The invariant: the lines of the words passed are written.
 use Prim.Native.Nat.{◌-◌, ◌≤◌}
-use mathlib.Core.Path.{◌≡◌, refl}
-use native.Mathlib.Omega.{arith}
-use lib.ListN.{length, take, length-take}
-use lib.Seq.{take_all}
-use borrow.Author.Rules.{rules}
+use mathlib.Core.Path.{◌≡◌}
+use lib.ListN.{length, take}
 use Rattle.text.specs.Written.{Wrote}
-use Rattle.text.proofs.WrittenLaws.{wrote_length}
 use Rattle.printing.specs.Listing.{code_lines}
-use Rattle.printing.proofs.NumberedLaws.{no_line, one_line}
-use Rattle.printing.proofs.LineLaws.{code_numbered, code_end}
 use Rattle.printing.proofs.code_lines.Given as goal
 
 abbrev pub invariant-loop-place : goal.invariant-loop-place

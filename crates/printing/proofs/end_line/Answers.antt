@@ -1,4 +1,3 @@
-use borrow.Author.Rules.{rules}
 use Rattle.printing.proofs.RanLaws.{ways}
 use Rattle.printing.proofs.end_line.Goals as goal
 

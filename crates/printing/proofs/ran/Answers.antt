@@ -1,5 +1,4 @@
 use native.Mathlib.Omega.{arith}
-use borrow.Author.Rules.{rules}
 use Rattle.printing.proofs.LineLaws.{code_end, word_line_end}
 use Rattle.printing.proofs.RanLaws.{ways}
 use Rattle.printing.proofs.ran.Goals as goal

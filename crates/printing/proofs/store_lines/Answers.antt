@@ -1,8 +1,5 @@
-use mathlib.Core.Path.{sym}
 use native.Mathlib.Omega.{arith}
 use lib.ListN.{length-take}
-use lib.Seq.{length-take-le}
-use borrow.Author.Rules.{rules}
 use Rattle.printing.proofs.LineLaws.{cells_end}
 use Rattle.printing.proofs.RanLaws.{ways}
 use Rattle.printing.proofs.store_lines.Goals as goal

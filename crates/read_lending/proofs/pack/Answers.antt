@@ -1,4 +1,3 @@
-use borrow.Author.Rules.{rules}
 use Rattle.word.specs.Bytes.{elements}
 use Rattle.read_lending.proofs.BytesLaws.{packs}
 use Rattle.read_lending.proofs.pack.Goals as goal

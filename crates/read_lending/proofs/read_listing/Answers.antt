@@ -1,4 +1,3 @@
-use borrow.Author.Rules.{rules}
 use Rattle.read_lending.proofs.BytesLaws.{bad_line_bytes, good_lines_bytes}
 use Rattle.read_lending.proofs.read_listing.Goals as goal
 

@@ -1,4 +1,3 @@
-use borrow.Author.Rules.{rules}
 use Rattle.role_counting.proofs.CountLaws.{half_counted_lem}
 use Rattle.role_counting.proofs.count_half.Goals as goal
 

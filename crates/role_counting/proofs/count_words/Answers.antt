@@ -1,13 +1,9 @@
 -- The halves so far are counted, and the rest goes on from the cells that they set.
-use Prim.Native.Nat.{◌-◌, ◌≤◌}
+use Prim.Native.Nat.{◌-◌}
 use mathlib.Core.Path.{refl, sym, ◌∙◌}
 use native.Mathlib.Omega.{arith}
-use lib.ListN.{length}
-use borrow.Author.Rules.{rules}
-use Rattle.knowing.specs.Known.{known}
-use Rattle.compiler.specs.CompileKnown.{from_known}
 use Rattle.calls.proofs.RoleLaws.{rows_inside}
-use Rattle.role_counting.proofs.CountLaws.{part_of, Counting, counting_none, counting_small, counting_few, counting_more, counting_refused, counting_all}
+use Rattle.role_counting.proofs.CountLaws.{part_of, counting_none, counting_small, counting_few, counting_more, counting_refused, counting_all}
 use Rattle.role_counting.proofs.count_words.Goals as goal
 
 pub loop-half-init : goal.loop-half-init

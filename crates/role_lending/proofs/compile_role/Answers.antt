@@ -4,8 +4,6 @@ use mathlib.Core.Path.{◌≡◌, refl, sym, ◌∙◌}
 use mathlib.Core.Bool.{true}
 use native.Mathlib.Omega.{arith}
 use lib.ListN.{length, get_or}
-use borrow.Author.Rules.{rules}
-use borrow.Author.Tests.{not-true, not-false}
 use Rattle.word.specs.Bytes.{elements}
 use Rattle.word.proofs.ByteLaws.{Below, length_words}
 use Rattle.answers.specs.Numbers.{compiled_number}
@@ -104,8 +102,11 @@ write_rounds-requires c =
     let heard : known c.set_cells-heard.result ≡ (λ v. is_set (get_or (elements 2 c.args.named.now) v unset)) = rw c.cells-named_cells.ensures at c.set_cells-heard.ensures in
     let zero : compiled_number c.count_words-counted.result.answer ≡ 0 = sym c.number.ensures.0 ∙ c.if-number-ne0.false in
     let w = whole in
-    let l = lengths in record { counts_len = (omega (arith, l.even, l.ends_length, end-count, w.ends_whole), w.ends_whole, omega (arith, l.few, l.ends_length, end-count), w.code_whole, all_rows ∙ row_count); rounds_fit = rw word_count at (role_fit (elements 2 c.args.ends.now) (elements 4 c.args.code.now) (role_elements x) fits _ _ seen heard
-          c.count_words-counted.ensures zero (omega (arith, c.if-code-words.false, c.place-words.ensures, word_count))) }
+    let l = lengths in record {
+      counts_len = (omega (arith, l.even, l.ends_length, end-count, w.ends_whole), w.ends_whole, omega (arith, l.few, l.ends_length, end-count), w.code_whole, all_rows ∙ row_count);
+      rounds_fit = rw word_count at (role_fit (elements 2 c.args.ends.now) (elements 4 c.args.code.now) (role_elements x) fits _ _ seen heard
+          c.count_words-counted.ensures zero (omega (arith, c.if-code-words.false, c.place-words.ensures, word_count)));
+    }
 
 pub returns : goal.returns
 returns c =

@@ -7,7 +7,7 @@ use Rattle.knowing.specs.Known.{known}
 use Rattle.compiler.specs.CompileKnown.{from_known}
 use Rattle.calls.proofs.RoleLaws.{whole, rows_inside}
 use Rattle.role_counting.proofs.CountLaws.{part_of}
-use Rattle.role_writing.proofs.WriteLaws.{AllCompiled, all_compiled, Writing, writing_none, ahead, round_fits, end_small, writing_more, writing_all}
+use Rattle.role_writing.proofs.WriteLaws.{AllCompiled, all_compiled, writing_none, ahead, round_fits, end_small, writing_more, writing_all}
 use Rattle.role_writing.proofs.write_rounds.Goals as goal
 
 pub loop-round-init : goal.loop-round-init

@@ -1,13 +1,8 @@
 -- The rounds so far stand in front of the slice, and their ends in front of the other.
-use Prim.Native.Nat.{◌-◌, ◌+◌, ◌*◌}
-use mathlib.Core.Path.{refl}
-use native.Mathlib.Omega.{arith}
-use lib.ListN.{length}
+use Prim.Native.Nat.{◌-◌}
 use Rattle.knowing.specs.Known.{known}
 use Rattle.compiler.specs.CompileKnown.{from_known}
-use Rattle.calls.proofs.RoleLaws.{whole, rows_inside}
-use Rattle.role_counting.proofs.CountLaws.{part_of}
-use Rattle.role_writing.proofs.WriteLaws.{AllCompiled, all_compiled, Writing, writing_none, ahead, round_fits, end_small, writing_more, writing_all}
+use Rattle.role_writing.proofs.WriteLaws.{Writing}
 use Rattle.role_writing.proofs.write_rounds.Given as goal
 
 abbrev pub invariant-loop-round : goal.invariant-loop-round

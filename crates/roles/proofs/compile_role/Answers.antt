@@ -3,8 +3,6 @@ use mathlib.Core.Path.{◌≡◌, sym, ◌∙◌}
 use mathlib.Core.Bool.{true}
 use native.Mathlib.Omega.{arith}
 use lib.ListN.{length}
-use borrow.Author.Rules.{rules}
-use borrow.Author.Tests.{not-true, not-false}
 use Rattle.answers.specs.Numbers.{compiled_number}
 use Rattle.calls.specs.Role.{RoleLent, sum, role_fits}
 use Rattle.role_counting.proofs.LengthLaws.{RoleWithin}
@@ -66,11 +64,14 @@ write_rounds-requires c =
     let lengths : RoleWithin (length c.args.counts.now) (length c.args.kinds.now) (length c.args.objects.now) (length c.args.named.now) (length c.args.ends.now) = fits_within c.args.ends.now c.args.code.now x fits in
     let all_rows : sum c.args.counts.now ≡ length c.args.rows.now = fits_sum c.args.ends.now c.args.code.now x fits in
     let zero : compiled_number c.count_words-counted.result.answer ≡ 0 = sym c.number.ensures.0 ∙ c.if-number-ne0.false in
-    let l = lengths in record { counts_len = (omega (arith, l.even, l.ends_length), omega (arith, l.few, l.ends_length), all_rows); rounds_fit = role_fit c.args.ends.now c.args.code.now x fits _ _
+    let l = lengths in record {
+      counts_len = (omega (arith, l.even, l.ends_length), omega (arith, l.few, l.ends_length), all_rows);
+      rounds_fit = role_fit c.args.ends.now c.args.code.now x fits _ _
           c.set_cells-seen.ensures
           c.set_cells-heard.ensures
           c.count_words-counted.ensures zero
-          (omega (arith, c.if-code-words.false, c.place-words.ensures)) }
+          (omega (arith, c.if-code-words.false, c.place-words.ensures));
+    }
 
 pub returns : goal.returns
 returns c =

@@ -2,7 +2,6 @@
 use Prim.Native.Nat.{◌<◌, ◌≤◌}
 use native.Mathlib.Omega.{arith}
 use lib.ListN.{length, get_or}
-use borrow.Author.Rules.{rules}
 use Rattle.round_parts.proofs.PartLaws.{no_round, past_ends, within, out_of_order, a_round}
 use Rattle.round_parts.proofs.round_part.Goals as goal
 

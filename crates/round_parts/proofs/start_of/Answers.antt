@@ -1,6 +1,5 @@
 use Prim.Native.Nat.{◌-◌}
 use native.Mathlib.Omega.{arith}
-use borrow.Author.Rules.{rules}
 use Rattle.round_parts.proofs.PartLaws.{start_first, start_later}
 use Rattle.round_parts.proofs.start_of.Goals as goal
 

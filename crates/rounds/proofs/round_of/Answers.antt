@@ -1,4 +1,3 @@
-use borrow.Author.Rules.{rules}
 use Rattle.looking.proofs.FrontLaws.{whole_front}
 use Rattle.rounds.proofs.round_of.Goals as goal
 

@@ -5,7 +5,6 @@ use mathlib.Core.Option.{none}
 use mathlib.Core.List.{List}
 use native.Mathlib.Omega.{arith}
 use lib.Seq.{length-take-le}
-use borrow.Author.Rules.{rules}
 use Rattle.terms.specs.Rules.{used_rows}
 use Rattle.answers.specs.First.{first}
 use Rattle.calls.specs.Run.{Lent, refusals}
@@ -25,14 +24,14 @@ slice_bounds-look-end-4 c = sym (length-take-le _ _ (c.requires.inside))
 pub overflow_cast-start : goal.overflow_cast-start
 overflow_cast-start c =
     let x : Lent = record {
-  kinds = c.args.kinds.now;
-  objects = c.args.objects;
-  messages = c.args.messages;
-  certificates = c.args.certificates.now;
-  accumulator = c.args.accumulator;
-  terms = c.args.terms.now;
-  counter = c.args.counter;
-} in
+      kinds = c.args.kinds.now;
+      objects = c.args.objects;
+      messages = c.args.messages;
+      certificates = c.args.certificates.now;
+      accumulator = c.args.accumulator;
+      terms = c.args.terms.now;
+      counter = c.args.counter;
+    } in
     let words : List ℕ = c.args.code.now in
     let found : (first (refusals x words) ≡ none) × (c.in-Accepted.used ≡ used_rows x.terms) = found_none x.terms _ (sym c.in-Accepted.is ∙ c.look-found.ensures ∙ found_same x words c.requires) in
     let passes : Passed x words = passed x words found.0 in
@@ -41,14 +40,14 @@ overflow_cast-start c =
 pub steps-left-requires : goal.steps-left-requires
 steps-left-requires c =
     let x : Lent = record {
-  kinds = c.args.kinds.now;
-  objects = c.args.objects;
-  messages = c.args.messages;
-  certificates = c.args.certificates.now;
-  accumulator = c.args.accumulator;
-  terms = c.args.terms.now;
-  counter = c.args.counter;
-} in
+      kinds = c.args.kinds.now;
+      objects = c.args.objects;
+      messages = c.args.messages;
+      certificates = c.args.certificates.now;
+      accumulator = c.args.accumulator;
+      terms = c.args.terms.now;
+      counter = c.args.counter;
+    } in
     let words : List ℕ = c.args.code.now in
     let found : (first (refusals x words) ≡ none) × (c.in-Accepted.used ≡ used_rows x.terms) = found_none x.terms _ (sym c.in-Accepted.is ∙ c.look-found.ensures ∙ found_same x words c.requires) in
     let passes : Passed x words = passed x words found.0 in
@@ -57,17 +56,16 @@ steps-left-requires c =
 pub returns-then-number-ne0 : goal.returns-then-number-ne0
 returns-then-number-ne0 c =
     let x : Lent = record {
-  kinds = c.args.kinds.now;
-  objects = c.args.objects;
-  messages = c.args.messages;
-  certificates = c.args.certificates.now;
-  accumulator = c.args.accumulator;
-  terms = c.args.terms.now;
-  counter = c.args.counter;
-} in
+      kinds = c.args.kinds.now;
+      objects = c.args.objects;
+      messages = c.args.messages;
+      certificates = c.args.certificates.now;
+      accumulator = c.args.accumulator;
+      terms = c.args.terms.now;
+      counter = c.args.counter;
+    } in
     let words : List ℕ = c.args.code.now in
-    let found : (first (refusals x words) ≡ none) × (c.in-Accepted.used ≡ used_rows x.terms) = found_none x.terms _ (sym c.in-Accepted.is ∙ c.look-found.ensures ∙ found_same x words c.requires) in
-    (
+    let found : (first (refusals x words) ≡ none) × (c.in-Accepted.used ≡ used_rows x.terms) = found_none x.terms _ (sym c.in-Accepted.is ∙ c.look-found.ensures ∙ found_same x words c.requires) in (
       steps_not_done x words _ _ found.0 c.steps-left.ensures.0 (λ e. c.if-number-ne0.true (c.number.ensures.0 ∙ e)),
       steps_used x words c.steps-left.ensures.0 c.steps-left.ensures.1,
     )
@@ -75,14 +73,14 @@ returns-then-number-ne0 c =
 pub returns-in-Refused : goal.returns-in-Refused
 returns-in-Refused c =
     let x : Lent = record {
-  kinds = c.args.kinds.now;
-  objects = c.args.objects;
-  messages = c.args.messages;
-  certificates = c.args.certificates.now;
-  accumulator = c.args.accumulator;
-  terms = c.args.terms.now;
-  counter = c.args.counter;
-} in
+      kinds = c.args.kinds.now;
+      objects = c.args.objects;
+      messages = c.args.messages;
+      certificates = c.args.certificates.now;
+      accumulator = c.args.accumulator;
+      terms = c.args.terms.now;
+      counter = c.args.counter;
+    } in
     let words : List ℕ = c.args.code.now in
     let refusal = found_some x.terms _ (sym c.in-Refused.is ∙ c.look-found.ensures ∙ found_same x words c.requires) in
     (run_refused_lem x words refusal.0, refusal.1)
@@ -90,17 +88,16 @@ returns-in-Refused c =
 pub returns-else-number-ne0 : goal.returns-else-number-ne0
 returns-else-number-ne0 c =
     let x : Lent = record {
-  kinds = c.args.kinds.now;
-  objects = c.args.objects;
-  messages = c.args.messages;
-  certificates = c.args.certificates.now;
-  accumulator = c.args.accumulator;
-  terms = c.args.terms.now;
-  counter = c.args.counter;
-} in
+      kinds = c.args.kinds.now;
+      objects = c.args.objects;
+      messages = c.args.messages;
+      certificates = c.args.certificates.now;
+      accumulator = c.args.accumulator;
+      terms = c.args.terms.now;
+      counter = c.args.counter;
+    } in
     let words : List ℕ = c.args.code.now in
-    let found : (first (refusals x words) ≡ none) × (c.in-Accepted.used ≡ used_rows x.terms) = found_none x.terms _ (sym c.in-Accepted.is ∙ c.look-found.ensures ∙ found_same x words c.requires) in
-    (
+    let found : (first (refusals x words) ≡ none) × (c.in-Accepted.used ≡ used_rows x.terms) = found_none x.terms _ (sym c.in-Accepted.is ∙ c.look-found.ensures ∙ found_same x words c.requires) in (
       steps_done x words _ _ found.0 c.steps-left.ensures.0 (sym c.number.ensures.0 ∙ c.if-number-ne0.false),
       steps_used x words c.steps-left.ensures.0 c.steps-left.ensures.1,
     )

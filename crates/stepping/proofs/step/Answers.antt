@@ -1,7 +1,6 @@
 -- `stepping::step` meets its contract: each way out is a step of the table.
 use mathlib.Core.Path.{refl}
 use Rattle.stepping.proofs.OperandLaws.{store_const_object, decode_object, create_object, create_kind, analyze_cells, create_tuple_object, create_tuple_count, opposite_object, stepped, stepped_alike}
-use borrow.Author.Rules.{rules}
 use Rattle.stepping.proofs.step.Goals as goal
 
 pub store_const-requires : goal.store_const-requires

@@ -1,14 +1,13 @@
 use mathlib.Core.Bool.{not}
 use mathlib.Core.Path.{ap}
-use Prim.Native.Nat.{ℕ, ◌+◌, ◌-◌, ◌*◌, ◌<◌}
-use mathlib.Core.Path.{◌≡◌, refl, sym, ◌∙◌}
+use Prim.Native.Nat.{◌-◌}
+use mathlib.Core.Path.{refl, sym, ◌∙◌}
 use native.Mathlib.Omega.{arith}
-use lib.ListN.{length}
 use borrow.Author.Rules.{rules}
 use borrow.Author.Tests.{not-true, not-false}
 use Rattle.patterns.proofs.StandingLaws.{slot, stands_below, encryption_key, encryption_child, let_children, variable_low}
 use Rattle.surveys.proofs.ChildLaws.{encryption_created, encryption_matched, encryption_wrong, let_created, let_matched}
-use Rattle.surveys.proofs.PartLaws.{PartsLooked, parts_begin, parts_next, parts_end, tuple_children, tuple_created, tuple_matched}
+use Rattle.surveys.proofs.PartLaws.{parts_begin, parts_next, parts_end, tuple_children, tuple_created, tuple_matched}
 use Rattle.surveys.proofs.+surveying.Goals as goal
 
 pub survey_encryption-create_key-requires : goal.survey_encryption-create_key-requires
@@ -172,21 +171,19 @@ survey_tuple-write_object-requires t c =
     (c.requires.emission_len.0, variable_low _ _ c.variable-t.ensures)
 
 pub survey_tuple-survey_parts-requires : goal.survey_tuple-survey_parts-requires
-survey_tuple-survey_parts-requires t c =
-    (
-      omega (arith, c.decreases),
-      (
-        tuple_children _ _ _ c.requires.stands_at c.requires.emission_len.1 _ c.slots-children.ensures _ c.count-n.ensures,
-        c.write_object.ensures.long ∙ c.requires.emission_len.0,
-      ),
-    )
+survey_tuple-survey_parts-requires t c = (
+  omega (arith, c.decreases),
+  (
+    tuple_children _ _ _ c.requires.stands_at c.requires.emission_len.1 _ c.slots-children.ensures _ c.count-n.ensures,
+    c.write_object.ensures.long ∙ c.requires.emission_len.0,
+  ),
+)
 
 pub survey_tuple-survey_parts-requires-else-not-create : goal.survey_tuple-survey_parts-requires-else-not-create
-survey_tuple-survey_parts-requires-else-not-create t c =
-    (
-      omega (arith, c.decreases),
-      (tuple_children _ _ _ c.requires.stands_at c.requires.emission_len.1 _ c.slots-children.ensures _ c.count-n.ensures, c.requires.emission_len.0),
-    )
+survey_tuple-survey_parts-requires-else-not-create t c = (
+  omega (arith, c.decreases),
+  (tuple_children _ _ _ c.requires.stands_at c.requires.emission_len.1 _ c.slots-children.ensures _ c.count-n.ensures, c.requires.emission_len.0),
+)
 
 pub survey_tuple-write_object-requires-else-not-create : goal.survey_tuple-write_object-requires-else-not-create
 survey_tuple-write_object-requires-else-not-create t c = (

@@ -1,12 +1,5 @@
-use Prim.Native.Nat.{ℕ, ◌+◌, ◌-◌, ◌*◌, ◌<◌}
-use mathlib.Core.Path.{◌≡◌, refl, sym, ◌∙◌}
-use native.Mathlib.Omega.{arith}
-use lib.ListN.{length}
-use borrow.Author.Rules.{rules}
-use borrow.Author.Tests.{not-true, not-false}
-use Rattle.patterns.proofs.StandingLaws.{slot, stands_below, encryption_key, encryption_child, let_children, variable_low}
-use Rattle.surveys.proofs.ChildLaws.{encryption_created, encryption_matched, encryption_wrong, let_created, let_matched}
-use Rattle.surveys.proofs.PartLaws.{PartsLooked, parts_begin, parts_next, parts_end, tuple_children, tuple_created, tuple_matched}
+use Prim.Native.Nat.{◌+◌, ◌-◌, ◌*◌}
+use Rattle.surveys.proofs.PartLaws.{PartsLooked}
 use Rattle.surveys.proofs.+surveying.Given as goal
 
 abbrev pub decreases-survey_encryption : goal.decreases-survey_encryption

@@ -1,14 +1,10 @@
 -- The checks leave a root row to stand at; what the looks hold is what emission is refused with.
-use Prim.Native.Nat.{ℕ}
 use mathlib.Core.Path.{refl, ap, ◌∙◌}
-use mathlib.Core.Bool.{Bool}
-use mathlib.Core.List.{List}
 use native.Mathlib.Omega.{arith}
 use lib.ListN.{length}
-use borrow.Author.Rules.{rules}
 use Rattle.word.proofs.CopyLaws.{laid}
 use Rattle.knowing.specs.Known.{known}
-use Rattle.calls.proofs.HalfLaws.{KnownPassed, known_passed}
+use Rattle.calls.proofs.HalfLaws.{known_passed}
 use Rattle.layout.proofs.RowLaws.{root_pattern, root_stands}
 use Rattle.surveys.proofs.FoundLaws.{pattern_found}
 use Rattle.surveys.proofs.survey.Goals as goal

@@ -1,7 +1,6 @@
 use Rattle.numbers.specs.Kinds.{kind_in}
 use Rattle.patterns.specs.Standing.{pattern_in}
 use Rattle.surveys.proofs.ChildLaws.{as_created, as_matched}
-use borrow.Author.Rules.{rules}
 use Rattle.surveys.proofs.survey_leaf.Goals as goal
 
 pub returns-then-create : goal.returns-then-create

@@ -1,13 +1,9 @@
 -- The invariant: none of the used rows passed is bad.
 use mathlib.Core.Bool.{not}
 use mathlib.Core.Path.{ap}
-use Prim.Native.Nat.{◌≤◌, ◌-◌}
+use Prim.Native.Nat.{◌-◌}
 use mathlib.Core.Path.{refl}
 use native.Mathlib.Omega.{arith}
-use lib.ListN.{length}
-use borrow.Author.Rules.{rules}
-use Rattle.word.proofs.ScanLaws.{Left}
-use Rattle.terms.specs.Rules.{bad_term_row}
 use Rattle.tables.proofs.RuleLaws.{used_inside, distinct_inside, checked_bad, checked_more, checked_repeated, checked_behind, checked_good}
 use Rattle.tables.proofs.first_bad_row.Goals as goal
 

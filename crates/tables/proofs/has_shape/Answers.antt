@@ -1,6 +1,5 @@
 -- One rule and then the other.
 use mathlib.Core.Path.{refl}
-use borrow.Author.Rules.{rules}
 use Rattle.tables.proofs.RuleLaws.{and_more, and_kept}
 use Rattle.tables.proofs.has_shape.Goals as goal
 

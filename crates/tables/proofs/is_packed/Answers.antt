@@ -2,7 +2,6 @@
 use native.Mathlib.Omega.{arith}
 use Rattle.terms.proofs.FieldLaws.{tag_below}
 use Rattle.tables.proofs.RuleLaws.{packed-ways}
-use borrow.Author.Rules.{rules}
 use Rattle.tables.proofs.is_packed.Goals as goal
 
 pub atom_word-requires : goal.atom_word-requires

@@ -1,6 +1,5 @@
 -- The first kind, or the second.
 use Rattle.tables.proofs.RuleLaws.{kind-ways}
-use borrow.Author.Rules.{rules}
 use Rattle.tables.proofs.key_is.Goals as goal
 
 pub returns-then-t-kind : goal.returns-then-t-kind

@@ -1,6 +1,5 @@
 -- An encryption, a signature, and what has no key.
 use Rattle.tables.proofs.RuleLaws.{key-ways}
-use borrow.Author.Rules.{rules}
 use Rattle.tables.proofs.key_kind_fits.Goals as goal
 
 pub returns-in-7 : goal.returns-in-7

@@ -1,6 +1,5 @@
 -- Below 1, or not.
 use Rattle.tables.proofs.RuleLaws.{known-ways}
-use borrow.Author.Rules.{rules}
 use Rattle.tables.proofs.known_tag.Goals as goal
 
 pub returns-then-t-ge-BYTE : goal.returns-then-t-ge-BYTE

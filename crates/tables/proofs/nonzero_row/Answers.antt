@@ -1,11 +1,9 @@
 -- The invariant: the rows passed leave the same answer.
-use Prim.Native.Nat.{◌≤◌, ◌-◌}
-use mathlib.Core.Path.{◌≡◌, sym, ap}
+use Prim.Native.Nat.{◌-◌}
+use mathlib.Core.Path.{sym, ap}
 use native.Mathlib.Omega.{arith}
-use lib.ListN.{length}
-use borrow.Author.Rules.{rules, scaled_Fits}
+use borrow.Author.Rules.{scaled_Fits}
 use Rattle.word.specs.Lowest.{place_of}
-use Rattle.terms.specs.Rules.{nonzero_row}
 use Rattle.finder.proofs.BlockLaws.{nonzero_here, nonzero_next, nonzero_none}
 use Rattle.tables.proofs.nonzero_row.Goals as goal
 

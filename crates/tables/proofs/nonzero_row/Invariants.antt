@@ -1,12 +1,8 @@
 -- The invariant: the rows passed leave the same answer.
 use Prim.Native.Nat.{◌≤◌, ◌-◌}
-use mathlib.Core.Path.{◌≡◌, sym, ap}
-use native.Mathlib.Omega.{arith}
+use mathlib.Core.Path.{◌≡◌}
 use lib.ListN.{length}
-use borrow.Author.Rules.{rules, scaled_Fits}
-use Rattle.word.specs.Lowest.{place_of}
 use Rattle.terms.specs.Rules.{nonzero_row}
-use Rattle.finder.proofs.BlockLaws.{nonzero_here, nonzero_next, nonzero_none}
 use Rattle.tables.proofs.nonzero_row.Given as goal
 
 abbrev pub invariant-loop-i : goal.invariant-loop-i

@@ -1,7 +1,6 @@
 -- A byte, an agent, a row with parts, and any other number.
 use native.Mathlib.Omega.{arith}
 use Rattle.tables.proofs.RuleLaws.{number_name, number-ways}
-use borrow.Author.Rules.{rules}
 use Rattle.tables.proofs.number_fits.Goals.{in_default-via-then-t-lt7, in_default-via-else-t-lt7+else-t-lt11}
 use Rattle.tables.proofs.number_fits.Goals as goal
 

@@ -1,8 +1,8 @@
 -- The invariant: each part passed is below the row.
-use Prim.Native.Nat.{◌≤◌, ◌-◌}
+use Prim.Native.Nat.{◌-◌}
 use mathlib.Core.Path.{refl}
 use native.Mathlib.Omega.{arith}
-use Rattle.tables.proofs.RuleLaws.{Below, below_stop, below_more, below_end}
+use Rattle.tables.proofs.RuleLaws.{below_stop, below_more, below_end}
 use Rattle.tables.proofs.parts_below.Goals as goal
 
 pub used_slots-n-requires : goal.used_slots-n-requires

@@ -1,8 +1,6 @@
 -- The invariant: each part passed is below the row.
 use Prim.Native.Nat.{◌≤◌, ◌-◌}
-use mathlib.Core.Path.{refl}
-use native.Mathlib.Omega.{arith}
-use Rattle.tables.proofs.RuleLaws.{Below, below_stop, below_more, below_end}
+use Rattle.tables.proofs.RuleLaws.{Below}
 use Rattle.tables.proofs.parts_below.Given as goal
 
 abbrev pub invariant-loop-slot : goal.invariant-loop-slot

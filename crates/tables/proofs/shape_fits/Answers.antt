@@ -1,5 +1,4 @@
 -- A row without parts, or one that owns some.
-use borrow.Author.Rules.{rules}
 use Rattle.tables.proofs.RuleLaws.{shape-ways}
 use Rattle.tables.proofs.shape_fits.Goals as goal
 

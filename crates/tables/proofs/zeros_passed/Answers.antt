@@ -1,11 +1,7 @@
 -- The invariant: the rows passed leave the same answer.
-use Prim.Native.Nat.{◌≤◌, ◌-◌}
-use mathlib.Core.Path.{◌≡◌, refl, sym, ◌∙◌}
+use Prim.Native.Nat.{◌-◌}
+use mathlib.Core.Path.{refl, sym, ◌∙◌}
 use native.Mathlib.Omega.{arith}
-use lib.ListN.{length}
-use borrow.Author.Rules.{rules}
-use borrow.Author.Tests.{not-false}
-use Rattle.terms.specs.Rules.{nonzero_row}
 use Rattle.finder.proofs.BlockLaws.{nonzero_block}
 use Rattle.tables.proofs.zeros_passed.Goals as goal
 

@@ -1,12 +1,8 @@
 -- The invariant: the rows passed leave the same answer.
 use Prim.Native.Nat.{◌≤◌, ◌-◌}
-use mathlib.Core.Path.{◌≡◌, refl, sym, ◌∙◌}
-use native.Mathlib.Omega.{arith}
+use mathlib.Core.Path.{◌≡◌}
 use lib.ListN.{length}
-use borrow.Author.Rules.{rules}
-use borrow.Author.Tests.{not-false}
 use Rattle.terms.specs.Rules.{nonzero_row}
-use Rattle.finder.proofs.BlockLaws.{nonzero_block}
 use Rattle.tables.proofs.zeros_passed.Given as goal
 
 abbrev pub invariant-loop-i : goal.invariant-loop-i

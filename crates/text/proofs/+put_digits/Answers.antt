@@ -1,6 +1,4 @@
-use Prim.Native.Nat.{ℕ, ◌<◌}
 use native.Mathlib.Omega.{arith}
-use borrow.Author.Rules.{rules}
 use Rattle.text.proofs.DigitLaws.{digits_end, ways}
 use Rattle.text.proofs.+put_digits.Goals as goal
 

@@ -1,7 +1,3 @@
-use Prim.Native.Nat.{ℕ, ◌<◌}
-use native.Mathlib.Omega.{arith}
-use borrow.Author.Rules.{rules}
-use Rattle.text.proofs.DigitLaws.{digits_end, ways}
 use Rattle.text.proofs.+put_digits.Given as goal
 
 -- the most digits there can be

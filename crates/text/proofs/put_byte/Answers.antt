@@ -1,5 +1,4 @@
 use Rattle.text.proofs.WrittenLaws.{wrote_past}
-use borrow.Author.Rules.{rules}
 use Rattle.text.proofs.put_byte.Goals as goal
 
 pub returns-then-out-at : goal.returns-then-out-at

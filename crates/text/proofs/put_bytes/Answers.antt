@@ -1,10 +1,8 @@
-use Prim.Native.Nat.{◌+◌, ◌-◌, ◌≤◌}
-use mathlib.Core.Path.{◌≡◌, refl}
+use Prim.Native.Nat.{◌-◌}
+use mathlib.Core.Path.{refl}
 use native.Mathlib.Omega.{arith}
-use lib.ListN.{length, take}
 use lib.Seq.{take_all}
 use borrow.Author.Rules.{rules}
-use Rattle.text.specs.Written.{Wrote}
 use Rattle.text.proofs.WrittenLaws.{wrote_nothing, wrote_more, wrote_length}
 use Rattle.text.proofs.put_bytes.Goals as goal
 

@@ -1,4 +1,3 @@
-use borrow.Author.Rules.{rules}
 use Rattle.text.specs.Lines.{decimal}
 use Rattle.text.proofs.put_decimal.Goals as goal
 

@@ -1,4 +1,3 @@
-use borrow.Author.Rules.{rules}
 use Rattle.text.proofs.LineLaws.{ways}
 use Rattle.text.proofs.put_gap.Goals as goal
 

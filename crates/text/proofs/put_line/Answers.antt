@@ -1,5 +1,4 @@
 use native.Mathlib.Omega.{arith}
-use borrow.Author.Rules.{rules}
 use Rattle.text.proofs.LineLaws.{spaced_most, ways}
 use Rattle.text.proofs.put_line.Goals as goal
 

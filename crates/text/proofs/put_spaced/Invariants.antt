@@ -1,12 +1,7 @@
 use Prim.Native.Nat.{◌-◌, ◌≤◌}
-use mathlib.Core.Path.{◌≡◌}
-use native.Mathlib.Omega.{arith}
 use lib.ListN.{length, take}
-use borrow.Author.Rules.{rules}
 use Rattle.text.specs.Lines.{spaced}
 use Rattle.text.specs.Written.{Wrote}
-use Rattle.text.proofs.WrittenLaws.{wrote_length}
-use Rattle.text.proofs.LineLaws.{no_numbers, one_number, gap_most, spaced_most}
 use Rattle.text.proofs.put_spaced.Given as goal
 
 abbrev pub invariant-loop-place : goal.invariant-loop-place

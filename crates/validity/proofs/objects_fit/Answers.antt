@@ -1,10 +1,8 @@
-use Prim.Native.Nat.{◌-◌, ◌≤◌}
-use mathlib.Core.Path.{◌≡◌, refl, sym, ◌∙◌}
+use Prim.Native.Nat.{◌-◌}
+use mathlib.Core.Path.{refl, sym, ◌∙◌}
 use native.Mathlib.Omega.{arith}
-use lib.ListN.{drop}
-use borrow.Author.Rules.{rules, scaled_Fits}
-use borrow.Author.Tests.{not-true, not-false}
-use Rattle.stores.specs.Valid.{each_variable, object_fits}
+use borrow.Author.Rules.{scaled_Fits}
+use Rattle.stores.specs.Valid.{object_fits}
 use Rattle.stores.proofs.LoopLaws.{variable_stop, variable_next, variables_end}
 use Rattle.validity.proofs.objects_fit.Goals as goal
 

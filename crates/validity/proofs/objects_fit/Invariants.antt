@@ -1,11 +1,7 @@
 use Prim.Native.Nat.{◌-◌, ◌≤◌}
-use mathlib.Core.Path.{◌≡◌, refl, sym, ◌∙◌}
-use native.Mathlib.Omega.{arith}
+use mathlib.Core.Path.{◌≡◌}
 use lib.ListN.{drop}
-use borrow.Author.Rules.{rules, scaled_Fits}
-use borrow.Author.Tests.{not-true, not-false}
 use Rattle.stores.specs.Valid.{each_variable, object_fits}
-use Rattle.stores.proofs.LoopLaws.{variable_stop, variable_next, variables_end}
 use Rattle.validity.proofs.objects_fit.Given as goal
 
 abbrev pub invariant-loop-v : goal.invariant-loop-v

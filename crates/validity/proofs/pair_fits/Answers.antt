@@ -1,5 +1,4 @@
 use Rattle.stores.specs.Certificates.{pair_fits}
-use borrow.Author.Rules.{rules}
 use Rattle.validity.proofs.pair_fits.Goals as goal
 
 pub returns : goal.returns

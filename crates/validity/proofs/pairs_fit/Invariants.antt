@@ -1,11 +1,7 @@
 use Prim.Native.Nat.{◌-◌, ◌≤◌}
-use mathlib.Core.Path.{◌≡◌, refl, sym, ◌∙◌}
-use native.Mathlib.Omega.{arith}
+use mathlib.Core.Path.{◌≡◌}
 use lib.ListN.{length, drop}
-use borrow.Author.Rules.{rules, scaled_Fits}
-use borrow.Author.Tests.{not-true, not-false}
 use Rattle.word.specs.Lowest.{each}
-use Rattle.word.proofs.ScanLaws.{each_stop, each_next, each_end}
 use Rattle.stores.specs.Certificates.{pair_fits}
 use Rattle.validity.proofs.pairs_fit.Given as goal
 

@@ -1,5 +1,4 @@
 use Rattle.stores.specs.Valid.{valid}
-use borrow.Author.Rules.{rules}
 use Rattle.validity.proofs.valid.Goals as goal
 
 pub returns : goal.returns

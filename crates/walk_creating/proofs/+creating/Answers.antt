@@ -7,9 +7,9 @@ use Rattle.patterns.proofs.StandingLaws.{slot, stands_below, encryption_key, enc
 use Rattle.walk_values.proofs.ThenLaws.{next_kept, next_within}
 use Rattle.walk_leaves.proofs.FormLaws.{key_asks, raw_low}
 use Rattle.walk_creating.proofs.ChildLaws.{key_stuck, key_full, part_stuck, part_full, part_sealed, let_stuck, let_full, let_set, let_second}
-use Rattle.walk_creating.proofs.PartLaws.{Gathered, tuple_few, part_low, gathered_none, gathered_more, tuple_stuck, tuple_full, tuple_made}
+use Rattle.walk_creating.proofs.PartLaws.{tuple_few, part_low, gathered_none, gathered_more, tuple_stuck, tuple_full, tuple_made}
 use borrow.Author.Rules.{rules}
-use Prim.Native.Nat.{ℕ, ◌+◌, ◌-◌, ◌*◌, ◌<◌}
+use Prim.Native.Nat.{◌-◌}
 use Rattle.walk_creating.proofs.+creating.Goals as goal
 
 pub create_encryption-create_key-keyed-requires : goal.create_encryption-create_key-keyed-requires
@@ -27,12 +27,15 @@ pub create_encryption-seal-requires : goal.create_encryption-seal-requires
 create_encryption-seal-requires t c =
     let s = c.requires in
     let asked = key_asks _ _ _ _ _ _ _ _ _ _ c.create_key-keyed.ensures _ c.in-Next.is s.within s.objects_len.0 in
-    let part = c.create_row-inner.ensures in record { within = next_within part c.in-Next-inner.is asked.0; v_in_bounds = omega (
+    let part = c.create_row-inner.ensures in record {
+      within = next_within part c.in-Next-inner.is asked.0;
+      v_in_bounds = omega (
         arith,
         (next_kept part).lengths.objects_length,
         asked.1,
         variable_low _ _ c.variable-e.ensures,
-      ) }
+      );
+    }
 
 pub create_encryption-shape_of-terms-in-Next-inner : goal.create_encryption-shape_of-terms-in-Next-inner
 create_encryption-shape_of-terms-in-Next-inner t c = c.seal.auto.terms ∙ c.create_row-inner.auto.terms ∙ c.create_key-keyed.auto.terms
@@ -250,12 +253,15 @@ pub create_tuple-tuple-requires : goal.create_tuple-tuple-requires
 create_tuple-tuple-requires t c = tuple_few c.requires.stands_at c.requires.word_value _ c.count-count.ensures
 
 pub create_tuple-make_value-requires : goal.create_tuple-make_value-requires
-create_tuple-make_value-requires t c = record { within = c.loop-k.invariant.within; v_in_bounds = omega (
+create_tuple-make_value-requires t c = record {
+  within = c.loop-k.invariant.within;
+  v_in_bounds = omega (
     arith,
     c.loop-k.invariant.kept.lengths.objects_length,
     c.requires.objects_len.0,
     variable_low _ _ c.variable-t.ensures,
-  ) }
+  );
+}
 
 pub create_tuple-shape_of-terms : goal.create_tuple-shape_of-terms
 create_tuple-shape_of-terms t c = (next_kept (c.make_value.ensures (λ v. 0) _ c.tuple.ensures

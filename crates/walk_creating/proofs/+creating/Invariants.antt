@@ -1,15 +1,7 @@
 -- The cycle of `create_row` meets its contracts: the row number falls at each child.
-use mathlib.Core.Path.{refl, sym, ◌∙◌}
-use mathlib.Core.List.{[]}
-use native.Mathlib.Omega.{arith}
 use Rattle.machine.specs.Machine.{slices}
-use Rattle.patterns.proofs.StandingLaws.{slot, stands_below, encryption_key, encryption_child, let_children, variable_low}
-use Rattle.walk_values.proofs.ThenLaws.{next_kept, next_within}
-use Rattle.walk_leaves.proofs.FormLaws.{key_asks, raw_low}
-use Rattle.walk_creating.proofs.ChildLaws.{key_stuck, key_full, part_stuck, part_full, part_sealed, let_stuck, let_full, let_set, let_second}
-use Rattle.walk_creating.proofs.PartLaws.{Gathered, tuple_few, part_low, gathered_none, gathered_more, tuple_stuck, tuple_full, tuple_made}
-use borrow.Author.Rules.{rules}
-use Prim.Native.Nat.{ℕ, ◌+◌, ◌-◌, ◌*◌, ◌<◌}
+use Rattle.walk_creating.proofs.PartLaws.{Gathered}
+use Prim.Native.Nat.{◌+◌, ◌-◌, ◌*◌}
 use Rattle.walk_creating.proofs.+creating.Given as goal
 
 abbrev pub decreases-create_encryption : goal.decreases-create_encryption

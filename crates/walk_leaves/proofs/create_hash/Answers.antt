@@ -1,6 +1,5 @@
 -- `walk_leaves::create_hash` meets its contract, a way out at a time.
 use Rattle.walk_leaves.proofs.FormLaws.{hash-ways}
-use borrow.Author.Rules.{rules}
 use Rattle.walk_leaves.proofs.create_hash.Goals as goal
 
 pub returns-then-body : goal.returns-then-body

@@ -8,24 +8,32 @@ use borrow.Author.Rules.{rules}
 use Rattle.walk_leaves.proofs.create_leaf.Goals as goal
 
 pub get_variable-requires : goal.get_variable-requires
-get_variable-requires c = record { within = c.requires.within; v_in_bounds = omega (
+get_variable-requires c = record {
+  within = c.requires.within;
+  v_in_bounds = omega (
     arith,
     c.requires.objects_len,
     variable_low _ _ c.variable-v.ensures,
-  ) }
+  );
+}
 
 pub create_raw-requires : goal.create_raw-requires
 create_raw-requires c = search (rules, raw_low)
 
 pub make_value-requires : goal.make_value-requires
-make_value-requires c = record { within = c.requires.within; v_in_bounds = omega (
+make_value-requires c = record {
+  within = c.requires.within;
+  v_in_bounds = omega (
     arith,
     c.requires.objects_len,
     variable_low _ _ c.variable-v.ensures,
-  ) }
+  );
+}
 
 pub create_opposite-requires : goal.create_opposite-requires
-create_opposite-requires c = record { within = c.requires.within; public_in_bounds = (
+create_opposite-requires c = record {
+  within = c.requires.within;
+  public_in_bounds = (
     omega (
       arith,
       c.requires.objects_len,
@@ -36,27 +44,34 @@ create_opposite-requires c = record { within = c.requires.within; public_in_boun
       c.requires.objects_len,
       second_low _ _ c.y-y.ensures,
     ),
-  ) }
+  );
+}
 
 pub certified_key-requires : goal.certified_key-requires
-certified_key-requires c = record { within = c.requires.within; key_in_bounds = omega (
+certified_key-requires c = record {
+  within = c.requires.within;
+  key_in_bounds = omega (
     arith,
     c.requires.objects_len,
     variable_low _ _ c.variable-v.ensures,
-  ) }
+  );
+}
 
 pub create_signature-requires : goal.create_signature-requires
 create_signature-requires c = let s = c.requires in record { stands_at = s.stands_at; word_value = sym c.tag-tag.ensures ∙ c.in-6.is; within = s.within; objects_len = s.objects_len }
 
 pub create_hash-requires : goal.create_hash-requires
-create_hash-requires c = record { within = c.requires.within; h_in_bounds = (
+create_hash-requires c = record {
+  within = c.requires.within;
+  h_in_bounds = (
     omega (
       arith,
       c.requires.objects_len,
       variable_low _ _ c.variable-v.ensures,
     ),
     raw_low _ _ c.raw-r.ensures,
-  ) }
+  );
+}
 
 pub returns-in-0 : goal.returns-in-0
 returns-in-0 c =

@@ -1,6 +1,5 @@
 -- `walk_leaves::create_raw` meets its contract, a way out at a time.
 use Rattle.walk_leaves.proofs.FormLaws.{raw-ways}
-use borrow.Author.Rules.{rules}
 use Rattle.walk_leaves.proofs.create_raw.Goals as goal
 
 pub returns-then-message : goal.returns-then-message

@@ -2,7 +2,6 @@
 use Rattle.patterns.proofs.StandingLaws.{signature_key, variable_low}
 use native.Mathlib.Omega.{arith}
 use Rattle.walk_leaves.proofs.FormLaws.{key_asks, sign_stuck, sign_full, sign_unset, sign_sealed}
-use borrow.Author.Rules.{rules}
 use Rattle.walk_leaves.proofs.create_signature.Goals as goal
 
 pub create_key-keyed-requires : goal.create_key-keyed-requires
@@ -17,11 +16,14 @@ returns-then-body c =
 pub seal-requires : goal.seal-requires
 seal-requires c =
     let s = c.requires in
-    let asked = key_asks _ _ _ _ _ _ _ _ _ _ c.create_key-keyed.ensures _ c.in-Next.is s.within s.objects_len in record { within = asked.0; v_in_bounds = omega (
+    let asked = key_asks _ _ _ _ _ _ _ _ _ _ c.create_key-keyed.ensures _ c.in-Next.is s.within s.objects_len in record {
+      within = asked.0;
+      v_in_bounds = omega (
         arith,
         asked.1,
         variable_low _ _ c.variable-s.ensures,
-      ) }
+      );
+    }
 
 pub returns-else-body : goal.returns-else-body
 returns-else-body c =

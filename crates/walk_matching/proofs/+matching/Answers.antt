@@ -1,7 +1,6 @@
-use Prim.Native.Nat.{ℕ, ◌+◌, ◌-◌, ◌*◌, ◌<◌}
+use Prim.Native.Nat.{◌-◌}
 use mathlib.Core.Path.{refl, sym, ◌∙◌}
 use native.Mathlib.Omega.{arith}
-use borrow.Author.Rules.{rules}
 use Rattle.numbers.specs.Kinds.{kind_in}
 use Rattle.patterns.proofs.StandingLaws.{slot, stands_below, encryption_child, let_children}
 use Rattle.walk_matching.proofs.LeafLaws.{ready_within, variable_inside}
@@ -31,8 +30,7 @@ match_encryption-match_row-requires t c =
     let if1 = c.if-key_form-ne-PLAIN_KEY in
     let variable = c.variable-e in
     let key = c.key in
-    let opening = c.open-opened in
-    (
+    let opening = c.open-opened in (
       omega (arith, c.decreases, (encryption_child start.stands_at _ (slot _ _ 0 slots.ensures) start.word_value)),
       (
         stands_below start.stands_at.stands (encryption_child start.stands_at _ (slot _ _ 0 slots.ensures) start.word_value),
@@ -120,8 +118,7 @@ match_let-match_row-requires t c =
     let raw = c.raw-r in
     let message-at = c.message_at-known in
     let if1 = c.if-known in
-    let match-row = c.match_row-walked in
-    (
+    let match-row = c.match_row-walked in (
       omega (arith, c.decreases, (let_children start.stands_at _ (slot _ _ 0 slots.ensures) _ (slot _ _ 1 slots.ensures) start.word_value).0),
       (
         stands_below start.stands_at.stands (let_children start.stands_at _ (slot _ _ 0 slots.ensures) _ (slot _ _ 1 slots.ensures) start.word_value).0,
@@ -206,8 +203,7 @@ match_parts-match_parts-requires t c =
     let inputs = c.args in
     let part = c.part in
     let meeting = c.meeting-met in
-    let match-row = c.match_row-walked in
-    (
+    let match-row = c.match_row-walked in (
       omega (arith, c.decreases, start.parts_stand.few, if1.false),
       (
         parts_further start.parts_stand if1.false,

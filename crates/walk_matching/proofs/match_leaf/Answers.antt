@@ -1,6 +1,5 @@
 -- `walk_matching::match_leaf` meets its contract, a form at a time.
 use Rattle.walk_matching.proofs.LeafLaws.{leaf-asks, leaf-ways, ready_within, variable_inside, field_inside, key_inside, key_form_low, raw_named}
-use borrow.Author.Rules.{rules}
 use Rattle.walk_matching.proofs.match_leaf.Goals as goal
 
 pub match_object-requires : goal.match_object-requires
@@ -21,8 +20,13 @@ match_key_of-requires c = search leaf-asks
 pub match_signature-requires : goal.match_signature-requires
 match_signature-requires c =
     let start = c.requires in
-    let tag = c.tag-tag in record { within = ready_within start.walk_ready; word_in_bounds = field_inside start.walk_ready _; word_in_bounds_2 = key_inside start.walk_ready _ start.stands_at tag.ensures c.in-6.is; word_bound = key_form_low start.walk_ready _ start.stands_at
-              tag.ensures c.in-6.is }
+    let tag = c.tag-tag in record {
+      within = ready_within start.walk_ready;
+      word_in_bounds = field_inside start.walk_ready _;
+      word_in_bounds_2 = key_inside start.walk_ready _ start.stands_at tag.ensures c.in-6.is;
+      word_bound = key_form_low start.walk_ready _ start.stands_at
+          tag.ensures c.in-6.is;
+    }
 
 pub match_hash-requires : goal.match_hash-requires
 match_hash-requires c =

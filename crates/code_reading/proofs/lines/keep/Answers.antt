@@ -1,6 +1,5 @@
 use mathlib.Core.Path.{sym}
 use lib.Seq.{set_out}
-use borrow.Author.Rules.{rules}
 use Rattle.code_reading.proofs.lines.keep.Goals as goal
 
 pub returns-else-at-words : goal.returns-else-at-words

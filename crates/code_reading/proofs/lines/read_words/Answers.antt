@@ -1,8 +1,6 @@
 use Prim.Native.Nat.{◌-◌, ◌^◌, ◌≤◌}
 use native.Mathlib.Omega.{arith}
-use lib.ListN.{length}
-use borrow.Author.Rules.{rules}
-use Rattle.code_reading.proofs.LinesLaws.{LinesLeft, lines_yet, same_long, lines_stop, lines_further, lines_more, lines_done}
+use Rattle.code_reading.proofs.LinesLaws.{lines_yet, same_long, lines_stop, lines_further, lines_more, lines_done}
 use Rattle.code_reading.proofs.lines.read_words.Goals as goal
 
 -- ten bytes a line: the lines are few enough for their number

@@ -1,8 +1,6 @@
-use Prim.Native.Nat.{◌-◌, ◌^◌, ◌≤◌}
-use native.Mathlib.Omega.{arith}
+use Prim.Native.Nat.{◌-◌}
 use lib.ListN.{length}
-use borrow.Author.Rules.{rules}
-use Rattle.code_reading.proofs.LinesLaws.{LinesLeft, lines_yet, same_long, lines_stop, lines_further, lines_more, lines_done}
+use Rattle.code_reading.proofs.LinesLaws.{LinesLeft}
 use Rattle.code_reading.proofs.lines.read_words.Given as goal
 
 abbrev pub invariant-loop-at : goal.invariant-loop-at

@@ -1,4 +1,3 @@
-use borrow.Author.Rules.{rules}
 use Rattle.code_reading.proofs.WordStepLaws.{line_is, line_not, line_inside, no_line, other_number, fields_fit, own_number, word_here}
 use Rattle.code_reading.proofs.lines.word_at.Goals as goal
 

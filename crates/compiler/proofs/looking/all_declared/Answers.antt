@@ -1,12 +1,8 @@
 -- What is gathered so far and what is left give the answer.
-use Prim.Native.Nat.{zero, ◌-◌, ◌≤◌}
-use mathlib.Core.Path.{◌≡◌, refl, ◌∙◌}
-use mathlib.Core.Bool.{◌&&◌}
+use Prim.Native.Nat.{◌-◌}
+use mathlib.Core.Path.{refl, ◌∙◌}
 use native.Mathlib.Omega.{arith}
-use lib.ListN.{length, drop}
-use borrow.Author.Rules.{rules}
 use Rattle.knowing.specs.Known.{known}
-use Rattle.calls.specs.Half.{undeclared_unknown}
 use Rattle.compiler.proofs.LookLaws.{unknown_gather, unknown_gathered}
 use Rattle.compiler.proofs.looking.all_declared.Goals as goal
 

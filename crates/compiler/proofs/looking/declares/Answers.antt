@@ -1,4 +1,3 @@
-use borrow.Author.Rules.{rules}
 use Rattle.calls.specs.Half.{declared_known}
 use Rattle.compiler.proofs.looking.declares.Goals as goal
 

@@ -1,16 +1,8 @@
 -- Each check's answer, in the checks' order.
-use Prim.Native.Nat.{ℕ}
-use mathlib.Core.Path.{◌≡◌, sym, ◌∙◌}
-use mathlib.Core.Bool.{Bool, true}
-use mathlib.Core.Option.{none}
-use mathlib.Core.List.{List}
-use lib.ListN.{length}
-use borrow.Author.Rules.{rules}
-use borrow.Author.Tests.{not-true, not-false}
-use Rattle.patterns.specs.Rules.{bad_pattern}
+use mathlib.Core.Path.{sym, ◌∙◌}
+use mathlib.Core.Bool.{true}
 use Rattle.word.proofs.ScanLaws.{placed_at, placed_nowhere}
 use Rattle.knowing.specs.Known.{known}
-use Rattle.calls.specs.Half.{declared_known, known_fit}
 use Rattle.compiler.proofs.LookLaws.{within, found_limit, found_store, found_row, found_kind, found_nothing}
 use Rattle.compiler.proofs.looking.look.Goals as goal
 

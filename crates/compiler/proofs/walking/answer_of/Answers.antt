@@ -1,5 +1,4 @@
 use Rattle.compiler.proofs.WalkLaws.{answer_refused, answer_done}
-use borrow.Author.Rules.{rules}
 use Rattle.compiler.proofs.walking.answer_of.Goals as goal
 
 pub returns-in-Refused : goal.returns-in-Refused

@@ -1,7 +1,7 @@
 -- Up to the place the words are zero.
 use Prim.Native.Nat.{◌-◌}
 use native.Mathlib.Omega.{arith}
-use Rattle.compiler.proofs.ClearLaws.{Cleared, cleared_none, cleared_more, cleared_all}
+use Rattle.compiler.proofs.ClearLaws.{cleared_none, cleared_more, cleared_all}
 use Rattle.compiler.proofs.walking.clear.Goals as goal
 
 pub loop-place-init : goal.loop-place-init

@@ -1,7 +1,6 @@
 -- Up to the place the words are zero.
 use Prim.Native.Nat.{◌-◌}
-use native.Mathlib.Omega.{arith}
-use Rattle.compiler.proofs.ClearLaws.{Cleared, cleared_none, cleared_more, cleared_all}
+use Rattle.compiler.proofs.ClearLaws.{Cleared}
 use Rattle.compiler.proofs.walking.clear.Given as goal
 
 abbrev pub invariant-loop-place : goal.invariant-loop-place

@@ -1,4 +1,3 @@
-use borrow.Author.Rules.{rules}
 use Rattle.patterns.specs.Standing.{pattern_in}
 use Rattle.compiler.proofs.WalkLaws.{creates_emits, matches_emits}
 use Rattle.compiler.proofs.walking.emit_row.Goals as goal

@@ -1,14 +1,10 @@
 -- The checks leave a root row with room for its code; what the walk leaves is compile's outcome.
-use Prim.Native.Nat.{ℕ}
 use mathlib.Core.Path.{ap, ◌∙◌}
-use mathlib.Core.Bool.{Bool}
-use mathlib.Core.List.{List}
 use native.Mathlib.Omega.{arith}
 use lib.ListN.{length}
-use borrow.Author.Rules.{rules}
 use Rattle.word.proofs.CopyLaws.{laid}
 use Rattle.knowing.specs.Known.{known}
-use Rattle.calls.proofs.HalfLaws.{KnownPassed, known_passed}
+use Rattle.calls.proofs.HalfLaws.{known_passed}
 use Rattle.layout.proofs.RowLaws.{root_pattern}
 use Rattle.compiler.proofs.RowLaws.{root_row, root_words}
 use Rattle.compiler.proofs.WalkLaws.{walked_done, walked_refused}

@@ -25,16 +25,15 @@ round_front-ended-requires c = let read = c.unpack-read.ensures in rw read.0 rea
 pub pack_new-requires : goal.pack_new-requires
 pack_new-requires c =
     let lent : RoundLent = record {
-  session = c.args.session;
-  rounds = c.args.rounds;
-  kinds = c.args.kinds.now;
-  objects = c.args.objects;
-  messages = c.args.messages;
-  certificates = c.args.certificates.now;
-  terms = c.args.terms.now;
-} in
-    let read = c.unpack-read.ensures in
-    (
+      session = c.args.session;
+      rounds = c.args.rounds;
+      kinds = c.args.kinds.now;
+      objects = c.args.objects;
+      messages = c.args.messages;
+      certificates = c.args.certificates.now;
+      terms = c.args.terms.now;
+    } in
+    let read = c.unpack-read.ensures in (
       search rules,
       used_few c.args.terms.now (search rules) read.1,
       new lent c.args.words.now read.0 c.round_front-ended.ensures read.1 refl,
@@ -43,13 +42,13 @@ pack_new-requires c =
 pub returns : goal.returns
 returns c =
     let lent : RoundLent = record {
-  session = c.args.session;
-  rounds = c.args.rounds;
-  kinds = c.args.kinds.now;
-  objects = c.args.objects;
-  messages = c.args.messages;
-  certificates = c.args.certificates.now;
-  terms = c.args.terms.now;
-} in
+      session = c.args.session;
+      rounds = c.args.rounds;
+      kinds = c.args.kinds.now;
+      objects = c.args.objects;
+      messages = c.args.messages;
+      certificates = c.args.certificates.now;
+      terms = c.args.terms.now;
+    } in
     let read = c.unpack-read.ensures in
     round_rows_packed lent c.args.words.now read.0 c.round_front-ended.ensures c.pack_new.ensures

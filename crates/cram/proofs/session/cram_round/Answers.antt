@@ -1,8 +1,6 @@
 -- What fits is unpacked, played over its table, and packed back; what does not is 1.
 use mathlib.Core.Path.{◌≡◌, sym, ◌∙◌}
 use native.Mathlib.Omega.{arith}
-use borrow.Author.Rules.{rules}
-use borrow.Author.Tests.{not-true, not-false}
 use lib.Seq.{length-take-le}
 use Rattle.lending.specs.RoundEntry.{RoundBytes}
 use Rattle.lending.proofs.RoundLaws.{bytes_fit, RoundFitting, round_fitting, round_limit, round_elements_lem, round_packed}
@@ -11,14 +9,14 @@ use Rattle.cram.proofs.session.cram_round.Goals as goal
 pub returns-then-not-lengths_fit : goal.returns-then-not-lengths_fit
 returns-then-not-lengths_fit c =
     let lent : RoundBytes = record {
-  session = c.args.session.now;
-  rounds = c.args.rounds;
-  kinds = c.args.kinds.now;
-  objects = c.args.objects.now;
-  messages = c.args.messages.now;
-  certificates = c.args.certificates.now;
-  terms = c.args.terms.now;
-} in
+      session = c.args.session.now;
+      rounds = c.args.rounds;
+      kinds = c.args.kinds.now;
+      objects = c.args.objects.now;
+      messages = c.args.messages.now;
+      certificates = c.args.certificates.now;
+      terms = c.args.terms.now;
+    } in
     let all_fit : c.lengths_fit.result ≡ bytes_fit lent c.args.code.now = rw c.lengths_fit-slices.ensures at c.lengths_fit.ensures in
     rw c.numbers.ensures (
     round_limit lent c.args.code.now (λ place. (c.slice_known-1.given place).fits) (λ place. (c.slice_known-2-1.given place).fits)
@@ -29,14 +27,14 @@ returns-then-not-lengths_fit c =
 pub certificates-pairs-requires : goal.certificates-pairs-requires
 certificates-pairs-requires c =
     let lent : RoundBytes = record {
-  session = c.args.session.now;
-  rounds = c.args.rounds;
-  kinds = c.args.kinds.now;
-  objects = c.args.objects.now;
-  messages = c.args.messages.now;
-  certificates = c.args.certificates.now;
-  terms = c.args.terms.now;
-} in
+      session = c.args.session.now;
+      rounds = c.args.rounds;
+      kinds = c.args.kinds.now;
+      objects = c.args.objects.now;
+      messages = c.args.messages.now;
+      certificates = c.args.certificates.now;
+      terms = c.args.terms.now;
+    } in
     let all_fit : c.lengths_fit.result ≡ bytes_fit lent c.args.code.now = rw c.lengths_fit-slices.ensures at c.lengths_fit.ensures in
     let fits : RoundFitting lent c.args.code.now = round_fitting lent c.args.code.now (sym all_fit ∙ c.if-not-lengths_fit.false) in
     fits.slices.few_certificates
@@ -44,14 +42,14 @@ certificates-pairs-requires c =
 pub round_words-words-requires : goal.round_words-words-requires
 round_words-words-requires c =
     let lent : RoundBytes = record {
-  session = c.args.session.now;
-  rounds = c.args.rounds;
-  kinds = c.args.kinds.now;
-  objects = c.args.objects.now;
-  messages = c.args.messages.now;
-  certificates = c.args.certificates.now;
-  terms = c.args.terms.now;
-} in
+      session = c.args.session.now;
+      rounds = c.args.rounds;
+      kinds = c.args.kinds.now;
+      objects = c.args.objects.now;
+      messages = c.args.messages.now;
+      certificates = c.args.certificates.now;
+      terms = c.args.terms.now;
+    } in
     let all_fit : c.lengths_fit.result ≡ bytes_fit lent c.args.code.now = rw c.lengths_fit-slices.ensures at c.lengths_fit.ensures in
     let fits : RoundFitting lent c.args.code.now = round_fitting lent c.args.code.now (sym all_fit ∙ c.if-not-lengths_fit.false) in
     fits.slices.few_words
@@ -59,14 +57,14 @@ round_words-words-requires c =
 pub cells-object_cells-requires : goal.cells-object_cells-requires
 cells-object_cells-requires c =
     let lent : RoundBytes = record {
-  session = c.args.session.now;
-  rounds = c.args.rounds;
-  kinds = c.args.kinds.now;
-  objects = c.args.objects.now;
-  messages = c.args.messages.now;
-  certificates = c.args.certificates.now;
-  terms = c.args.terms.now;
-} in
+      session = c.args.session.now;
+      rounds = c.args.rounds;
+      kinds = c.args.kinds.now;
+      objects = c.args.objects.now;
+      messages = c.args.messages.now;
+      certificates = c.args.certificates.now;
+      terms = c.args.terms.now;
+    } in
     let all_fit : c.lengths_fit.result ≡ bytes_fit lent c.args.code.now = rw c.lengths_fit-slices.ensures at c.lengths_fit.ensures in
     let fits : RoundFitting lent c.args.code.now = round_fitting lent c.args.code.now (sym all_fit ∙ c.if-not-lengths_fit.false) in
     fits.slices.object_bytes
@@ -74,14 +72,14 @@ cells-object_cells-requires c =
 pub message_cells-message_cells-requires : goal.message_cells-message_cells-requires
 message_cells-message_cells-requires c =
     let lent : RoundBytes = record {
-  session = c.args.session.now;
-  rounds = c.args.rounds;
-  kinds = c.args.kinds.now;
-  objects = c.args.objects.now;
-  messages = c.args.messages.now;
-  certificates = c.args.certificates.now;
-  terms = c.args.terms.now;
-} in
+      session = c.args.session.now;
+      rounds = c.args.rounds;
+      kinds = c.args.kinds.now;
+      objects = c.args.objects.now;
+      messages = c.args.messages.now;
+      certificates = c.args.certificates.now;
+      terms = c.args.terms.now;
+    } in
     let all_fit : c.lengths_fit.result ≡ bytes_fit lent c.args.code.now = rw c.lengths_fit-slices.ensures at c.lengths_fit.ensures in
     let fits : RoundFitting lent c.args.code.now = round_fitting lent c.args.code.now (sym all_fit ∙ c.if-not-lengths_fit.false) in
     fits.slices.message_bytes
@@ -89,14 +87,14 @@ message_cells-message_cells-requires c =
 pub unpack-requires : goal.unpack-requires
 unpack-requires c =
     let lent : RoundBytes = record {
-  session = c.args.session.now;
-  rounds = c.args.rounds;
-  kinds = c.args.kinds.now;
-  objects = c.args.objects.now;
-  messages = c.args.messages.now;
-  certificates = c.args.certificates.now;
-  terms = c.args.terms.now;
-} in
+      session = c.args.session.now;
+      rounds = c.args.rounds;
+      kinds = c.args.kinds.now;
+      objects = c.args.objects.now;
+      messages = c.args.messages.now;
+      certificates = c.args.certificates.now;
+      terms = c.args.terms.now;
+    } in
     let all_fit : c.lengths_fit.result ≡ bytes_fit lent c.args.code.now = rw c.lengths_fit-slices.ensures at c.lengths_fit.ensures in
     let fits : RoundFitting lent c.args.code.now = round_fitting lent c.args.code.now (sym all_fit ∙ c.if-not-lengths_fit.false) in
     fits.record_bytes_lem
@@ -104,14 +102,14 @@ unpack-requires c =
 pub slice_bounds-pairs-end : goal.slice_bounds-pairs-end
 slice_bounds-pairs-end c =
     let lent : RoundBytes = record {
-  session = c.args.session.now;
-  rounds = c.args.rounds;
-  kinds = c.args.kinds.now;
-  objects = c.args.objects.now;
-  messages = c.args.messages.now;
-  certificates = c.args.certificates.now;
-  terms = c.args.terms.now;
-} in
+      session = c.args.session.now;
+      rounds = c.args.rounds;
+      kinds = c.args.kinds.now;
+      objects = c.args.objects.now;
+      messages = c.args.messages.now;
+      certificates = c.args.certificates.now;
+      terms = c.args.terms.now;
+    } in
     let all_fit : c.lengths_fit.result ≡ bytes_fit lent c.args.code.now = rw c.lengths_fit-slices.ensures at c.lengths_fit.ensures in
     let fits : RoundFitting lent c.args.code.now = round_fitting lent c.args.code.now (sym all_fit ∙ c.if-not-lengths_fit.false) in
     omega (arith, fits.slices.few_certificates)
@@ -119,14 +117,14 @@ slice_bounds-pairs-end c =
 pub slice_bounds-over_table-end : goal.slice_bounds-over_table-end
 slice_bounds-over_table-end c =
     let lent : RoundBytes = record {
-  session = c.args.session.now;
-  rounds = c.args.rounds;
-  kinds = c.args.kinds.now;
-  objects = c.args.objects.now;
-  messages = c.args.messages.now;
-  certificates = c.args.certificates.now;
-  terms = c.args.terms.now;
-} in
+      session = c.args.session.now;
+      rounds = c.args.rounds;
+      kinds = c.args.kinds.now;
+      objects = c.args.objects.now;
+      messages = c.args.messages.now;
+      certificates = c.args.certificates.now;
+      terms = c.args.terms.now;
+    } in
     let all_fit : c.lengths_fit.result ≡ bytes_fit lent c.args.code.now = rw c.lengths_fit-slices.ensures at c.lengths_fit.ensures in
     let fits : RoundFitting lent c.args.code.now = round_fitting lent c.args.code.now (sym all_fit ∙ c.if-not-lengths_fit.false) in
     sym (length-take-le _ _ (omega (arith, fits.slices.few_certificates)))
@@ -134,14 +132,14 @@ slice_bounds-over_table-end c =
 pub slice_bounds-words-end : goal.slice_bounds-words-end
 slice_bounds-words-end c =
     let lent : RoundBytes = record {
-  session = c.args.session.now;
-  rounds = c.args.rounds;
-  kinds = c.args.kinds.now;
-  objects = c.args.objects.now;
-  messages = c.args.messages.now;
-  certificates = c.args.certificates.now;
-  terms = c.args.terms.now;
-} in
+      session = c.args.session.now;
+      rounds = c.args.rounds;
+      kinds = c.args.kinds.now;
+      objects = c.args.objects.now;
+      messages = c.args.messages.now;
+      certificates = c.args.certificates.now;
+      terms = c.args.terms.now;
+    } in
     let all_fit : c.lengths_fit.result ≡ bytes_fit lent c.args.code.now = rw c.lengths_fit-slices.ensures at c.lengths_fit.ensures in
     let fits : RoundFitting lent c.args.code.now = round_fitting lent c.args.code.now (sym all_fit ∙ c.if-not-lengths_fit.false) in
     omega (arith, fits.slices.few_words)
@@ -149,14 +147,14 @@ slice_bounds-words-end c =
 pub slice_bounds-over_table-end-2 : goal.slice_bounds-over_table-end-2
 slice_bounds-over_table-end-2 c =
     let lent : RoundBytes = record {
-  session = c.args.session.now;
-  rounds = c.args.rounds;
-  kinds = c.args.kinds.now;
-  objects = c.args.objects.now;
-  messages = c.args.messages.now;
-  certificates = c.args.certificates.now;
-  terms = c.args.terms.now;
-} in
+      session = c.args.session.now;
+      rounds = c.args.rounds;
+      kinds = c.args.kinds.now;
+      objects = c.args.objects.now;
+      messages = c.args.messages.now;
+      certificates = c.args.certificates.now;
+      terms = c.args.terms.now;
+    } in
     let all_fit : c.lengths_fit.result ≡ bytes_fit lent c.args.code.now = rw c.lengths_fit-slices.ensures at c.lengths_fit.ensures in
     let fits : RoundFitting lent c.args.code.now = round_fitting lent c.args.code.now (sym all_fit ∙ c.if-not-lengths_fit.false) in
     sym (length-take-le _ _ (omega (arith, fits.slices.few_words)))
@@ -164,14 +162,14 @@ slice_bounds-over_table-end-2 c =
 pub over_table-left-requires : goal.over_table-left-requires
 over_table-left-requires c =
     let lent : RoundBytes = record {
-  session = c.args.session.now;
-  rounds = c.args.rounds;
-  kinds = c.args.kinds.now;
-  objects = c.args.objects.now;
-  messages = c.args.messages.now;
-  certificates = c.args.certificates.now;
-  terms = c.args.terms.now;
-} in
+      session = c.args.session.now;
+      rounds = c.args.rounds;
+      kinds = c.args.kinds.now;
+      objects = c.args.objects.now;
+      messages = c.args.messages.now;
+      certificates = c.args.certificates.now;
+      terms = c.args.terms.now;
+    } in
     let all_fit : c.lengths_fit.result ≡ bytes_fit lent c.args.code.now = rw c.lengths_fit-slices.ensures at c.lengths_fit.ensures in
     let fits : RoundFitting lent c.args.code.now = round_fitting lent c.args.code.now (sym all_fit ∙ c.if-not-lengths_fit.false) in
     let f = fits.slices in (f.row_bytes, f.few_rows)
@@ -179,14 +177,14 @@ over_table-left-requires c =
 pub pack_pairs-requires : goal.pack_pairs-requires
 pack_pairs-requires c =
     let lent : RoundBytes = record {
-  session = c.args.session.now;
-  rounds = c.args.rounds;
-  kinds = c.args.kinds.now;
-  objects = c.args.objects.now;
-  messages = c.args.messages.now;
-  certificates = c.args.certificates.now;
-  terms = c.args.terms.now;
-} in
+      session = c.args.session.now;
+      rounds = c.args.rounds;
+      kinds = c.args.kinds.now;
+      objects = c.args.objects.now;
+      messages = c.args.messages.now;
+      certificates = c.args.certificates.now;
+      terms = c.args.terms.now;
+    } in
     let all_fit : c.lengths_fit.result ≡ bytes_fit lent c.args.code.now = rw c.lengths_fit-slices.ensures at c.lengths_fit.ensures in
     let fits : RoundFitting lent c.args.code.now = round_fitting lent c.args.code.now (sym all_fit ∙ c.if-not-lengths_fit.false) in
     omega (arith, fits.slices.object_bytes)
@@ -194,14 +192,14 @@ pack_pairs-requires c =
 pub pack_pairs-requires-2 : goal.pack_pairs-requires-2
 pack_pairs-requires-2 c =
     let lent : RoundBytes = record {
-  session = c.args.session.now;
-  rounds = c.args.rounds;
-  kinds = c.args.kinds.now;
-  objects = c.args.objects.now;
-  messages = c.args.messages.now;
-  certificates = c.args.certificates.now;
-  terms = c.args.terms.now;
-} in
+      session = c.args.session.now;
+      rounds = c.args.rounds;
+      kinds = c.args.kinds.now;
+      objects = c.args.objects.now;
+      messages = c.args.messages.now;
+      certificates = c.args.certificates.now;
+      terms = c.args.terms.now;
+    } in
     let all_fit : c.lengths_fit.result ≡ bytes_fit lent c.args.code.now = rw c.lengths_fit-slices.ensures at c.lengths_fit.ensures in
     let fits : RoundFitting lent c.args.code.now = round_fitting lent c.args.code.now (sym all_fit ∙ c.if-not-lengths_fit.false) in
     omega (arith, fits.slices.message_bytes)
@@ -209,14 +207,14 @@ pack_pairs-requires-2 c =
 pub pack-requires : goal.pack-requires
 pack-requires c =
     let lent : RoundBytes = record {
-  session = c.args.session.now;
-  rounds = c.args.rounds;
-  kinds = c.args.kinds.now;
-  objects = c.args.objects.now;
-  messages = c.args.messages.now;
-  certificates = c.args.certificates.now;
-  terms = c.args.terms.now;
-} in
+      session = c.args.session.now;
+      rounds = c.args.rounds;
+      kinds = c.args.kinds.now;
+      objects = c.args.objects.now;
+      messages = c.args.messages.now;
+      certificates = c.args.certificates.now;
+      terms = c.args.terms.now;
+    } in
     let all_fit : c.lengths_fit.result ≡ bytes_fit lent c.args.code.now = rw c.lengths_fit-slices.ensures at c.lengths_fit.ensures in
     let fits : RoundFitting lent c.args.code.now = round_fitting lent c.args.code.now (sym all_fit ∙ c.if-not-lengths_fit.false) in
     omega (arith, fits.record_bytes_lem)
@@ -224,14 +222,14 @@ pack-requires c =
 pub returns : goal.returns
 returns c =
     let lent : RoundBytes = record {
-  session = c.args.session.now;
-  rounds = c.args.rounds;
-  kinds = c.args.kinds.now;
-  objects = c.args.objects.now;
-  messages = c.args.messages.now;
-  certificates = c.args.certificates.now;
-  terms = c.args.terms.now;
-} in
+      session = c.args.session.now;
+      rounds = c.args.rounds;
+      kinds = c.args.kinds.now;
+      objects = c.args.objects.now;
+      messages = c.args.messages.now;
+      certificates = c.args.certificates.now;
+      terms = c.args.terms.now;
+    } in
     let all_fit : c.lengths_fit.result ≡ bytes_fit lent c.args.code.now = rw c.lengths_fit-slices.ensures at c.lengths_fit.ensures in
     let fits : RoundFitting lent c.args.code.now = round_fitting lent c.args.code.now (sym all_fit ∙ c.if-not-lengths_fit.false) in
     let code = c.args.code.now in

@@ -1,5 +1,4 @@
 -- The record is unpacked, its answer taken, and packed back; a record of another length is 1.
-use borrow.Author.Rules.{rules}
 use Rattle.lending.proofs.RoundLaws.{take_limit, take_packed}
 use Rattle.cram.proofs.session.cram_take.Goals as goal
 

@@ -26,16 +26,15 @@ run_cells-left-requires c = let read = c.unpack-read.ensures in rw read.0 read.2
 pub pack_new-requires : goal.pack_new-requires
 pack_new-requires c =
     let lent : Lent = record {
-  kinds = c.args.kinds.now;
-  objects = c.args.objects;
-  messages = c.args.messages;
-  certificates = c.args.certificates.now;
-  accumulator = c.args.accumulator;
-  terms = c.args.terms.now;
-  counter = c.args.counter;
-} in
-    let read = c.unpack-read.ensures in
-    (
+      kinds = c.args.kinds.now;
+      objects = c.args.objects;
+      messages = c.args.messages;
+      certificates = c.args.certificates.now;
+      accumulator = c.args.accumulator;
+      terms = c.args.terms.now;
+      counter = c.args.counter;
+    } in
+    let read = c.unpack-read.ensures in (
       search rules,
       used_few c.args.terms.now (search rules) read.1,
       new lent c.args.words.now read.0 c.run_cells-left.ensures.0 read.1 c.run_cells-left.ensures.1,
@@ -44,13 +43,13 @@ pack_new-requires c =
 pub returns : goal.returns
 returns c =
     let lent : Lent = record {
-  kinds = c.args.kinds.now;
-  objects = c.args.objects;
-  messages = c.args.messages;
-  certificates = c.args.certificates.now;
-  accumulator = c.args.accumulator;
-  terms = c.args.terms.now;
-  counter = c.args.counter;
-} in
+      kinds = c.args.kinds.now;
+      objects = c.args.objects;
+      messages = c.args.messages;
+      certificates = c.args.certificates.now;
+      accumulator = c.args.accumulator;
+      terms = c.args.terms.now;
+      counter = c.args.counter;
+    } in
     let read = c.unpack-read.ensures in
     rows_packed lent c.args.words.now read.0 c.run_cells-left.ensures.0 c.run_cells-left.ensures.1 c.pack_new.ensures

@@ -1,5 +1,4 @@
 use Rattle.creating.proofs.FormLaws.{opposite_done}
-use borrow.Author.Rules.{rules}
 use Rattle.creating.proofs.forms.create_opposite.Goals as goal
 
 pub returns : goal.returns

@@ -1,5 +1,4 @@
 use Rattle.creating.proofs.KeyLaws.{certified_key_lem}
-use borrow.Author.Rules.{rules}
 use Rattle.creating.proofs.keys.certified_key.Goals as goal
 
 pub returns : goal.returns

@@ -1,14 +1,16 @@
 use Rattle.creating.proofs.KeyLaws.{key_plain, key_opposite, key_certified}
 use Rattle.patterns.proofs.StandingLaws.{key_low, second_low}
-use borrow.Author.Rules.{rules}
 use Rattle.creating.proofs.keys.create_key.Goals as goal
 
 pub opposite_key-requires : goal.opposite_key-requires
-opposite_key-requires c = record { public_lt_variables = (
+opposite_key-requires c = record {
+  public_lt_variables = (
     key_low _ c.requires.word_bound _
         c.key-key.ensures,
     second_low _ _ c.y.ensures,
-  ); room_for = c.requires.room_for }
+  );
+  room_for = c.requires.room_for;
+}
 
 pub returns-in-0 : goal.returns-in-0
 returns-in-0 c = search (key_plain)

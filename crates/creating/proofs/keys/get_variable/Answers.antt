@@ -1,5 +1,4 @@
 use Rattle.creating.proofs.KeyLaws.{variable-ways}
-use borrow.Author.Rules.{rules}
 use Rattle.creating.proofs.keys.get_variable.Goals as goal
 
 pub returns-then-object_known : goal.returns-then-object_known

@@ -1,5 +1,4 @@
 use Rattle.creating.proofs.KeyLaws.{opposite_key}
-use borrow.Author.Rules.{rules}
 use Rattle.creating.proofs.keys.opposite_key.Goals as goal
 
 pub returns : goal.returns

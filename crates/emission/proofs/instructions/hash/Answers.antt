@@ -1,5 +1,4 @@
 use Rattle.emission.proofs.InstructionLaws.{emitted_blindly}
-use borrow.Author.Rules.{rules}
 use Rattle.emission.proofs.instructions.hash.Goals as goal
 
 pub returns : goal.returns

@@ -1,5 +1,4 @@
 use Rattle.emission.proofs.InstructionLaws.{emitted_twice}
-use borrow.Author.Rules.{rules}
 use Rattle.emission.proofs.instructions.opposite.Goals as goal
 
 pub returns : goal.returns

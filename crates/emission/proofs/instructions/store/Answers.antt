@@ -1,5 +1,4 @@
 use Rattle.emission.proofs.InstructionLaws.{emitted}
-use borrow.Author.Rules.{rules}
 use Rattle.emission.proofs.instructions.store.Goals as goal
 
 pub returns : goal.returns

@@ -1,6 +1,5 @@
 -- A refusal of 1, 3, 4 or 5 stays; else 6 and 7 are looked at.
 use mathlib.Core.Path.{sym, ◌∙◌}
-use borrow.Author.Rules.{rules}
 use Rattle.knowing.specs.Known.{known}
 use Rattle.knowing.proofs.FindingLaws.{found_some, found_none}
 use Rattle.engine.proofs.FoundLaws.{pattern_refused, pattern_surveyed}

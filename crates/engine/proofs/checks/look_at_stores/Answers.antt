@@ -5,8 +5,6 @@ use mathlib.Core.Bool.{true}
 use mathlib.Core.Option.{none}
 use native.Mathlib.Omega.{arith}
 use lib.ListN.{length}
-use borrow.Author.Rules.{rules}
-use borrow.Author.Tests.{not-true, not-false}
 use Rattle.word.proofs.TestLaws.{both, at_most}
 use Rattle.numbers.specs.Limits.{most_term_rows}
 use Rattle.terms.specs.Rules.{used_rows, bad_term}
@@ -21,27 +19,27 @@ use Rattle.engine.proofs.checks.look_at_stores.Goals as goal
 pub returns-then-not-fits : goal.returns-then-not-fits
 returns-then-not-fits c =
     let x : Lent = record {
-  kinds = c.args.kinds.now;
-  objects = c.args.objects.now;
-  messages = c.args.named.now;
-  certificates = c.args.certificates.now;
-  accumulator = c.args.accumulator;
-  terms = c.args.terms.now;
-  counter = c.args.counter;
-} in
+      kinds = c.args.kinds.now;
+      objects = c.args.objects.now;
+      messages = c.args.named.now;
+      certificates = c.args.certificates.now;
+      accumulator = c.args.accumulator;
+      terms = c.args.terms.now;
+      counter = c.args.counter;
+    } in
     stores_limit x (c.if-not-fits.true)
 
 pub first_bad_row-checked-requires : goal.first_bad_row-checked-requires
 first_bad_row-checked-requires c =
     let x : Lent = record {
-  kinds = c.args.kinds.now;
-  objects = c.args.objects.now;
-  messages = c.args.named.now;
-  certificates = c.args.certificates.now;
-  accumulator = c.args.accumulator;
-  terms = c.args.terms.now;
-  counter = c.args.counter;
-} in
+      kinds = c.args.kinds.now;
+      objects = c.args.objects.now;
+      messages = c.args.named.now;
+      certificates = c.args.certificates.now;
+      accumulator = c.args.accumulator;
+      terms = c.args.terms.now;
+      counter = c.args.counter;
+    } in
     let fits : table_fits x ≡ true = c.if-not-fits.false in
     let few : length x.terms ≤ most_term_rows = (simp (both, at_most) at (true_holds fits)).0.1 in
     few
@@ -49,14 +47,14 @@ first_bad_row-checked-requires c =
 pub overflow_cast-used : goal.overflow_cast-used
 overflow_cast-used c =
     let x : Lent = record {
-  kinds = c.args.kinds.now;
-  objects = c.args.objects.now;
-  messages = c.args.named.now;
-  certificates = c.args.certificates.now;
-  accumulator = c.args.accumulator;
-  terms = c.args.terms.now;
-  counter = c.args.counter;
-} in
+      kinds = c.args.kinds.now;
+      objects = c.args.objects.now;
+      messages = c.args.named.now;
+      certificates = c.args.certificates.now;
+      accumulator = c.args.accumulator;
+      terms = c.args.terms.now;
+      counter = c.args.counter;
+    } in
     let fits : table_fits x ≡ true = c.if-not-fits.false in
     let few : length x.terms ≤ most_term_rows = (simp (both, at_most) at (true_holds fits)).0.1 in
     let lent : Lent = x in
@@ -66,28 +64,28 @@ overflow_cast-used c =
 pub returns-in-Bad : goal.returns-in-Bad
 returns-in-Bad c =
     let x : Lent = record {
-  kinds = c.args.kinds.now;
-  objects = c.args.objects.now;
-  messages = c.args.named.now;
-  certificates = c.args.certificates.now;
-  accumulator = c.args.accumulator;
-  terms = c.args.terms.now;
-  counter = c.args.counter;
-} in
+      kinds = c.args.kinds.now;
+      objects = c.args.objects.now;
+      messages = c.args.named.now;
+      certificates = c.args.certificates.now;
+      accumulator = c.args.accumulator;
+      terms = c.args.terms.now;
+      counter = c.args.counter;
+    } in
     let fits : table_fits x ≡ true = c.if-not-fits.false in
     stores_term x fits (checked_bad _ _ c.first_bad_row-checked.ensures c.in-Bad.is)
 
 pub returns-then-good : goal.returns-then-good
 returns-then-good c =
     let x : Lent = record {
-  kinds = c.args.kinds.now;
-  objects = c.args.objects.now;
-  messages = c.args.named.now;
-  certificates = c.args.certificates.now;
-  accumulator = c.args.accumulator;
-  terms = c.args.terms.now;
-  counter = c.args.counter;
-} in
+      kinds = c.args.kinds.now;
+      objects = c.args.objects.now;
+      messages = c.args.named.now;
+      certificates = c.args.certificates.now;
+      accumulator = c.args.accumulator;
+      terms = c.args.terms.now;
+      counter = c.args.counter;
+    } in
     let fits : table_fits x ≡ true = c.if-not-fits.false in
     let lent : Lent = x in
     let counted : (bad_term lent.terms lent.counter ≡ none) × (c.in-Used.count ≡ used_rows lent.terms) = checked_used lent.terms _ c.first_bad_row-checked.ensures c.in-Used.is in
@@ -96,14 +94,14 @@ returns-then-good c =
 pub returns-else-good : goal.returns-else-good
 returns-else-good c =
     let x : Lent = record {
-  kinds = c.args.kinds.now;
-  objects = c.args.objects.now;
-  messages = c.args.named.now;
-  certificates = c.args.certificates.now;
-  accumulator = c.args.accumulator;
-  terms = c.args.terms.now;
-  counter = c.args.counter;
-} in
+      kinds = c.args.kinds.now;
+      objects = c.args.objects.now;
+      messages = c.args.named.now;
+      certificates = c.args.certificates.now;
+      accumulator = c.args.accumulator;
+      terms = c.args.terms.now;
+      counter = c.args.counter;
+    } in
     let fits : table_fits x ≡ true = c.if-not-fits.false in
     let lent : Lent = x in
     let counted : (bad_term lent.terms lent.counter ≡ none) × (c.in-Used.count ≡ used_rows lent.terms) = checked_used lent.terms _ c.first_bad_row-checked.ensures c.in-Used.is in

@@ -1,5 +1,4 @@
 -- Each answer by its variant.
-use borrow.Author.Rules.{rules}
 use Rattle.engine.proofs.checks.refused_as.Goals as goal
 
 pub returns-in-BadPattern : goal.returns-in-BadPattern

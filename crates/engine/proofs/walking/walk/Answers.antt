@@ -4,7 +4,6 @@ use mathlib.Core.Path.{◌≡◌, ◌∙◌, ap}
 use mathlib.Core.List.{List}
 use native.Mathlib.Omega.{arith}
 use lib.ListN.{length}
-use borrow.Author.Rules.{rules}
 use Rattle.word.proofs.CopyLaws.{laid}
 use Rattle.patterns.specs.Standing.{pattern_in}
 use Rattle.patterns.specs.Tree.{pattern_of}

@@ -1,5 +1,4 @@
 -- Either walk is its rule.
-use borrow.Author.Rules.{rules}
 use Rattle.patterns.specs.Standing.{pattern_in}
 use Rattle.engine.proofs.WalkLaws.{created_walks, matched_walks}
 use Rattle.engine.proofs.walking.walk_row.Goals as goal

@@ -1,13 +1,10 @@
-use Prim.Native.Nat.{ℕ, ◌-◌, ◌≤◌}
+use Prim.Native.Nat.{◌-◌}
 use mathlib.Core.Path.{refl, sym, ap, ◌∙◌}
-use mathlib.Core.Bool.{Bool, not}
-use mathlib.Core.List.{List}
+use mathlib.Core.Bool.{not}
 use native.Mathlib.Omega.{arith}
-use lib.ListN.{length, get_or}
-use borrow.Author.Rules.{rules, scaled_Fits}
+use borrow.Author.Rules.{scaled_Fits}
 use Rattle.word.specs.Lowest.{place_of}
-use Rattle.word.proofs.ScanLaws.{Left, scan_hit, scan_miss, scan_end}
-use Rattle.patterns.specs.Row.{pattern_fields}
+use Rattle.word.proofs.ScanLaws.{scan_hit, scan_miss, scan_end}
 use Rattle.patterns.specs.RowKinds.{row_kinds}
 use Rattle.patterns.proofs.KindLaws.{wrong_rows}
 use Rattle.grammar.proofs.kinds.first_wrong_kind.Invariants.{wrong}

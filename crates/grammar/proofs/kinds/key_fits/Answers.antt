@@ -1,4 +1,3 @@
-use borrow.Author.Rules.{rules}
 use Rattle.grammar.proofs.kinds.key_fits.Goals as goal
 
 pub returns-then-create : goal.returns-then-create

@@ -1,6 +1,5 @@
 use mathlib.Core.Path.{sym}
 use lib.ListN.{get_or-eq_default}
-use borrow.Author.Rules.{rules}
 use Rattle.grammar.proofs.kinds.kind_of.Goals as goal
 
 pub returns-else-place-kinds : goal.returns-else-place-kinds

@@ -2,7 +2,6 @@ use mathlib.Core.Path.{◌∙◌}
 use Rattle.patterns.specs.Row.{pattern_fields}
 use Rattle.word.proofs.OneOfLaws.{one_of_pair}
 use Rattle.patterns.proofs.KindLaws.{plain_else}
-use borrow.Author.Rules.{rules}
 use Rattle.grammar.proofs.kinds.public_side.Goals as goal
 
 pub returns-in-1 : goal.returns-in-1

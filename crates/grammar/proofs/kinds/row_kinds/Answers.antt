@@ -3,7 +3,6 @@ use Rattle.patterns.specs.Row.{pattern_fields}
 use Rattle.patterns.specs.RowKinds.{kinds_by}
 use Rattle.word.proofs.ArmLaws.{past}
 use Rattle.patterns.proofs.KindLaws.{other_way, kinds_past}
-use borrow.Author.Rules.{rules}
 use Rattle.grammar.proofs.kinds.row_kinds.Goals as goal
 
 pub returns-in-0 : goal.returns-in-0

@@ -1,5 +1,4 @@
 use native.Mathlib.Omega.{arith}
-use borrow.Author.Rules.{rules}
 use Rattle.patterns.proofs.RowLaws.{children_count}
 use Rattle.grammar.proofs.rules.child_count.Goals as goal
 

@@ -1,10 +1,9 @@
-use Prim.Native.Nat.{◌-◌, ◌≤◌}
+use Prim.Native.Nat.{◌-◌}
 use mathlib.Core.Path.{refl, sym, ap, ◌∙◌}
 use native.Mathlib.Omega.{arith}
-use lib.ListN.{length}
-use borrow.Author.Rules.{rules, scaled_Fits}
+use borrow.Author.Rules.{scaled_Fits}
 use Rattle.word.specs.Lowest.{place_of}
-use Rattle.patterns.proofs.CheckLaws.{Good, good_none, good_end, good_stop, good_next}
+use Rattle.patterns.proofs.CheckLaws.{good_none, good_end, good_stop, good_next}
 use Rattle.grammar.proofs.rules.first_bad_pattern.Goals as goal
 
 pub loop-place-init : goal.loop-place-init

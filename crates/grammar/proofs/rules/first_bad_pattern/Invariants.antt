@@ -1,10 +1,6 @@
 use Prim.Native.Nat.{◌-◌, ◌≤◌}
-use mathlib.Core.Path.{refl, sym, ap, ◌∙◌}
-use native.Mathlib.Omega.{arith}
 use lib.ListN.{length}
-use borrow.Author.Rules.{rules, scaled_Fits}
-use Rattle.word.specs.Lowest.{place_of}
-use Rattle.patterns.proofs.CheckLaws.{Good, good_none, good_end, good_stop, good_next}
+use Rattle.patterns.proofs.CheckLaws.{Good}
 use Rattle.grammar.proofs.rules.first_bad_pattern.Given as goal
 
 abbrev pub invariant-loop-place : goal.invariant-loop-place

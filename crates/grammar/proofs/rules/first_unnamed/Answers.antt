@@ -7,7 +7,7 @@ use lib.ListN.{length, take}
 use lib.Seq.{length-take-le, get_or-take}
 use borrow.Author.Rules.{rules}
 use Rattle.word.specs.Lowest.{place_of}
-use Rattle.word.proofs.ScanLaws.{Left, scan_hit, scan_miss, scan_end}
+use Rattle.word.proofs.ScanLaws.{scan_hit, scan_miss, scan_end}
 use Rattle.grammar.proofs.rules.first_unnamed.Goals as goal
 
 front_length : (marks : List Bool) (count : ℕ) → length marks ≡ 128 → count ≤ 96 → length (take (count - 1) marks) ≡ count - 1

@@ -1,13 +1,7 @@
-use Prim.Native.Nat.{ℕ, ◌-◌, ◌≤◌}
-use mathlib.Core.Path.{◌≡◌, refl, sym, ap}
-use mathlib.Core.Bool.{Bool, false, not}
-use mathlib.Core.List.{List}
-use native.Mathlib.Omega.{arith}
-use lib.ListN.{length, take}
-use lib.Seq.{length-take-le, get_or-take}
-use borrow.Author.Rules.{rules}
-use Rattle.word.specs.Lowest.{place_of}
-use Rattle.word.proofs.ScanLaws.{Left, scan_hit, scan_miss, scan_end}
+use Prim.Native.Nat.{◌-◌, ◌≤◌}
+use mathlib.Core.Bool.{not}
+use lib.ListN.{take}
+use Rattle.word.proofs.ScanLaws.{Left}
 use Rattle.grammar.proofs.rules.first_unnamed.Given as goal
 
 abbrev pub invariant-loop-place : goal.invariant-loop-place

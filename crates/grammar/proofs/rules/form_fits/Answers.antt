@@ -1,4 +1,3 @@
-use borrow.Author.Rules.{rules}
 use Rattle.grammar.proofs.rules.form_fits.Goals as goal
 
 pub returns : goal.returns

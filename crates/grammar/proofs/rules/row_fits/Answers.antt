@@ -1,5 +1,4 @@
 use native.Mathlib.Omega.{arith}
-use borrow.Author.Rules.{rules}
 use borrow.Author.Tests.{le-ltb}
 use Rattle.word.proofs.ArmLaws.{past}
 use Rattle.grammar.proofs.rules.row_fits.Goals as goal

@@ -1,11 +1,8 @@
-use Prim.Native.Nat.{◌-◌, ◌<◌, ◌≤◌}
+use Prim.Native.Nat.{◌-◌, ◌<◌}
 use mathlib.Core.Path.{◌≡◌, refl, sym, ◌∙◌}
-use mathlib.Core.Bool.{false}
 use native.Mathlib.Omega.{arith}
-use lib.ListN.{length, drop, length-set}
-use borrow.Author.Rules.{rules}
+use lib.ListN.{length, length-set}
 use Rattle.patterns.specs.Row.{children_of}
-use Rattle.patterns.specs.Marks.{taking, take_every}
 use Rattle.patterns.proofs.RowLaws.{slot_below, children_count, child_slot}
 use Rattle.patterns.proofs.MarkLaws.{take_next, take_end}
 use Rattle.grammar.proofs.rules.take_children.Goals as goal

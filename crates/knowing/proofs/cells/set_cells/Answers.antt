@@ -1,8 +1,8 @@
 -- Up to the cell the set ones are known.
-use Prim.Native.Nat.{◌-◌, ◌≤◌}
+use Prim.Native.Nat.{◌-◌}
 use native.Mathlib.Omega.{arith}
 use borrow.Author.Rules.{scaled_Fits}
-use Rattle.knowing.proofs.CellLaws.{KnownBelow, known_none, known_room, known_more, known_all}
+use Rattle.knowing.proofs.CellLaws.{known_none, known_room, known_more, known_all}
 use Rattle.knowing.proofs.cells.set_cells.Goals as goal
 
 pub loop-cell-init : goal.loop-cell-init

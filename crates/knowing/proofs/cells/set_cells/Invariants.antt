@@ -1,8 +1,6 @@
 -- Up to the cell the set ones are known.
 use Prim.Native.Nat.{◌-◌, ◌≤◌}
-use native.Mathlib.Omega.{arith}
-use borrow.Author.Rules.{scaled_Fits}
-use Rattle.knowing.proofs.CellLaws.{KnownBelow, known_none, known_room, known_more, known_all}
+use Rattle.knowing.proofs.CellLaws.{KnownBelow}
 use Rattle.knowing.proofs.cells.set_cells.Given as goal
 
 abbrev pub invariant-loop-cell : goal.invariant-loop-cell

@@ -1,5 +1,4 @@
 use native.Mathlib.Omega.{arith}
-use borrow.Author.Rules.{rules}
 use Rattle.knowing.proofs.cells.with_cell.Goals as goal
 
 pub returns-then-is_set : goal.returns-then-is_set

@@ -1,6 +1,5 @@
 -- `leaf_matching::forms::match_constant` meets its contract, a way out at a time.
 use Rattle.leaf_matching.proofs.FormLaws.{constant-ways}
-use borrow.Author.Rules.{rules}
 use Rattle.leaf_matching.proofs.forms.match_constant.Goals as goal
 
 pub returns-then-message : goal.returns-then-message

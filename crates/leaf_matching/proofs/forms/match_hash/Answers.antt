@@ -1,7 +1,6 @@
 -- `leaf_matching::forms::match_hash` meets its contract.
 use Rattle.numbers.specs.Kinds.{kind_in}
 use Rattle.leaf_matching.proofs.FormLaws.{decoded_inside, hash_same}
-use borrow.Author.Rules.{rules}
 use Rattle.leaf_matching.proofs.forms.match_hash.Goals as goal
 
 pub hashed-made-requires : goal.hashed-made-requires

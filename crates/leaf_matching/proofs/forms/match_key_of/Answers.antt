@@ -1,6 +1,5 @@
 -- `leaf_matching::forms::match_key_of` meets its contract.
 use Rattle.leaf_matching.proofs.FormLaws.{key_of_same}
-use borrow.Author.Rules.{rules}
 use Rattle.leaf_matching.proofs.forms.match_key_of.Goals as goal
 
 pub returns : goal.returns

@@ -1,6 +1,5 @@
 -- `leaf_matching::forms::match_object` meets its contract, a way out at a time.
 use Rattle.leaf_matching.proofs.FormLaws.{object-ways}
-use borrow.Author.Rules.{rules}
 use Rattle.leaf_matching.proofs.forms.match_object.Goals as goal
 
 pub returns-then-known : goal.returns-then-known

@@ -1,6 +1,5 @@
 -- `leaf_matching::forms::match_opposite` meets its contract, a way out at a time.
 use Rattle.leaf_matching.proofs.FormLaws.{opposite_no_message, opposite_same}
-use borrow.Author.Rules.{rules}
 use Rattle.leaf_matching.proofs.forms.match_opposite.Goals as goal
 
 pub returns-then-message : goal.returns-then-message

@@ -1,6 +1,5 @@
 -- `leaf_matching::forms::match_raw` meets its contract, a way out at a time.
 use Rattle.leaf_matching.proofs.FormLaws.{raw_no_message, raw_stored, raw_same}
-use borrow.Author.Rules.{rules}
 use Rattle.leaf_matching.proofs.forms.match_raw.Goals as goal
 
 pub returns-then-message : goal.returns-then-message

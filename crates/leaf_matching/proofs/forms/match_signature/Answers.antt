@@ -1,7 +1,6 @@
 -- `leaf_matching::forms::match_signature` meets its contract.
 use Rattle.numbers.specs.Kinds.{kind_in}
 use Rattle.leaf_matching.proofs.FormLaws.{decoded_inside, decoded_low, raw_low, signature_verified}
-use borrow.Author.Rules.{rules}
 use Rattle.leaf_matching.proofs.forms.match_signature.Goals as goal
 
 pub signing_key-keyed-requires : goal.signing_key-keyed-requires

@@ -1,7 +1,6 @@
 -- `leaf_matching::forms::open` meets its contract.
 use Rattle.numbers.specs.Kinds.{kind_in}
 use Rattle.leaf_matching.proofs.FormLaws.{open_done}
-use borrow.Author.Rules.{rules}
 use Rattle.leaf_matching.proofs.forms.open.Goals as goal
 
 pub returns : goal.returns

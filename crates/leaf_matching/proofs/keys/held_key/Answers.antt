@@ -1,6 +1,5 @@
 -- `leaf_matching::keys::held_key` meets its contract, a way out at a time.
 use Rattle.leaf_matching.proofs.KeyLaws.{held_key_unset, held_key_row}
-use borrow.Author.Rules.{rules}
 use Rattle.leaf_matching.proofs.keys.held_key.Goals as goal
 
 pub returns-then-known : goal.returns-then-known

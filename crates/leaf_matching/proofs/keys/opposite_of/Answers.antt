@@ -1,6 +1,5 @@
 -- `leaf_matching::keys::opposite_of` meets its contract, a way out at a time.
 use Rattle.leaf_matching.proofs.KeyLaws.{opposed-ways}
-use borrow.Author.Rules.{rules}
 use Rattle.leaf_matching.proofs.keys.opposite_of.Goals as goal
 
 pub returns-then-key : goal.returns-then-key

@@ -1,7 +1,6 @@
 -- `leaf_matching::keys::signing_key` meets its contract, a way out at a time.
 use Rattle.leaf_matching.proofs.KeyLaws.{signing-asks, signing_held, signing_opposite, signing_certified}
 use Rattle.leaf_matching.proofs.StageLaws.{stage_stuck, stage_full}
-use borrow.Author.Rules.{rules}
 use Rattle.leaf_matching.proofs.keys.signing_key.Goals as goal
 
 pub opposite_of-requires : goal.opposite_of-requires

@@ -1,6 +1,5 @@
 -- `leaf_matching::stages::agent_key` meets its contract, a way out at a time.
 use Rattle.leaf_matching.proofs.StageLaws.{stage_stuck, stage_full, agent_unset, agent_not, agent_row}
-use borrow.Author.Rules.{rules}
 use Rattle.leaf_matching.proofs.stages.agent_key.Goals as goal
 
 pub returns-then-whose : goal.returns-then-whose

@@ -1,6 +1,5 @@
 -- `leaf_matching::stages::hashed` meets its contract, a way out at a time.
 use Rattle.leaf_matching.proofs.StageLaws.{stage_stuck, stage_full, inside_next, hash_unset, hash_made}
-use borrow.Author.Rules.{rules}
 use Rattle.leaf_matching.proofs.stages.hashed.Goals as goal
 
 pub returns-then-body : goal.returns-then-body

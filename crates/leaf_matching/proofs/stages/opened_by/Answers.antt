@@ -1,6 +1,5 @@
 -- `leaf_matching::stages::opened_by` meets its contract, a way out at a time.
 use Rattle.leaf_matching.proofs.StageLaws.{stage_stuck, stage_full, open_unset, open_not, open_row}
-use borrow.Author.Rules.{rules}
 use Rattle.leaf_matching.proofs.stages.opened_by.Goals as goal
 
 pub returns-then-known : goal.returns-then-known

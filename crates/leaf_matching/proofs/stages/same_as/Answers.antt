@@ -1,6 +1,5 @@
 -- `leaf_matching::stages::same_as` meets its contract, a way out at a time.
 use Rattle.leaf_matching.proofs.StageLaws.{stage_stuck, stage_full, same_not, same_holds}
-use borrow.Author.Rules.{rules}
 use Rattle.leaf_matching.proofs.stages.same_as.Goals as goal
 
 pub returns-in-Stuck : goal.returns-in-Stuck

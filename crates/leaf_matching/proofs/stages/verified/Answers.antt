@@ -1,6 +1,5 @@
 -- `leaf_matching::stages::verified` meets its contract, a way out at a time.
 use Rattle.leaf_matching.proofs.StageLaws.{stage_stuck, stage_full, verify_unset, verify_not, verify_holds}
-use borrow.Author.Rules.{rules}
 use Rattle.leaf_matching.proofs.stages.verified.Goals as goal
 
 pub returns-then-body : goal.returns-then-body

@@ -1,6 +1,5 @@
 use mathlib.Core.Path.{◌∙◌}
 use native.Mathlib.Omega.{arith}
-use borrow.Author.Rules.{rules}
 use Rattle.word.proofs.ByteLaws.{filled}
 use Rattle.lending.proofs.arrays.cells.Goals as goal
 

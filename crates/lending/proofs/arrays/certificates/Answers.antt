@@ -1,4 +1,3 @@
-use borrow.Author.Rules.{rules}
 use Rattle.lending.proofs.FrontLaws.{front}
 use Rattle.lending.proofs.arrays.certificates.Goals as goal
 

@@ -1,10 +1,7 @@
-use Prim.Native.Nat.{◌-◌, ◌≤◌}
-use mathlib.Core.Path.{◌≡◌, refl}
-use mathlib.Core.Bool.{◌&&◌}
+use Prim.Native.Nat.{◌-◌}
+use mathlib.Core.Path.{refl}
 use native.Mathlib.Omega.{arith}
 use lib.Dec.{eqb}
-use lib.ListN.{length, drop}
-use Rattle.word.specs.Lowest.{each}
 use Rattle.word.proofs.ScanLaws.{each_gather, each_gathered}
 use Rattle.lending.proofs.rows.all_zero.Goals as goal
 

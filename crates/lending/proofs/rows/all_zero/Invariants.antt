@@ -1,11 +1,9 @@
 use Prim.Native.Nat.{◌-◌, ◌≤◌}
-use mathlib.Core.Path.{◌≡◌, refl}
+use mathlib.Core.Path.{◌≡◌}
 use mathlib.Core.Bool.{◌&&◌}
-use native.Mathlib.Omega.{arith}
 use lib.Dec.{eqb}
 use lib.ListN.{length, drop}
 use Rattle.word.specs.Lowest.{each}
-use Rattle.word.proofs.ScanLaws.{each_gather, each_gathered}
 use Rattle.lending.proofs.rows.all_zero.Given as goal
 
 abbrev pub invariant-loop-i : goal.invariant-loop-i

@@ -1,7 +1,6 @@
 use Prim.Native.Nat.{◌-◌}
 use native.Mathlib.Omega.{arith}
-use borrow.Author.Rules.{rules}
-use Rattle.word.proofs.ByteLaws.{Packed, packed_more}
+use Rattle.word.proofs.ByteLaws.{packed_more}
 use Rattle.lending.proofs.TableLaws.{packed_before, packed_behind}
 use Rattle.lending.proofs.rows.pack_new.Goals as goal
 

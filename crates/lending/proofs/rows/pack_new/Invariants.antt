@@ -1,8 +1,5 @@
 use Prim.Native.Nat.{◌-◌}
-use native.Mathlib.Omega.{arith}
-use borrow.Author.Rules.{rules}
-use Rattle.word.proofs.ByteLaws.{Packed, packed_more}
-use Rattle.lending.proofs.TableLaws.{packed_before, packed_behind}
+use Rattle.word.proofs.ByteLaws.{Packed}
 use Rattle.lending.proofs.rows.pack_new.Given as goal
 
 abbrev pub invariant-loop-place : goal.invariant-loop-place

@@ -3,7 +3,6 @@ use mathlib.Core.Path.{sym, ◌∙◌, ap}
 use lib.Dec.{eqb}
 use lib.ListN.{length}
 use native.Mathlib.Omega.{arith}
-use borrow.Author.Rules.{rules}
 use Rattle.word.specs.Lowest.{each}
 use Rattle.word.proofs.ByteLaws.{filled}
 use Rattle.lending.proofs.TableLaws.{used_few, all_rows, bytes_behind, front_zero, rest_zero}
@@ -35,9 +34,8 @@ returns-then-all_zero c =
     )
 
 pub returns : goal.returns
-returns c =
-    (
-      c.unpack_words.ensures ∙ filled 8 c.args.bytes.now _ (omega arith),
-      c.unpack_used-used.ensures.0,
-      all_rows c.args.bytes.now (omega arith),
-    )
+returns c = (
+  c.unpack_words.ensures ∙ filled 8 c.args.bytes.now _ (omega arith),
+  c.unpack_used-used.ensures.0,
+  all_rows c.args.bytes.now (omega arith),
+)

@@ -1,7 +1,6 @@
 use Prim.Native.Nat.{◌-◌}
 use native.Mathlib.Omega.{arith}
-use borrow.Author.Rules.{rules}
-use Rattle.lending.proofs.TableLaws.{Reading, reading_none, reading_more, reading_zero, reading_all}
+use Rattle.lending.proofs.TableLaws.{reading_none, reading_more, reading_zero, reading_all}
 use Rattle.lending.proofs.rows.unpack_used.Goals as goal
 
 pub loop-place-init : goal.loop-place-init

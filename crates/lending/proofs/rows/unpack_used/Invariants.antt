@@ -1,7 +1,5 @@
 use Prim.Native.Nat.{◌-◌}
-use native.Mathlib.Omega.{arith}
-use borrow.Author.Rules.{rules}
-use Rattle.lending.proofs.TableLaws.{Reading, reading_none, reading_more, reading_zero, reading_all}
+use Rattle.lending.proofs.TableLaws.{Reading}
 use Rattle.lending.proofs.rows.unpack_used.Given as goal
 
 abbrev pub invariant-loop-place : goal.invariant-loop-place

@@ -1,4 +1,3 @@
-use borrow.Author.Rules.{rules}
 use Rattle.lending.proofs.runs.numbers.Goals as goal
 
 pub returns : goal.returns

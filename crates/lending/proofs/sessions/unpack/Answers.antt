@@ -1,6 +1,5 @@
 use mathlib.Core.Path.{◌∙◌, ap}
 use native.Mathlib.Omega.{arith}
-use borrow.Author.Rules.{rules}
 use Rattle.word.proofs.ByteLaws.{filled}
 use Rattle.lending.specs.RoundEntry.{session_of}
 use Rattle.lending.proofs.sessions.unpack.Goals as goal

@@ -2,7 +2,6 @@ use mathlib.Core.Path.{sym}
 use native.Mathlib.Omega.{arith}
 use lib.Seq.{length-take-le}
 use Rattle.listing.proofs.LinesLaws.{words_fit, refused_listed, ran_listed}
-use borrow.Author.Rules.{rules}
 use Rattle.listing.proofs.lines.list.Goals as goal
 
 pub slice_bounds-code-end : goal.slice_bounds-code-end

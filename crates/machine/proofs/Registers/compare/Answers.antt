@@ -1,6 +1,5 @@
 -- `machine::Registers::compare` meets its contract: each way out is a step of the table.
 use Rattle.machine.proofs.MovingLaws.{match-ways}
-use borrow.Author.Rules.{rules}
 use Rattle.machine.proofs.Registers.compare.Goals as goal
 
 pub returns-then-row : goal.returns-then-row

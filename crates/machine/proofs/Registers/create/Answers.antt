@@ -1,6 +1,5 @@
 -- `machine::Registers::create` meets its contract: each way out is a step of the table.
 use Rattle.machine.proofs.MakingLaws.{create-ways}
-use borrow.Author.Rules.{rules}
 use Rattle.machine.proofs.Registers.create.Goals as goal
 
 pub returns-in_default : goal.returns-in_default

@@ -1,8 +1,8 @@
 -- `machine::Registers::create_tuple` meets its contract: after i turns the first i cells are gathered.
-use Prim.Native.Nat.{◌-◌, ◌≤◌}
+use Prim.Native.Nat.{◌-◌}
 use native.Mathlib.Omega.{arith}
 use borrow.Author.Rules.{rules}
-use Rattle.machine.proofs.TupleLaws.{Gathered, gathered_none, gathered_more, create-tuple-ways}
+use Rattle.machine.proofs.TupleLaws.{gathered_none, gathered_more, create-tuple-ways}
 use Rattle.machine.proofs.Registers.create_tuple.Goals as goal
 
 pub loop-i-init : goal.loop-i-init

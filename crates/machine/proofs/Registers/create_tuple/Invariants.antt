@@ -1,8 +1,6 @@
 -- `machine::Registers::create_tuple` meets its contract: after i turns the first i cells are gathered.
 use Prim.Native.Nat.{◌-◌, ◌≤◌}
-use native.Mathlib.Omega.{arith}
-use borrow.Author.Rules.{rules}
-use Rattle.machine.proofs.TupleLaws.{Gathered, gathered_none, gathered_more, create-tuple-ways}
+use Rattle.machine.proofs.TupleLaws.{Gathered}
 use Rattle.machine.proofs.Registers.create_tuple.Given as goal
 
 abbrev pub invariant-loop-i : goal.invariant-loop-i

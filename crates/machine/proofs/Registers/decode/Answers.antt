@@ -1,6 +1,5 @@
 -- `machine::Registers::decode` meets its contract: each way out is a step of the table.
 use Rattle.machine.proofs.MovingLaws.{decode-ways}
-use borrow.Author.Rules.{rules}
 use Rattle.machine.proofs.Registers.decode.Goals as goal
 
 pub returns-then-row : goal.returns-then-row

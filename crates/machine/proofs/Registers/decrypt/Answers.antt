@@ -1,6 +1,5 @@
 -- `machine::Registers::decrypt` meets its contract: each way out is a step of the table.
 use Rattle.machine.proofs.OpeningLaws.{decrypt-ways}
-use borrow.Author.Rules.{rules}
 use Rattle.machine.proofs.Registers.decrypt.Goals as goal
 
 pub returns-then-key : goal.returns-then-key

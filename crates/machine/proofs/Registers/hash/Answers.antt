@@ -1,6 +1,5 @@
 -- `machine::Registers::hash` meets its contract: each way out is a step of the table.
 use Rattle.machine.proofs.MakingLaws.{hash-ways}
-use borrow.Author.Rules.{rules}
 use Rattle.machine.proofs.Registers.hash.Goals as goal
 
 pub returns-then-body : goal.returns-then-body

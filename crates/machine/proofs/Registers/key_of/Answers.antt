@@ -1,6 +1,5 @@
 -- `machine::Registers::key_of` meets its contract: each way out is a step of the table.
 use Rattle.machine.proofs.OpeningLaws.{key-of-ways}
-use borrow.Author.Rules.{rules}
 use Rattle.machine.proofs.Registers.key_of.Goals as goal
 
 pub returns-then-agent : goal.returns-then-agent

@@ -1,6 +1,5 @@
 -- `machine::Registers::opposite` meets its contract: each way out is a step of the table.
 use Rattle.machine.proofs.MakingLaws.{opposite-ways}
-use borrow.Author.Rules.{rules}
 use Rattle.machine.proofs.Registers.opposite.Goals as goal
 
 pub returns-then-key : goal.returns-then-key

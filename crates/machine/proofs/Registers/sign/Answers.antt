@@ -1,6 +1,5 @@
 -- `machine::Registers::sign` meets its contract: each way out is a step of the table.
 use Rattle.machine.proofs.MakingLaws.{sign-ways}
-use borrow.Author.Rules.{rules}
 use Rattle.machine.proofs.Registers.sign.Goals as goal
 
 pub returns-then-key : goal.returns-then-key

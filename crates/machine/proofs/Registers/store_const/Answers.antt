@@ -1,6 +1,5 @@
 -- `machine::Registers::store_const` meets its contract: each way out is a step of the table.
 use Rattle.machine.proofs.MakingLaws.{store-const-ways}
-use borrow.Author.Rules.{rules}
 use Rattle.machine.proofs.Registers.store_const.Goals as goal
 
 pub returns-in_default : goal.returns-in_default

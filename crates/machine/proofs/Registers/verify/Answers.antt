@@ -1,6 +1,5 @@
 -- `machine::Registers::verify` meets its contract: each way out is a step of the table.
 use Rattle.machine.proofs.OpeningLaws.{verify-ways}
-use borrow.Author.Rules.{rules}
 use Rattle.machine.proofs.Registers.verify.Goals as goal
 
 pub returns-then-key : goal.returns-then-key

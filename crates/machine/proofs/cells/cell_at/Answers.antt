@@ -1,7 +1,6 @@
 -- `machine::cells::cell_at` meets its contract: within the cells the default is not asked, and past them it is.
 use mathlib.Core.Path.{sym}
 use native.Mathlib.Omega.{arith}
-use borrow.Author.Rules.{rules}
 use lib.ListN.{get_or-eq_default}
 use Rattle.machine.proofs.StateLaws.{inside}
 use Rattle.machine.proofs.cells.cell_at.Goals as goal

@@ -1,7 +1,6 @@
 -- `machine::cells::kind_at` meets its contract: a kind fits the wider number, and past the kinds it is zero.
 use mathlib.Core.Path.{sym}
 use native.Mathlib.Omega.{arith}
-use borrow.Author.Rules.{rules}
 use lib.ListN.{get_or-eq_default}
 use Rattle.machine.proofs.cells.kind_at.Goals as goal
 

@@ -1,12 +1,9 @@
 -- `machine::tuples::spread` meets its contract: after i turns the first i parts are written.
-use Prim.Native.Nat.{◌+◌, ◌-◌, ◌≤◌}
+use Prim.Native.Nat.{◌-◌}
 use mathlib.Core.Path.{◌≡◌, refl, ◌∙◌}
 use native.Mathlib.Omega.{arith}
-use borrow.Author.Rules.{rules}
-use lib.ListN.{length, length-set}
-use Rattle.word.specs.Fields.{split, at}
-use Rattle.terms.specs.Row.{term_widths}
-use Rattle.machine.specs.Machine.{spread}
+use lib.ListN.{length-set}
+use Rattle.word.specs.Fields.{at}
 use Rattle.machine.proofs.TupleLaws.{spread_none, spread_more}
 use Rattle.machine.proofs.tuples.spread.Goals as goal
 

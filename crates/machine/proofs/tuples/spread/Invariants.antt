@@ -1,13 +1,10 @@
 -- `machine::tuples::spread` meets its contract: after i turns the first i parts are written.
 use Prim.Native.Nat.{◌+◌, ◌-◌, ◌≤◌}
-use mathlib.Core.Path.{◌≡◌, refl, ◌∙◌}
-use native.Mathlib.Omega.{arith}
-use borrow.Author.Rules.{rules}
-use lib.ListN.{length, length-set}
+use mathlib.Core.Path.{◌≡◌}
+use lib.ListN.{length}
 use Rattle.word.specs.Fields.{split, at}
 use Rattle.terms.specs.Row.{term_widths}
 use Rattle.machine.specs.Machine.{spread}
-use Rattle.machine.proofs.TupleLaws.{spread_none, spread_more}
 use Rattle.machine.proofs.tuples.spread.Given as goal
 
 abbrev pub invariant-loop-i : goal.invariant-loop-i

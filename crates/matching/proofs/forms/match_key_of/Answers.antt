@@ -1,5 +1,4 @@
 use Rattle.matching.proofs.FormLaws.{key_of_done}
-use borrow.Author.Rules.{rules}
 use Rattle.matching.proofs.forms.match_key_of.Goals as goal
 
 pub returns : goal.returns

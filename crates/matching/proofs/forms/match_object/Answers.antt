@@ -1,5 +1,4 @@
 use Rattle.matching.proofs.FormLaws.{object-ways}
-use borrow.Author.Rules.{rules}
 use Rattle.matching.proofs.forms.match_object.Goals as goal
 
 pub returns-then-object_known : goal.returns-then-object_known

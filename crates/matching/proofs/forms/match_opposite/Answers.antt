@@ -1,5 +1,4 @@
 use Rattle.matching.proofs.FormLaws.{opposite_done}
-use borrow.Author.Rules.{rules}
 use Rattle.matching.proofs.forms.match_opposite.Goals as goal
 
 pub returns : goal.returns

@@ -1,5 +1,4 @@
 use Rattle.matching.proofs.FormLaws.{raw-ways}
-use borrow.Author.Rules.{rules}
 use Rattle.matching.proofs.forms.match_raw.Goals as goal
 
 pub returns-then-raw_known : goal.returns-then-raw_known

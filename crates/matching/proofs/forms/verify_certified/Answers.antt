@@ -1,5 +1,4 @@
 use Rattle.matching.proofs.FormLaws.{verify_certified}
-use borrow.Author.Rules.{rules}
 use Rattle.matching.proofs.forms.verify_certified.Goals as goal
 
 pub returns : goal.returns

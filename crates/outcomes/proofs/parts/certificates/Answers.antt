@@ -1,4 +1,3 @@
-use borrow.Author.Rules.{rules}
 use Rattle.bundles.proofs.BundleLaws.{fields}
 use Rattle.outcomes.proofs.PartLaws.{certificates_front}
 use Rattle.outcomes.proofs.parts.certificates.Goals as goal

@@ -1,4 +1,3 @@
-use borrow.Author.Rules.{rules}
 use Rattle.outcomes.proofs.PartLaws.{whole}
 use Rattle.outcomes.proofs.parts.kinds.Goals as goal
 

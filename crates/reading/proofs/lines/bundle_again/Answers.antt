@@ -1,6 +1,5 @@
 use mathlib.Core.Path.{sym, ◌∙◌}
 use Rattle.reading.proofs.RereadingLaws.{not_opened, is_opened}
-use borrow.Author.Rules.{rules}
 use Rattle.reading.proofs.lines.bundle_again.Goals as goal
 
 pub kinds-kinds-requires : goal.kinds-kinds-requires

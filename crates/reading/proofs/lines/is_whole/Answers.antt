@@ -1,5 +1,4 @@
 use Rattle.reading.proofs.RereadingLaws.{too_short, too_long, as_told}
-use borrow.Author.Rules.{rules}
 use Rattle.reading.proofs.lines.is_whole.Goals as goal
 
 pub returns-then-input-lt8 : goal.returns-then-input-lt8

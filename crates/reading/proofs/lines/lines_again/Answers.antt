@@ -5,7 +5,6 @@ use native.Mathlib.Omega.{arith}
 use lib.Seq.{length-take-le}
 use Rattle.numbers.specs.Limits.{most_code_words}
 use Rattle.reading.proofs.AgainLaws.{place_fits, words_fit, refused_again, printed_again}
-use borrow.Author.Rules.{rules}
 use Rattle.reading.proofs.lines.lines_again.Goals as goal
 
 pub overflow_cast-place : goal.overflow_cast-place

@@ -5,7 +5,6 @@ use native.Mathlib.Omega.{arith}
 use lib.ListN.{length, drop, length-take}
 use Rattle.reading.proofs.RereadingLaws.{whole_says, not_whole, is_whole}
 use Rattle.reading.specs.Rereading.{most_input, bundle_size}
-use borrow.Author.Rules.{rules}
 use Rattle.reading.proofs.lines.reread.Goals as goal
 
 pub returns-then-not-is_whole : goal.returns-then-not-is_whole

@@ -1,8 +1,6 @@
 use mathlib.Core.Path.{sym, ◌∙◌}
 use native.Mathlib.Omega.{arith}
 use lib.ListN.{length}
-use borrow.Author.Rules.{rules}
-use borrow.Author.Tests.{not-true, not-false}
 use Rattle.role_counting.proofs.LengthLaws.{role_within}
 use Rattle.role_counting.proofs.checks.role_fits.Goals as goal
 

@@ -1,7 +1,7 @@
 -- What is summed so far and what is left give the sum.
 use Prim.Native.Nat.{◌-◌}
 use native.Mathlib.Omega.{arith}
-use Rattle.role_counting.proofs.CountLaws.{Summed, summed_none, summed_more, summed_all}
+use Rattle.role_counting.proofs.CountLaws.{summed_none, summed_more, summed_all}
 use Rattle.role_counting.proofs.checks.sum.Goals as goal
 
 pub loop-half-init : goal.loop-half-init

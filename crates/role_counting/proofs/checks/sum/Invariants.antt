@@ -1,7 +1,6 @@
 -- What is summed so far and what is left give the sum.
 use Prim.Native.Nat.{◌-◌}
-use native.Mathlib.Omega.{arith}
-use Rattle.role_counting.proofs.CountLaws.{Summed, summed_none, summed_more, summed_all}
+use Rattle.role_counting.proofs.CountLaws.{Summed}
 use Rattle.role_counting.proofs.checks.sum.Given as goal
 
 abbrev pub invariant-loop-half : goal.invariant-loop-half

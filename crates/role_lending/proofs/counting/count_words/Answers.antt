@@ -3,13 +3,10 @@ use Prim.Native.Nat.{◌+◌, ◌-◌, ◌*◌, ◌/◌, ◌≤◌}
 use mathlib.Core.Path.{◌≡◌, refl, sym, ◌∙◌}
 use native.Mathlib.Omega.{arith}
 use lib.ListN.{length, get_or}
-use borrow.Author.Rules.{rules}
 use Rattle.word.specs.Bytes.{elements}
 use Rattle.word.proofs.ByteLaws.{length_words}
-use Rattle.knowing.specs.Known.{known}
-use Rattle.compiler.specs.CompileKnown.{from_known}
 use Rattle.calls.proofs.RoleLaws.{rows_inside}
-use Rattle.role_counting.proofs.CountLaws.{Counting, counting_none, counting_small, counting_few, counting_more, counting_refused, counting_all}
+use Rattle.role_counting.proofs.CountLaws.{counting_none, counting_small, counting_few, counting_more, counting_refused, counting_all}
 use Rattle.role_lending.proofs.RowLaws.{part_rows}
 use Rattle.role_lending.proofs.counting.count_words.Goals as goal
 

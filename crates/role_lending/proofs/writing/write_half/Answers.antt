@@ -2,7 +2,6 @@
 use Prim.Native.Nat.{◌/◌, ◌≤◌}
 use mathlib.Core.Path.{refl, sym, ◌∙◌}
 use native.Mathlib.Omega.{arith}
-use borrow.Author.Rules.{rules}
 use lib.ListN.{length}
 use lib.Seq.{length-take-le}
 use Rattle.word.specs.Bytes.{elements}

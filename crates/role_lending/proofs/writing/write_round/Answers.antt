@@ -46,11 +46,11 @@ write_half-created-requires c =
     let halves : BothHalves c.args.kinds.now (elements 8 c.args.matching.now) (elements 8 c.args.creating.now)
     (from_known (known c.args.objects) (known c.args.named)) c.args.place (length c.args.code.now / 4) = both_halves _ _ _ _ _ _ c.requires in
     let matched : record {
-  end = c.write_half-matched.result.end;
-  objects = known c.write_half-matched.result.objects;
-  named = known c.write_half-matched.result.named;
-  code = c.write_half-matched.new.code;
-} ≡ bytes_left (λ words. words) (c.args.place + 1) (sets c.args.code.now (4 * c.args.place) (bytes_of 4 input_word))
+      end = c.write_half-matched.result.end;
+      objects = known c.write_half-matched.result.objects;
+      named = known c.write_half-matched.result.named;
+      code = c.write_half-matched.new.code;
+    } ≡ bytes_left (λ words. words) (c.args.place + 1) (sets c.args.code.now (4 * c.args.place) (bytes_of 4 input_word))
     (half false (elements 8 c.args.matching.now) c.args.kinds.now (from_known (known c.args.objects) (known c.args.named))) = rw c.put_quad.ensures at c.write_half-matched.ensures in
     second_packs _ _ _ _ _ c.args.code.now halves matched
 
@@ -59,11 +59,11 @@ overflow_mul-output c =
     let halves : BothHalves c.args.kinds.now (elements 8 c.args.matching.now) (elements 8 c.args.creating.now)
     (from_known (known c.args.objects) (known c.args.named)) c.args.place (length c.args.code.now / 4) = both_halves _ _ _ _ _ _ c.requires in
     let matched : record {
-  end = c.write_half-matched.result.end;
-  objects = known c.write_half-matched.result.objects;
-  named = known c.write_half-matched.result.named;
-  code = c.write_half-matched.new.code;
-} ≡ bytes_left (λ words. words) (c.args.place + 1) (sets c.args.code.now (4 * c.args.place) (bytes_of 4 input_word))
+      end = c.write_half-matched.result.end;
+      objects = known c.write_half-matched.result.objects;
+      named = known c.write_half-matched.result.named;
+      code = c.write_half-matched.new.code;
+    } ≡ bytes_left (λ words. words) (c.args.place + 1) (sets c.args.code.now (4 * c.args.place) (bytes_of 4 input_word))
     (half false (elements 8 c.args.matching.now) c.args.kinds.now (from_known (known c.args.objects) (known c.args.named))) = rw c.put_quad.ensures at c.write_half-matched.ensures in
     let inside : 4 * c.write_half-created.result.end + 4 ≤ length c.args.code.now = output_packs _ _ _ _ _ c.args.code.now halves matched c.write_half-created.ensures in
     omega (arith, inside, c.well_formed.1.1.1.1.1.1.0.1)
@@ -73,11 +73,11 @@ put_quad-requires-2 c =
     let halves : BothHalves c.args.kinds.now (elements 8 c.args.matching.now) (elements 8 c.args.creating.now)
     (from_known (known c.args.objects) (known c.args.named)) c.args.place (length c.args.code.now / 4) = both_halves _ _ _ _ _ _ c.requires in
     let matched : record {
-  end = c.write_half-matched.result.end;
-  objects = known c.write_half-matched.result.objects;
-  named = known c.write_half-matched.result.named;
-  code = c.write_half-matched.new.code;
-} ≡ bytes_left (λ words. words) (c.args.place + 1) (sets c.args.code.now (4 * c.args.place) (bytes_of 4 input_word))
+      end = c.write_half-matched.result.end;
+      objects = known c.write_half-matched.result.objects;
+      named = known c.write_half-matched.result.named;
+      code = c.write_half-matched.new.code;
+    } ≡ bytes_left (λ words. words) (c.args.place + 1) (sets c.args.code.now (4 * c.args.place) (bytes_of 4 input_word))
     (half false (elements 8 c.args.matching.now) c.args.kinds.now (from_known (known c.args.objects) (known c.args.named))) = rw c.put_quad.ensures at c.write_half-matched.ensures in
     let inside : 4 * c.write_half-created.result.end + 4 ≤ length c.args.code.now = output_packs _ _ _ _ _ c.args.code.now halves matched c.write_half-created.ensures in
     let long : length c.write_half-created.new.code ≡ length c.args.code.now = created_long _ _ _ _ _ c.args.code.now halves matched c.write_half-created.ensures in
@@ -88,11 +88,11 @@ overflow_add-result c =
     let halves : BothHalves c.args.kinds.now (elements 8 c.args.matching.now) (elements 8 c.args.creating.now)
     (from_known (known c.args.objects) (known c.args.named)) c.args.place (length c.args.code.now / 4) = both_halves _ _ _ _ _ _ c.requires in
     let matched : record {
-  end = c.write_half-matched.result.end;
-  objects = known c.write_half-matched.result.objects;
-  named = known c.write_half-matched.result.named;
-  code = c.write_half-matched.new.code;
-} ≡ bytes_left (λ words. words) (c.args.place + 1) (sets c.args.code.now (4 * c.args.place) (bytes_of 4 input_word))
+      end = c.write_half-matched.result.end;
+      objects = known c.write_half-matched.result.objects;
+      named = known c.write_half-matched.result.named;
+      code = c.write_half-matched.new.code;
+    } ≡ bytes_left (λ words. words) (c.args.place + 1) (sets c.args.code.now (4 * c.args.place) (bytes_of 4 input_word))
     (half false (elements 8 c.args.matching.now) c.args.kinds.now (from_known (known c.args.objects) (known c.args.named))) = rw c.put_quad.ensures at c.write_half-matched.ensures in
     let inside : 4 * c.write_half-created.result.end + 4 ≤ length c.args.code.now = output_packs _ _ _ _ _ c.args.code.now halves matched c.write_half-created.ensures in
     omega (arith, inside, c.well_formed.1.1.1.1.1.1.0.1)
@@ -102,11 +102,11 @@ shape_of-code c =
     let halves : BothHalves c.args.kinds.now (elements 8 c.args.matching.now) (elements 8 c.args.creating.now)
     (from_known (known c.args.objects) (known c.args.named)) c.args.place (length c.args.code.now / 4) = both_halves _ _ _ _ _ _ c.requires in
     let matched : record {
-  end = c.write_half-matched.result.end;
-  objects = known c.write_half-matched.result.objects;
-  named = known c.write_half-matched.result.named;
-  code = c.write_half-matched.new.code;
-} ≡ bytes_left (λ words. words) (c.args.place + 1) (sets c.args.code.now (4 * c.args.place) (bytes_of 4 input_word))
+      end = c.write_half-matched.result.end;
+      objects = known c.write_half-matched.result.objects;
+      named = known c.write_half-matched.result.named;
+      code = c.write_half-matched.new.code;
+    } ≡ bytes_left (λ words. words) (c.args.place + 1) (sets c.args.code.now (4 * c.args.place) (bytes_of 4 input_word))
     (half false (elements 8 c.args.matching.now) c.args.kinds.now (from_known (known c.args.objects) (known c.args.named))) = rw c.put_quad.ensures at c.write_half-matched.ensures in
     let long : length c.write_half-created.new.code ≡ length c.args.code.now = created_long _ _ _ _ _ c.args.code.now halves matched c.write_half-created.ensures in
     ap length c.put_quad-2.ensures ∙ length-sets _ (4 * c.write_half-created.result.end) (bytes_of 4 output_word) ∙ long
@@ -116,10 +116,10 @@ returns c =
     let halves : BothHalves c.args.kinds.now (elements 8 c.args.matching.now) (elements 8 c.args.creating.now)
     (from_known (known c.args.objects) (known c.args.named)) c.args.place (length c.args.code.now / 4) = both_halves _ _ _ _ _ _ c.requires in
     let matched : record {
-  end = c.write_half-matched.result.end;
-  objects = known c.write_half-matched.result.objects;
-  named = known c.write_half-matched.result.named;
-  code = c.write_half-matched.new.code;
-} ≡ bytes_left (λ words. words) (c.args.place + 1) (sets c.args.code.now (4 * c.args.place) (bytes_of 4 input_word))
+      end = c.write_half-matched.result.end;
+      objects = known c.write_half-matched.result.objects;
+      named = known c.write_half-matched.result.named;
+      code = c.write_half-matched.new.code;
+    } ≡ bytes_left (λ words. words) (c.args.place + 1) (sets c.args.code.now (4 * c.args.place) (bytes_of 4 input_word))
     (half false (elements 8 c.args.matching.now) c.args.kinds.now (from_known (known c.args.objects) (known c.args.named))) = rw c.put_quad.ensures at c.write_half-matched.ensures in
     bytes_left_lem _ _ _ _ _ c.args.code.now halves matched c.write_half-created.ensures c.put_quad-2.ensures

@@ -15,7 +15,7 @@ use Rattle.role_writing.specs.Written.{round_emitted}
 use Rattle.role_writing.proofs.WriteLaws.{AllCompiled, all_compiled, ahead}
 use Rattle.role_lending.specs.Bytes.{bytes_left}
 use Rattle.role_lending.proofs.RowLaws.{part_rows}
-use Rattle.role_lending.proofs.PackLaws.{Packing, packing_none, ends_long, code_long, packing_fits, packing_small, packing_more, packing_all}
+use Rattle.role_lending.proofs.PackLaws.{packing_none, ends_long, code_long, packing_fits, packing_small, packing_more, packing_all}
 use Rattle.role_lending.proofs.writing.write_rounds.Goals as goal
 
 -- what holds on entry, of elements
@@ -238,11 +238,11 @@ overflow_cast-words c =
     let first-inside : row + first ≤ length (elements 8 c.args.rows.now) = rows_inside _ _ _ _ c.loop-round.invariant.writing.reached (omega (arith, inside, two)) in
     let second_inside : row + first + second ≤ length (elements 8 c.args.rows.now) = omega (arith, (ahead _ _ _ _ _ _ all.all room two c.loop-round.invariant.writing inside).next.rows_left) in
     let wrote : record {
-  end = c.write_round-left.result.end;
-  objects = known c.write_round-left.result.objects;
-  named = known c.write_round-left.result.named;
-  code = c.write_round-left.new.code;
-} ≡ bytes_left framed c.loop-round.words c.loop-round.code (round_emitted c.args.kinds.now
+      end = c.write_round-left.result.end;
+      objects = known c.write_round-left.result.objects;
+      named = known c.write_round-left.result.named;
+      code = c.write_round-left.new.code;
+    } ≡ bytes_left framed c.loop-round.words c.loop-round.code (round_emitted c.args.kinds.now
     (take first (drop row (elements 8 c.args.rows.now)))
     (take second (drop (row + first) (elements 8 c.args.rows.now)))
     (from_known (known c.loop-round.set_objects) (known c.loop-round.set_named))) = let rows = c.args.rows.now in
@@ -287,11 +287,11 @@ loop-round-preserved c =
     let first-inside : row + first ≤ length (elements 8 c.args.rows.now) = rows_inside _ _ _ _ c.loop-round.invariant.writing.reached (omega (arith, inside, two)) in
     let second_inside : row + first + second ≤ length (elements 8 c.args.rows.now) = omega (arith, (ahead _ _ _ _ _ _ all.all room two c.loop-round.invariant.writing inside).next.rows_left) in
     let wrote : record {
-  end = c.write_round-left.result.end;
-  objects = known c.write_round-left.result.objects;
-  named = known c.write_round-left.result.named;
-  code = c.write_round-left.new.code;
-} ≡ bytes_left framed c.loop-round.words c.loop-round.code (round_emitted c.args.kinds.now
+      end = c.write_round-left.result.end;
+      objects = known c.write_round-left.result.objects;
+      named = known c.write_round-left.result.named;
+      code = c.write_round-left.new.code;
+    } ≡ bytes_left framed c.loop-round.words c.loop-round.code (round_emitted c.args.kinds.now
     (take first (drop row (elements 8 c.args.rows.now)))
     (take second (drop (row + first) (elements 8 c.args.rows.now)))
     (from_known (known c.loop-round.set_objects) (known c.loop-round.set_named))) = let rows = c.args.rows.now in

@@ -7,20 +7,19 @@ use Rattle.calls.specs.Round.{RoundLent}
 use Rattle.turns.proofs.WordLaws.{middle_part}
 use Rattle.turns.proofs.CheckLaws.{RoundPassed, round_passed}
 use Rattle.rounds.proofs.PlayLaws.{message_small, few_rounds, ready, place_small, round_stops, round_sent}
-use borrow.Author.Rules.{rules}
 use Rattle.rounds.proofs.steps.play.Goals as goal
 
 pub overflow_cast-start : goal.overflow_cast-start
 overflow_cast-start c =
     let x : RoundLent = record {
-  session = c.args.session;
-  rounds = c.args.rounds;
-  kinds = c.args.kinds.now;
-  objects = c.args.objects.now;
-  messages = c.args.messages.now;
-  certificates = c.args.certificates.now;
-  terms = c.args.terms.now;
-} in
+      session = c.args.session;
+      rounds = c.args.rounds;
+      kinds = c.args.kinds.now;
+      objects = c.args.objects.now;
+      messages = c.args.messages.now;
+      certificates = c.args.certificates.now;
+      terms = c.args.terms.now;
+    } in
     let words : List ℕ = c.args.code.now in
     let passes : RoundPassed x words = round_passed x words c.requires.code_value in
     omega (arith, message_small passes)
@@ -28,14 +27,14 @@ overflow_cast-start c =
 pub object_cells-new_objects-requires : goal.object_cells-new_objects-requires
 object_cells-new_objects-requires c =
     let x : RoundLent = record {
-  session = c.args.session;
-  rounds = c.args.rounds;
-  kinds = c.args.kinds.now;
-  objects = c.args.objects.now;
-  messages = c.args.messages.now;
-  certificates = c.args.certificates.now;
-  terms = c.args.terms.now;
-} in
+      session = c.args.session;
+      rounds = c.args.rounds;
+      kinds = c.args.kinds.now;
+      objects = c.args.objects.now;
+      messages = c.args.messages.now;
+      certificates = c.args.certificates.now;
+      terms = c.args.terms.now;
+    } in
     let words : List ℕ = c.args.code.now in
     let passes : RoundPassed x words = round_passed x words c.requires.code_value in
     passes.valid.within.objects
@@ -43,14 +42,14 @@ object_cells-new_objects-requires c =
 pub message_cells-new_messages-requires : goal.message_cells-new_messages-requires
 message_cells-new_messages-requires c =
     let x : RoundLent = record {
-  session = c.args.session;
-  rounds = c.args.rounds;
-  kinds = c.args.kinds.now;
-  objects = c.args.objects.now;
-  messages = c.args.messages.now;
-  certificates = c.args.certificates.now;
-  terms = c.args.terms.now;
-} in
+      session = c.args.session;
+      rounds = c.args.rounds;
+      kinds = c.args.kinds.now;
+      objects = c.args.objects.now;
+      messages = c.args.messages.now;
+      certificates = c.args.certificates.now;
+      terms = c.args.terms.now;
+    } in
     let words : List ℕ = c.args.code.now in
     let passes : RoundPassed x words = round_passed x words c.requires.code_value in
     passes.valid.within.messages
@@ -58,14 +57,14 @@ message_cells-new_messages-requires c =
 pub overflow_sub-output : goal.overflow_sub-output
 overflow_sub-output c =
     let x : RoundLent = record {
-  session = c.args.session;
-  rounds = c.args.rounds;
-  kinds = c.args.kinds.now;
-  objects = c.args.objects.now;
-  messages = c.args.messages.now;
-  certificates = c.args.certificates.now;
-  terms = c.args.terms.now;
-} in
+      session = c.args.session;
+      rounds = c.args.rounds;
+      kinds = c.args.kinds.now;
+      objects = c.args.objects.now;
+      messages = c.args.messages.now;
+      certificates = c.args.certificates.now;
+      terms = c.args.terms.now;
+    } in
     let words : List ℕ = c.args.code.now in
     let passes : RoundPassed x words = round_passed x words c.requires.code_value in
     omega (arith, passes.within.words.0)
@@ -73,14 +72,14 @@ overflow_sub-output c =
 pub slice_bounds-steps-count : goal.slice_bounds-steps-count
 slice_bounds-steps-count c =
     let x : RoundLent = record {
-  session = c.args.session;
-  rounds = c.args.rounds;
-  kinds = c.args.kinds.now;
-  objects = c.args.objects.now;
-  messages = c.args.messages.now;
-  certificates = c.args.certificates.now;
-  terms = c.args.terms.now;
-} in
+      session = c.args.session;
+      rounds = c.args.rounds;
+      kinds = c.args.kinds.now;
+      objects = c.args.objects.now;
+      messages = c.args.messages.now;
+      certificates = c.args.certificates.now;
+      terms = c.args.terms.now;
+    } in
     let words : List ℕ = c.args.code.now in
     let passes : RoundPassed x words = round_passed x words c.requires.code_value in
     omega (arith, passes.within.words.0)
@@ -88,14 +87,14 @@ slice_bounds-steps-count c =
 pub slice_bounds-steps-start : goal.slice_bounds-steps-start
 slice_bounds-steps-start c =
     let x : RoundLent = record {
-  session = c.args.session;
-  rounds = c.args.rounds;
-  kinds = c.args.kinds.now;
-  objects = c.args.objects.now;
-  messages = c.args.messages.now;
-  certificates = c.args.certificates.now;
-  terms = c.args.terms.now;
-} in
+      session = c.args.session;
+      rounds = c.args.rounds;
+      kinds = c.args.kinds.now;
+      objects = c.args.objects.now;
+      messages = c.args.messages.now;
+      certificates = c.args.certificates.now;
+      terms = c.args.terms.now;
+    } in
     let words : List ℕ = c.args.code.now in
     let passes : RoundPassed x words = round_passed x words c.requires.code_value in
     omega (arith, passes.within.words.0)
@@ -103,14 +102,14 @@ slice_bounds-steps-start c =
 pub steps-left-requires : goal.steps-left-requires
 steps-left-requires c =
     let x : RoundLent = record {
-  session = c.args.session;
-  rounds = c.args.rounds;
-  kinds = c.args.kinds.now;
-  objects = c.args.objects.now;
-  messages = c.args.messages.now;
-  certificates = c.args.certificates.now;
-  terms = c.args.terms.now;
-} in
+      session = c.args.session;
+      rounds = c.args.rounds;
+      kinds = c.args.kinds.now;
+      objects = c.args.objects.now;
+      messages = c.args.messages.now;
+      certificates = c.args.certificates.now;
+      terms = c.args.terms.now;
+    } in
     let words : List ℕ = c.args.code.now in
     let passes : RoundPassed x words = round_passed x words c.requires.code_value in
     ready passes
@@ -120,14 +119,14 @@ steps-left-requires c =
 pub in_round-requires : goal.in_round-requires
 in_round-requires c =
     let x : RoundLent = record {
-  session = c.args.session;
-  rounds = c.args.rounds;
-  kinds = c.args.kinds.now;
-  objects = c.args.objects.now;
-  messages = c.args.messages.now;
-  certificates = c.args.certificates.now;
-  terms = c.args.terms.now;
-} in
+      session = c.args.session;
+      rounds = c.args.rounds;
+      kinds = c.args.kinds.now;
+      objects = c.args.objects.now;
+      messages = c.args.messages.now;
+      certificates = c.args.certificates.now;
+      terms = c.args.terms.now;
+    } in
     let words : List ℕ = c.args.code.now in
     let passes : RoundPassed x words = round_passed x words c.requires.code_value in
     place_small x words _ _
@@ -138,14 +137,14 @@ in_round-requires c =
 pub returns-then-number-ne0 : goal.returns-then-number-ne0
 returns-then-number-ne0 c =
     let x : RoundLent = record {
-  session = c.args.session;
-  rounds = c.args.rounds;
-  kinds = c.args.kinds.now;
-  objects = c.args.objects.now;
-  messages = c.args.messages.now;
-  certificates = c.args.certificates.now;
-  terms = c.args.terms.now;
-} in
+      session = c.args.session;
+      rounds = c.args.rounds;
+      kinds = c.args.kinds.now;
+      objects = c.args.objects.now;
+      messages = c.args.messages.now;
+      certificates = c.args.certificates.now;
+      terms = c.args.terms.now;
+    } in
     let words : List ℕ = c.args.code.now in
     round_stops x words _ _
     c.object_cells-new_objects.ensures
@@ -156,50 +155,50 @@ returns-then-number-ne0 c =
 pub copy-requires : goal.copy-requires
 copy-requires c =
     let x : RoundLent = record {
-  session = c.args.session;
-  rounds = c.args.rounds;
-  kinds = c.args.kinds.now;
-  objects = c.args.objects.now;
-  messages = c.args.messages.now;
-  certificates = c.args.certificates.now;
-  terms = c.args.terms.now;
-} in
+      session = c.args.session;
+      rounds = c.args.rounds;
+      kinds = c.args.kinds.now;
+      objects = c.args.objects.now;
+      messages = c.args.messages.now;
+      certificates = c.args.certificates.now;
+      terms = c.args.terms.now;
+    } in
     let words : List ℕ = c.args.code.now in
     let passes : RoundPassed x words = round_passed x words c.requires.code_value in
     omega (
-  arith,
-  passes.valid.within.objects,
-)
+      arith,
+      passes.valid.within.objects,
+    )
 
 pub copy-requires-2 : goal.copy-requires-2
 copy-requires-2 c =
     let x : RoundLent = record {
-  session = c.args.session;
-  rounds = c.args.rounds;
-  kinds = c.args.kinds.now;
-  objects = c.args.objects.now;
-  messages = c.args.messages.now;
-  certificates = c.args.certificates.now;
-  terms = c.args.terms.now;
-} in
+      session = c.args.session;
+      rounds = c.args.rounds;
+      kinds = c.args.kinds.now;
+      objects = c.args.objects.now;
+      messages = c.args.messages.now;
+      certificates = c.args.certificates.now;
+      terms = c.args.terms.now;
+    } in
     let words : List ℕ = c.args.code.now in
     let passes : RoundPassed x words = round_passed x words c.requires.code_value in
     omega (
-  arith,
-  passes.valid.within.messages,
-)
+      arith,
+      passes.valid.within.messages,
+    )
 
 pub session_after-requires : goal.session_after-requires
 session_after-requires c =
     let x : RoundLent = record {
-  session = c.args.session;
-  rounds = c.args.rounds;
-  kinds = c.args.kinds.now;
-  objects = c.args.objects.now;
-  messages = c.args.messages.now;
-  certificates = c.args.certificates.now;
-  terms = c.args.terms.now;
-} in
+      session = c.args.session;
+      rounds = c.args.rounds;
+      kinds = c.args.kinds.now;
+      objects = c.args.objects.now;
+      messages = c.args.messages.now;
+      certificates = c.args.certificates.now;
+      terms = c.args.terms.now;
+    } in
     let words : List ℕ = c.args.code.now in
     let passes : RoundPassed x words = round_passed x words c.requires.code_value in
     few_rounds
@@ -208,14 +207,14 @@ session_after-requires c =
 pub returns : goal.returns
 returns c =
     let x : RoundLent = record {
-  session = c.args.session;
-  rounds = c.args.rounds;
-  kinds = c.args.kinds.now;
-  objects = c.args.objects.now;
-  messages = c.args.messages.now;
-  certificates = c.args.certificates.now;
-  terms = c.args.terms.now;
-} in
+      session = c.args.session;
+      rounds = c.args.rounds;
+      kinds = c.args.kinds.now;
+      objects = c.args.objects.now;
+      messages = c.args.messages.now;
+      certificates = c.args.certificates.now;
+      terms = c.args.terms.now;
+    } in
     let words : List ℕ = c.args.code.now in
     let passes : RoundPassed x words = round_passed x words c.requires.code_value in
     round_sent x words _ _

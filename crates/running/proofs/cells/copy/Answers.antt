@@ -2,8 +2,7 @@
 use Prim.Native.Nat.{◌-◌}
 use native.Mathlib.Omega.{arith}
 use borrow.Author.Rules.{scaled_Fits}
-use lib.ListN.{length}
-use Rattle.word.proofs.CopyLaws.{Copied, copied_none, copied_more, copied_whole}
+use Rattle.word.proofs.CopyLaws.{copied_none, copied_more, copied_whole}
 use Rattle.running.proofs.cells.copy.Goals as goal
 
 pub loop-cell-init : goal.loop-cell-init

@@ -1,9 +1,7 @@
 -- Up to the cell the two slices agree.
 use Prim.Native.Nat.{◌-◌}
-use native.Mathlib.Omega.{arith}
-use borrow.Author.Rules.{scaled_Fits}
 use lib.ListN.{length}
-use Rattle.word.proofs.CopyLaws.{Copied, copied_none, copied_more, copied_whole}
+use Rattle.word.proofs.CopyLaws.{Copied}
 use Rattle.running.proofs.cells.copy.Given as goal
 
 abbrev pub invariant-loop-cell : goal.invariant-loop-cell

@@ -1,10 +1,8 @@
-use Prim.Native.Nat.{◌-◌, ◌≤◌}
-use mathlib.Core.Path.{◌≡◌, refl, ◌∙◌}
-use mathlib.Core.Bool.{◌&&◌}
+use Prim.Native.Nat.{◌-◌}
+use mathlib.Core.Path.{refl, ◌∙◌}
 use native.Mathlib.Omega.{arith}
-use lib.ListN.{drop}
-use borrow.Author.Rules.{rules, scaled_Fits}
-use Rattle.stores.specs.Valid.{each_variable, undeclared_unset}
+use borrow.Author.Rules.{scaled_Fits}
+use Rattle.stores.specs.Valid.{undeclared_unset}
 use Rattle.stores.proofs.LoopLaws.{variables_gather, variables_gathered}
 use Rattle.stores.proofs.cells.all_declared.Goals as goal
 

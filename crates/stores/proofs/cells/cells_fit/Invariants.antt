@@ -1,11 +1,8 @@
 use Prim.Native.Nat.{◌-◌, ◌≤◌}
-use mathlib.Core.Path.{◌≡◌, refl, ◌∙◌}
+use mathlib.Core.Path.{◌≡◌}
 use mathlib.Core.Bool.{◌&&◌}
-use native.Mathlib.Omega.{arith}
 use lib.ListN.{length, drop}
-use borrow.Author.Rules.{rules, scaled_Fits}
 use Rattle.word.specs.Lowest.{each}
-use Rattle.word.proofs.ScanLaws.{each_gather, each_gathered}
 use Rattle.stores.specs.Valid.{cell_fits}
 use Rattle.stores.proofs.cells.cells_fit.Given as goal
 

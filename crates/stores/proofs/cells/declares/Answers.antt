@@ -1,5 +1,4 @@
 use Rattle.stores.specs.Valid.{declared}
-use borrow.Author.Rules.{rules}
 use Rattle.stores.proofs.cells.declares.Goals as goal
 
 pub returns : goal.returns

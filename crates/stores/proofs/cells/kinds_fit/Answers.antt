@@ -1,10 +1,7 @@
-use Prim.Native.Nat.{◌-◌, ◌≤◌}
-use mathlib.Core.Path.{◌≡◌, refl}
-use mathlib.Core.Bool.{◌&&◌}
+use Prim.Native.Nat.{◌-◌}
+use mathlib.Core.Path.{refl}
 use native.Mathlib.Omega.{arith}
-use lib.ListN.{length, drop}
 use lib.Dec.{leb}
-use Rattle.word.specs.Lowest.{each}
 use Rattle.word.proofs.ScanLaws.{each_gather, each_gathered}
 use Rattle.stores.specs.Valid.{kinds_fit}
 use Rattle.stores.proofs.cells.kinds_fit.Goals as goal

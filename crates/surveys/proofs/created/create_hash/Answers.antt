@@ -1,5 +1,4 @@
 use Rattle.surveys.proofs.LeafLaws.{hash_created}
-use borrow.Author.Rules.{rules}
 use Rattle.surveys.proofs.created.create_hash.Goals as goal
 
 pub returns : goal.returns

@@ -1,7 +1,6 @@
 use Rattle.calls.specs.Looks.{creating_looks}
 use Rattle.surveys.proofs.JoinLaws.{looks_write, looks_read_raw}
 use Rattle.surveys.proofs.LeafLaws.{raw_low, leaf_object, leaf_raw, leaf_constant, leaf_opposite, leaf_key_of, leaf_hash, leaf-asks}
-use borrow.Author.Rules.{rules}
 use Rattle.surveys.proofs.created.create_leaf.Goals as goal
 
 pub create_variable-requires : goal.create_variable-requires

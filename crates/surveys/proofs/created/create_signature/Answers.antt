@@ -1,7 +1,6 @@
 use mathlib.Core.Path.{◌∙◌}
 use Rattle.patterns.proofs.StandingLaws.{signature_key, variable_low}
 use Rattle.surveys.proofs.LeafLaws.{signed_created}
-use borrow.Author.Rules.{rules}
 use Rattle.surveys.proofs.created.create_signature.Goals as goal
 
 pub create_key-requires : goal.create_key-requires

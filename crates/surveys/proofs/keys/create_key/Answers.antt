@@ -1,6 +1,5 @@
 use Rattle.patterns.proofs.StandingLaws.{key_low, second_low}
 use Rattle.surveys.proofs.KeyLaws.{key_plain, key_opposite, key_certified}
-use borrow.Author.Rules.{rules}
 use Rattle.surveys.proofs.keys.create_key.Goals as goal
 
 pub create_opposite-requires : goal.create_opposite-requires

@@ -1,5 +1,4 @@
 use Rattle.surveys.proofs.KeyLaws.{opposite_created}
-use borrow.Author.Rules.{rules}
 use Rattle.surveys.proofs.keys.create_opposite.Goals as goal
 
 pub returns : goal.returns

@@ -1,5 +1,4 @@
 use Rattle.surveys.proofs.KeyLaws.{variable-ways}
-use borrow.Author.Rules.{rules}
 use Rattle.surveys.proofs.keys.create_variable.Goals as goal
 
 pub returns-then-object_known : goal.returns-then-object_known

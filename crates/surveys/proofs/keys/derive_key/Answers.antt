@@ -1,5 +1,4 @@
 use Rattle.surveys.proofs.KeyLaws.{key_derived}
-use borrow.Author.Rules.{rules}
 use Rattle.surveys.proofs.keys.derive_key.Goals as goal
 
 pub returns : goal.returns

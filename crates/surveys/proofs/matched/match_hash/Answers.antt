@@ -1,5 +1,4 @@
 use Rattle.surveys.proofs.LeafLaws.{hash_matched}
-use borrow.Author.Rules.{rules}
 use Rattle.surveys.proofs.matched.match_hash.Goals as goal
 
 pub returns : goal.returns

@@ -1,5 +1,4 @@
 use Rattle.surveys.proofs.LeafLaws.{key_of_matched}
-use borrow.Author.Rules.{rules}
 use Rattle.surveys.proofs.matched.match_key_of.Goals as goal
 
 pub returns : goal.returns

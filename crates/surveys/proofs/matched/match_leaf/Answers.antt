@@ -1,7 +1,6 @@
 use Rattle.calls.specs.Looks.{matching_looks}
 use Rattle.surveys.proofs.JoinLaws.{looks_write}
 use Rattle.surveys.proofs.LeafLaws.{leaf_object, leaf_raw, leaf_constant, leaf_opposite, leaf_key_of, leaf_hash, leaf-asks}
-use borrow.Author.Rules.{rules}
 use Rattle.surveys.proofs.matched.match_leaf.Goals as goal
 
 pub match_object-requires : goal.match_object-requires

@@ -1,5 +1,4 @@
 use Rattle.surveys.proofs.JoinLaws.{object-ways}
-use borrow.Author.Rules.{rules}
 use Rattle.surveys.proofs.matched.match_object.Goals as goal
 
 pub returns-then-object_known : goal.returns-then-object_known

@@ -1,5 +1,4 @@
 use Rattle.surveys.proofs.JoinLaws.{raw-ways}
-use borrow.Author.Rules.{rules}
 use Rattle.surveys.proofs.matched.match_raw.Goals as goal
 
 pub returns-then-raw_known : goal.returns-then-raw_known

@@ -1,7 +1,6 @@
 use mathlib.Core.Path.{◌∙◌}
 use Rattle.patterns.proofs.StandingLaws.{signature_key, variable_low, key_low}
 use Rattle.surveys.proofs.LeafLaws.{signed_plain, signed_derived}
-use borrow.Author.Rules.{rules}
 use Rattle.surveys.proofs.matched.match_signature.Goals as goal
 
 pub write_object-requires : goal.write_object-requires

@@ -1,6 +1,5 @@
 -- A part by its slot.
 use Rattle.terms.proofs.FieldLaws.{part_at}
-use borrow.Author.Rules.{rules}
 use Rattle.terms.proofs.row.part.Goals as goal
 
 pub returns : goal.returns

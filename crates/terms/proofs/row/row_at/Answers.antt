@@ -1,7 +1,6 @@
 -- Past the end a list reads as zero.
 use mathlib.Core.Path.{sym}
 use lib.ListN.{get_or-eq_default}
-use borrow.Author.Rules.{rules}
 use Rattle.terms.proofs.row.row_at.Goals as goal
 
 pub returns-else-i-rows : goal.returns-else-i-rows

@@ -1,6 +1,5 @@
 -- What stands above the other fields is below 16 by itself.
 use native.Mathlib.Omega.{arith}
-use borrow.Author.Rules.{rules}
 use Rattle.terms.specs.Row.{tag_of}
 use Rattle.terms.proofs.row.tag.Goals as goal
 

@@ -1,6 +1,5 @@
 -- The number of parts by each shape.
 use Rattle.terms.proofs.ShapeLaws.{slots-ways}
-use borrow.Author.Rules.{rules}
 use Rattle.terms.proofs.row.used_slots.Goals as goal
 
 pub returns-in-7 : goal.returns-in-7

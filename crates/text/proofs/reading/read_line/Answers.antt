@@ -1,4 +1,3 @@
-use borrow.Author.Rules.{rules}
 use Rattle.text.proofs.ReadStepLaws.{is_read, not_read, stop_first, stop_second, stop_third, stop_fourth, stop_fifth, whole_line}
 use Rattle.text.proofs.reading.read_line.Goals as goal
 

@@ -1,11 +1,9 @@
 use mathlib.Core.Bool.{not}
 use mathlib.Core.Path.{ap}
 use Prim.Native.Nat.{◌-◌}
-use mathlib.Core.Path.{◌≡◌, refl}
+use mathlib.Core.Path.{refl}
 use native.Mathlib.Omega.{arith}
-use borrow.Author.Rules.{rules}
-use lib.ListN.{length}
-use Rattle.text.proofs.ReadStepLaws.{NumberLeft, digit_low, digit_high, digit-told, digit_read, number-steps}
+use Rattle.text.proofs.ReadStepLaws.{digit_low, digit_high, digit-told, digit_read, number-steps}
 use Rattle.text.proofs.reading.read_number.Goals as goal
 
 pub returns-then-text-at : goal.returns-then-text-at

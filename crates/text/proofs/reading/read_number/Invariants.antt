@@ -1,9 +1,7 @@
 use Prim.Native.Nat.{◌-◌}
-use mathlib.Core.Path.{◌≡◌, refl}
-use native.Mathlib.Omega.{arith}
-use borrow.Author.Rules.{rules}
+use mathlib.Core.Path.{◌≡◌}
 use lib.ListN.{length}
-use Rattle.text.proofs.ReadStepLaws.{NumberLeft, digit_low, digit_high, digit-told, digit_read, number-steps}
+use Rattle.text.proofs.ReadStepLaws.{NumberLeft}
 use Rattle.text.proofs.reading.read_number.Given as goal
 
 abbrev pub invariant-loop-place : goal.invariant-loop-place

@@ -5,27 +5,25 @@ use mathlib.Core.Bool.{true}
 use mathlib.Core.Option.{none}
 use mathlib.Core.List.{List}
 use native.Mathlib.Omega.{arith}
-use borrow.Author.Tests.{not-true, not-false}
 use Rattle.word.proofs.ScanLaws.{placed_at, placed_nowhere}
 use Rattle.terms.specs.Rules.{used_rows, bad_term}
 use Rattle.terms.proofs.TableLaws.{used_rows_lem}
 use Rattle.calls.specs.Round.{RoundLent, round_lengths_fit, record_fits}
 use Rattle.looking.proofs.LookLaws.{true_holds, checked_bad, checked_used}
 use Rattle.turns.proofs.CheckLaws.{RoundWithin, round_within, lengths_same, found_limit, found_term, found_store, found_word, found_turn}
-use borrow.Author.Rules.{rules}
 use Rattle.turns.proofs.checks.look.Goals as goal
 
 pub returns-then-not-round_fits : goal.returns-then-not-round_fits
 returns-then-not-round_fits c =
     let x : RoundLent = record {
-  session = c.args.session;
-  rounds = c.args.rounds;
-  kinds = c.args.kinds.now;
-  objects = c.args.objects.now;
-  messages = c.args.messages.now;
-  certificates = c.args.certificates.now;
-  terms = c.args.terms.now;
-} in
+      session = c.args.session;
+      rounds = c.args.rounds;
+      kinds = c.args.kinds.now;
+      objects = c.args.objects.now;
+      messages = c.args.messages.now;
+      certificates = c.args.certificates.now;
+      terms = c.args.terms.now;
+    } in
     let words : List ℕ = c.args.code.now in
     let lengths : c.round_fits.result ≡ round_lengths_fit x words = lengths_same x words c.slices_fit-slices.ensures c.used_rows-counted.ensures c.round_fits.ensures in
     found_limit x words (sym lengths ∙ c.if-not-round_fits.true)
@@ -33,14 +31,14 @@ returns-then-not-round_fits c =
 pub overflow_cast-used : goal.overflow_cast-used
 overflow_cast-used c =
     let x : RoundLent = record {
-  session = c.args.session;
-  rounds = c.args.rounds;
-  kinds = c.args.kinds.now;
-  objects = c.args.objects.now;
-  messages = c.args.messages.now;
-  certificates = c.args.certificates.now;
-  terms = c.args.terms.now;
-} in
+      session = c.args.session;
+      rounds = c.args.rounds;
+      kinds = c.args.kinds.now;
+      objects = c.args.objects.now;
+      messages = c.args.messages.now;
+      certificates = c.args.certificates.now;
+      terms = c.args.terms.now;
+    } in
     let words : List ℕ = c.args.code.now in
     let counted : c.used_rows-counted.result ≡ used_rows x.terms = c.used_rows-counted.ensures in
     let lengths : c.round_fits.result ≡ round_lengths_fit x words = lengths_same x words c.slices_fit-slices.ensures c.used_rows-counted.ensures c.round_fits.ensures in
@@ -51,14 +49,14 @@ overflow_cast-used c =
 pub first_bad_row-checked-requires : goal.first_bad_row-checked-requires
 first_bad_row-checked-requires c =
     let x : RoundLent = record {
-  session = c.args.session;
-  rounds = c.args.rounds;
-  kinds = c.args.kinds.now;
-  objects = c.args.objects.now;
-  messages = c.args.messages.now;
-  certificates = c.args.certificates.now;
-  terms = c.args.terms.now;
-} in
+      session = c.args.session;
+      rounds = c.args.rounds;
+      kinds = c.args.kinds.now;
+      objects = c.args.objects.now;
+      messages = c.args.messages.now;
+      certificates = c.args.certificates.now;
+      terms = c.args.terms.now;
+    } in
     let words : List ℕ = c.args.code.now in
     let lengths : c.round_fits.result ≡ round_lengths_fit x words = lengths_same x words c.slices_fit-slices.ensures c.used_rows-counted.ensures c.round_fits.ensures in
     let fits : round_lengths_fit x words ≡ true = sym lengths ∙ c.if-not-round_fits.false in
@@ -68,14 +66,14 @@ first_bad_row-checked-requires c =
 pub returns-then-not-record_fits : goal.returns-then-not-record_fits
 returns-then-not-record_fits c =
     let x : RoundLent = record {
-  session = c.args.session;
-  rounds = c.args.rounds;
-  kinds = c.args.kinds.now;
-  objects = c.args.objects.now;
-  messages = c.args.messages.now;
-  certificates = c.args.certificates.now;
-  terms = c.args.terms.now;
-} in
+      session = c.args.session;
+      rounds = c.args.rounds;
+      kinds = c.args.kinds.now;
+      objects = c.args.objects.now;
+      messages = c.args.messages.now;
+      certificates = c.args.certificates.now;
+      terms = c.args.terms.now;
+    } in
     let words : List ℕ = c.args.code.now in
     let counted : c.used_rows-counted.result ≡ used_rows x.terms = c.used_rows-counted.ensures in
     let lengths : c.round_fits.result ≡ round_lengths_fit x words = lengths_same x words c.slices_fit-slices.ensures c.used_rows-counted.ensures c.round_fits.ensures in
@@ -88,14 +86,14 @@ returns-then-not-record_fits c =
 pub first_bad_round_word-place-requires : goal.first_bad_round_word-place-requires
 first_bad_round_word-place-requires c =
     let x : RoundLent = record {
-  session = c.args.session;
-  rounds = c.args.rounds;
-  kinds = c.args.kinds.now;
-  objects = c.args.objects.now;
-  messages = c.args.messages.now;
-  certificates = c.args.certificates.now;
-  terms = c.args.terms.now;
-} in
+      session = c.args.session;
+      rounds = c.args.rounds;
+      kinds = c.args.kinds.now;
+      objects = c.args.objects.now;
+      messages = c.args.messages.now;
+      certificates = c.args.certificates.now;
+      terms = c.args.terms.now;
+    } in
     let words : List ℕ = c.args.code.now in
     let lengths : c.round_fits.result ≡ round_lengths_fit x words = lengths_same x words c.slices_fit-slices.ensures c.used_rows-counted.ensures c.round_fits.ensures in
     let fits : round_lengths_fit x words ≡ true = sym lengths ∙ c.if-not-round_fits.false in
@@ -105,14 +103,14 @@ first_bad_round_word-place-requires c =
 pub returns-in-Bad : goal.returns-in-Bad
 returns-in-Bad c =
     let x : RoundLent = record {
-  session = c.args.session;
-  rounds = c.args.rounds;
-  kinds = c.args.kinds.now;
-  objects = c.args.objects.now;
-  messages = c.args.messages.now;
-  certificates = c.args.certificates.now;
-  terms = c.args.terms.now;
-} in
+      session = c.args.session;
+      rounds = c.args.rounds;
+      kinds = c.args.kinds.now;
+      objects = c.args.objects.now;
+      messages = c.args.messages.now;
+      certificates = c.args.certificates.now;
+      terms = c.args.terms.now;
+    } in
     let words : List ℕ = c.args.code.now in
     let lengths : c.round_fits.result ≡ round_lengths_fit x words = lengths_same x words c.slices_fit-slices.ensures c.used_rows-counted.ensures c.round_fits.ensures in
     let fits : round_lengths_fit x words ≡ true = sym lengths ∙ c.if-not-round_fits.false in
@@ -122,14 +120,14 @@ returns-in-Bad c =
 pub returns-in-At : goal.returns-in-At
 returns-in-At c =
     let x : RoundLent = record {
-  session = c.args.session;
-  rounds = c.args.rounds;
-  kinds = c.args.kinds.now;
-  objects = c.args.objects.now;
-  messages = c.args.messages.now;
-  certificates = c.args.certificates.now;
-  terms = c.args.terms.now;
-} in
+      session = c.args.session;
+      rounds = c.args.rounds;
+      kinds = c.args.kinds.now;
+      objects = c.args.objects.now;
+      messages = c.args.messages.now;
+      certificates = c.args.certificates.now;
+      terms = c.args.terms.now;
+    } in
     let words : List ℕ = c.args.code.now in
     let counted : c.used_rows-counted.result ≡ used_rows x.terms = c.used_rows-counted.ensures in
     let lengths : c.round_fits.result ≡ round_lengths_fit x words = lengths_same x words c.slices_fit-slices.ensures c.used_rows-counted.ensures c.round_fits.ensures in
@@ -143,14 +141,14 @@ returns-in-At c =
 pub returns-in-Nowhere : goal.returns-in-Nowhere
 returns-in-Nowhere c =
     let x : RoundLent = record {
-  session = c.args.session;
-  rounds = c.args.rounds;
-  kinds = c.args.kinds.now;
-  objects = c.args.objects.now;
-  messages = c.args.messages.now;
-  certificates = c.args.certificates.now;
-  terms = c.args.terms.now;
-} in
+      session = c.args.session;
+      rounds = c.args.rounds;
+      kinds = c.args.kinds.now;
+      objects = c.args.objects.now;
+      messages = c.args.messages.now;
+      certificates = c.args.certificates.now;
+      terms = c.args.terms.now;
+    } in
     let words : List ℕ = c.args.code.now in
     let counted : c.used_rows-counted.result ≡ used_rows x.terms = c.used_rows-counted.ensures in
     let lengths : c.round_fits.result ≡ round_lengths_fit x words = lengths_same x words c.slices_fit-slices.ensures c.used_rows-counted.ensures c.round_fits.ensures in

@@ -1,4 +1,3 @@
-use borrow.Author.Rules.{rules}
 use Rattle.turns.proofs.checks.record_fits.Goals as goal
 
 pub returns : goal.returns

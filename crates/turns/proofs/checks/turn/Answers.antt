@@ -1,6 +1,5 @@
 -- Each way out is the first of the three that holds.
 use Rattle.turns.proofs.CheckLaws.{turn-ways}
-use borrow.Author.Rules.{rules}
 use Rattle.turns.proofs.checks.turn.Goals as goal
 
 pub returns-then-rounds-session : goal.returns-then-rounds-session

@@ -1,6 +1,5 @@
 use native.Mathlib.Omega.{arith}
 use Rattle.turns.proofs.AnswerLaws.{done_counted, stuck_counted, room_counted}
-use borrow.Author.Rules.{rules}
 use Rattle.turns.proofs.record.in_round.Goals as goal
 
 pub overflow_add-result : goal.overflow_add-result

@@ -1,7 +1,5 @@
 use Prim.Native.Nat.{◌-◌}
-use borrow.Author.Rules.{rules}
-use lib.ListN.{get_or}
-use Rattle.turns.proofs.WordLaws.{GoodBefore, checking}
+use Rattle.turns.proofs.WordLaws.{checking}
 use Rattle.turns.proofs.words.first_bad_round_word.Goals as goal
 
 pub loop-place-init : goal.loop-place-init

@@ -1,7 +1,6 @@
 use Prim.Native.Nat.{◌-◌}
-use borrow.Author.Rules.{rules}
 use lib.ListN.{get_or}
-use Rattle.turns.proofs.WordLaws.{GoodBefore, checking}
+use Rattle.turns.proofs.WordLaws.{GoodBefore}
 use Rattle.turns.proofs.words.first_bad_round_word.Given as goal
 
 abbrev pub invariant-loop-place : goal.invariant-loop-place

@@ -1,7 +1,6 @@
 use mathlib.Core.Path.{◌∙◌}
 use Rattle.numbers.specs.Kinds.{kind_in}
 use Rattle.turns.proofs.WordLaws.{good_first, good_last, good_between}
-use borrow.Author.Rules.{rules}
 use Rattle.turns.proofs.words.good_round_word.Goals as goal
 
 pub returns-then-place-eq0 : goal.returns-then-place-eq0

@@ -2,7 +2,6 @@
 use Rattle.walk_values.proofs.KeyLaws.{key_plain, key_opposite, key_certified}
 use Rattle.patterns.proofs.StandingLaws.{key_low, second_low}
 use native.Mathlib.Omega.{arith}
-use borrow.Author.Rules.{rules}
 use Rattle.walk_values.proofs.keys.create_key.Goals as goal
 
 pub create_opposite-requires : goal.create_opposite-requires

@@ -1,6 +1,5 @@
 -- `walk_values::keys::create_name` meets its contract, a way out at a time.
 use Rattle.walk_values.proofs.KeyLaws.{name-ways}
-use borrow.Author.Rules.{rules}
 use Rattle.walk_values.proofs.keys.create_name.Goals as goal
 
 pub returns-in_default : goal.returns-in_default

@@ -1,6 +1,5 @@
 -- `walk_values::keys::create_opposite` meets its contract, a way out at a time.
 use Rattle.walk_values.proofs.KeyLaws.{opposite_asks, opposite_made, opposite-ways}
-use borrow.Author.Rules.{rules}
 use Rattle.walk_values.proofs.keys.create_opposite.Goals as goal
 
 pub opposite_key-requires : goal.opposite_key-requires

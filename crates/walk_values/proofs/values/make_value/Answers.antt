@@ -1,6 +1,5 @@
 -- `walk_values::values::make_value` meets its contract, a way out at a time.
 use Rattle.walk_values.proofs.ValueLaws.{make-value-ways}
-use borrow.Author.Rules.{rules}
 use Rattle.walk_values.proofs.values.make_value.Goals as goal
 
 pub returns-then-known : goal.returns-then-known

@@ -1,6 +1,5 @@
 -- `walks::keys::certified_key` meets its contract, a way out at a time.
 use Rattle.walks.proofs.KeyLaws.{within_met, certified-ways}
-use borrow.Author.Rules.{rules}
 use Rattle.walks.proofs.keys.certified_key.Goals as goal
 
 pub returns-then-whose : goal.returns-then-whose

@@ -1,6 +1,5 @@
 -- `walks::keys::opposite_key` meets its contract, a way out at a time.
 use Rattle.walks.proofs.KeyLaws.{opposite-ways}
-use borrow.Author.Rules.{rules}
 use Rattle.walks.proofs.keys.opposite_key.Goals as goal
 
 pub returns-then-known : goal.returns-then-known

@@ -1,6 +1,5 @@
 -- `walks::making::decode` meets its contract, a way out at a time.
 use Rattle.walks.proofs.MakingLaws.{decode-ways}
-use borrow.Author.Rules.{rules}
 use Rattle.walks.proofs.making.decode.Goals as goal
 
 pub returns-then-known : goal.returns-then-known

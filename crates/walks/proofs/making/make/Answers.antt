@@ -1,6 +1,5 @@
 -- `walks::making::make` meets its contract, a way out at a time.
 use Rattle.walks.proofs.MakingLaws.{make-ways}
-use borrow.Author.Rules.{rules}
 use Rattle.walks.proofs.making.make.Goals as goal
 
 pub returns-in_default : goal.returns-in_default

@@ -1,6 +1,5 @@
 -- `world::keys::goes_with` meets its contract: each way out is a step of the table.
 use Rattle.world.proofs.KeyLaws.{goes-ways}
-use borrow.Author.Rules.{rules}
 use Rattle.world.proofs.keys.goes_with.Goals as goal
 
 pub returns-then-tag-eq-PUBLIC_KEY : goal.returns-then-tag-eq-PUBLIC_KEY

@@ -1,5 +1,4 @@
 -- `world::making::create` meets its contract: each way out is an answer of the world of rows.
-use borrow.Author.Rules.{rules}
 use Rattle.world.proofs.MakingLaws.{create-ways}
 use Rattle.world.proofs.making.create.Goals as goal
 

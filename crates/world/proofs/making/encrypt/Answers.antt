@@ -1,5 +1,4 @@
 -- `world::making::encrypt` meets its contract: each way out is an answer of the world of rows.
-use borrow.Author.Rules.{rules}
 use Rattle.world.proofs.MakingLaws.{making-ways}
 use Rattle.world.proofs.making.encrypt.Goals as goal
 

@@ -1,5 +1,4 @@
 -- `world::making::opposite` meets its contract: each way out is an answer of the world of rows.
-use borrow.Author.Rules.{rules}
 use Rattle.world.proofs.MakingLaws.{opposite-ways}
 use Rattle.world.proofs.making.opposite.Goals as goal
 

@@ -1,5 +1,4 @@
 -- `world::opening::decrypt` meets its contract: each way out is an answer of the world of rows.
-use borrow.Author.Rules.{rules}
 use Rattle.world.proofs.OpeningLaws.{decrypt-ways}
 use Rattle.world.proofs.opening.decrypt.Goals as goal
 

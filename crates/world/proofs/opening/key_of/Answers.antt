@@ -1,5 +1,4 @@
 -- `world::opening::key_of` meets its contract: each way out is an answer of the world of rows.
-use borrow.Author.Rules.{rules}
 use Rattle.world.proofs.OpeningLaws.{key-of-ways}
 use Rattle.world.proofs.opening.key_of.Goals as goal
 

@@ -1,5 +1,4 @@
 -- `world::opening::parts` meets its contract: each way out is an answer of the world of rows.
-use borrow.Author.Rules.{rules}
 use Rattle.world.proofs.OpeningLaws.{parts_taken, parts-ways}
 use Rattle.world.proofs.opening.parts.Goals as goal
 

@@ -1,5 +1,4 @@
 -- `world::testing::is_kind` meets its contract: each way out is an answer of the world of rows.
-use borrow.Author.Rules.{rules}
 use Rattle.world.proofs.TestingLaws.{kind-ways}
 use Rattle.world.proofs.testing.is_kind.Goals as goal
 

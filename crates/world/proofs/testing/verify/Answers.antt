@@ -1,5 +1,4 @@
 -- `world::testing::verify` meets its contract: each way out is an answer of the world of rows.
-use borrow.Author.Rules.{rules}
 use Rattle.world.proofs.TestingLaws.{verify-ways}
 use Rattle.world.proofs.testing.verify.Goals as goal
 
