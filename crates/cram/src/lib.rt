@@ -9,7 +9,7 @@ use lending::{CompileAnswer, RunAnswer, arrays, compiles, runs};
 use numbers::limits::MOST_CODE_WORDS;
 
 pub mod reading;
-pub mod roles;
+pub mod role_entry;
 mod round_tables;
 pub mod session;
 mod tables;

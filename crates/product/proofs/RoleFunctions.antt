@@ -6,7 +6,7 @@ use Rattle.rounds.proofs.round_of.Met as RoundOf
 use Rattle.rounds.proofs.round.Met as Round
 use Rattle.rounds.proofs.take_of.Met as TakeOf
 use Rattle.rounds.proofs.take.Met as Take
-use Rattle.cram.proofs.roles.cram_compile_role.Met as CramRole
+use Rattle.cram.proofs.role_entry.cram_compile_role.Met as CramRole
 use Rattle.cram.proofs.session.cram_round.Met as CramRound
 use Rattle.cram.proofs.session.cram_take.Met as CramTake
 use Rattle.product.specs.RoleFunctions.{RoleSays, RoleOnce, RoleFunctions}

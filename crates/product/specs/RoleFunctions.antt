@@ -29,9 +29,9 @@ use Rattle.rounds.proofs.take_of.Statement as TakeOfStatement
 use Rattle.rounds.proofs.take_of.Reads as TakeOfReads
 use Rattle.rounds.specs.contracts.take as Take
 use Rattle.rounds.proofs.take.Statement as TakeStatement
-use Rattle.cram.specs.contracts.roles.cram_compile_role as CramRole
-use Rattle.cram.proofs.roles.cram_compile_role.Statement as CramRoleStatement
-use Rattle.cram.proofs.roles.cram_compile_role.Reads as CramRoleReads
+use Rattle.cram.specs.contracts.role_entry.cram_compile_role as CramRole
+use Rattle.cram.proofs.role_entry.cram_compile_role.Statement as CramRoleStatement
+use Rattle.cram.proofs.role_entry.cram_compile_role.Reads as CramRoleReads
 use Rattle.cram.specs.contracts.session.cram_round as CramRound
 use Rattle.cram.proofs.session.cram_round.Statement as CramRoundStatement
 use Rattle.cram.proofs.session.cram_round.Reads as CramRoundReads
