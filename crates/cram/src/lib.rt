@@ -11,8 +11,8 @@ use numbers::limits::MOST_CODE_WORDS;
 pub mod reading;
 pub mod role_entry;
 mod round_tables;
+mod run_tables;
 pub mod session;
-mod tables;
 
 // The code of a pattern; create is 0 for matching, 1 for creating.
 pub fn cram_compile(
@@ -94,7 +94,7 @@ pub fn cram_run(
     let words = arrays::code_words(code);
     let object_cells = arrays::cells(objects);
     let message_cells = arrays::message_cells(messages);
-    let left = tables::over_table(
+    let left = run_tables::over_table(
         kinds,
         object_cells,
         message_cells,

@@ -7,7 +7,7 @@ ghost use Rattle.lending.specs.RoundEntry.{round_entry, take_entry};
 ghost use Rattle.role_lending.specs.RoleEntry.{role_entry};
 ghost use Rattle.read_lending.specs.ReadEntry.{read_entry};
 
-use cram::{reading, roles, session as sessions};
+use cram::{reading, role_entry, session as sessions};
 use lending::{CompileAnswer, RoundAnswer, RunAnswer, TakeAnswer};
 use read_lending::ReadAnswer;
 use role_lending::RoleAnswer;
@@ -83,7 +83,7 @@ pub extern "C" fn cram_compile_role(
           named = named.now;
         }) }
 {
-    roles::cram_compile_role(rows, counts, kinds, objects, named, ends, code)
+    role_entry::cram_compile_role(rows, counts, kinds, objects, named, ends, code)
 }
 
 // A round's code over a session record, stores and a table of terms.

@@ -4,7 +4,7 @@ use lib.ListN.{length}
 use lib.Seq.{length-take-le}
 use borrow.Author.Rules.{rules}
 use Rattle.lending.proofs.TableLaws.{zero_part}
-use Rattle.cram.proofs.tables.over_table.Goals as goal
+use Rattle.cram.proofs.run_tables.over_table.Goals as goal
 
 pub slice_bounds-over_rows-end : goal.slice_bounds-over_rows-end
 slice_bounds-over_rows-end c = sym (length-take-le _ _ (search rules))

@@ -10,7 +10,7 @@ use Rattle.looking.specs.Front.{SameBut}
 use Rattle.looking.proofs.NewRowLaws.{run_new_rows}
 use Rattle.lending.proofs.RunLaws.{with_rows, rows_packed}
 use Rattle.lending.proofs.TableLaws.{used_few, new_rows}
-use Rattle.cram.proofs.tables.over_rows.Goals as goal
+use Rattle.cram.proofs.run_tables.over_rows.Goals as goal
 
 -- the rows that a run writes
 new : (x : Lent) (words : List ℕ) {ran : RunOutcome} {rows : List ℕ} {from to : ℕ} → rows ≡ elements 8 x.terms → ran ≡ run (with_rows x rows) words
