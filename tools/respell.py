@@ -14,14 +14,14 @@ import subprocess
 import sys
 
 TOKEN = re.compile(r"[^\s(){}\[\];,.:«»\"]+")
-CAMEL = re.compile(r"^[a-z][a-z0-9'₀-₉]*[A-Z]")
+CAMEL = re.compile(r"^[a-z][a-z0-9'₀-₉]*[A-Z]|^[a-z][a-z0-9_]*[a-z0-9][A-Z][a-z]")
 DECLARED = re.compile(r"^\s*(?:abbrev |unfoldable |mutual )?(?:pub )?(?:abbrev |unfoldable )?([^\s(){}=:]+(?: [^\s(){}=:]+)*) :(?: |$)")
 IMPORT = re.compile(r"\buse ([^\s;{]+)(?:\{([^}]*)\})?")
 
 # Fields of different records.
 FIELDS = {"term_rows"}
 # A library's lemma `take_all` stands beside it.
-BY_HAND = {"takeAll": "take_every"}
+BY_HAND = {"takeAll": "take_every", "getD-cells": "get_or_cells", "getD-shows": "get_or_shows"}
 
 
 def files(*suffixes):
@@ -44,7 +44,7 @@ def is_ours(path, own):
 
 
 def is_generated(path):
-    return re.search(r"\.(Statement|Tie|Goals|Given|Code|contracts|declared|Symbol|Met)\b", path)
+    return re.search(r"\.(Statement|Tie|Goals|Code|contracts|declared|Symbol|Met)\b|\.proofs\..*\.Given\b", path)
 
 
 def spelled(name):

@@ -13,8 +13,8 @@ pub data Given : Type 0 where
   ran : List ℕ → RunOutcome → Given
 
 -- the bundle's rows, then zero rows; scratch starts unset
-abbrev pub lentTo : Bundle → Lent
-lentTo b = record {
+abbrev pub lent_to : Bundle → Lent
+lent_to b = record {
   kinds = b.kinds;
   objects = b.objects;
   messages = b.named ++ replicate scratch_cells unset;
@@ -25,23 +25,23 @@ lentTo b = record {
 }
 
 -- what compile answers for a bundle, into any slice and into 768 words
-abbrev pub compileOf : Bundle → List ℕ → CompileOutcome
-compileOf b code = compile b.create b.pattern b.kinds b.objects b.named code
+abbrev pub compile_of : Bundle → List ℕ → CompileOutcome
+compile_of b code = compile b.create b.pattern b.kinds b.objects b.named code
 
-abbrev pub compiledFrom : Bundle → CompileOutcome
-compiledFrom b = compileOf b (replicate most_code_words 0)
+abbrev pub compiled_from : Bundle → CompileOutcome
+compiled_from b = compile_of b (replicate most_code_words 0)
 
-abbrev pub givenCompiled : Bundle → CompileOutcome → Given
-givenCompiled b c =
+abbrev pub given_compiled : Bundle → CompileOutcome → Given
+given_compiled b c =
     elim (eqb (compiled_number c.answer) 0) [
-      | true ↦ ran (compiled_code c) (run (lentTo b) (compiled_code c))
+      | true ↦ ran (compiled_code c) (run (lent_to b) (compiled_code c))
       | false ↦ refused (compiled_number c.answer) (compiled_place c.answer)
     ]
 
 -- 1, then a spare certificate bit, then compile into 768 words, then run
-abbrev pub givenRead : Option Bundle → Given
-givenRead none = refused 1 0
-givenRead (some b) = elim (certificates_clear b) [ true ↦ givenCompiled b (compiledFrom b) | false ↦ refused 3 0 ]
+abbrev pub given_read : Option Bundle → Given
+given_read none = refused 1 0
+given_read (some b) = elim (certificates_clear b) [ true ↦ given_compiled b (compiled_from b) | false ↦ refused 3 0 ]
 
-unfoldable pub givenBy : List ℕ → Given
-givenBy bytes = givenRead (read_bundle bytes)
+unfoldable pub given_by : List ℕ → Given
+given_by bytes = given_read (read_bundle bytes)

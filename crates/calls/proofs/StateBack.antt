@@ -25,7 +25,7 @@ use Rattle.numbers.specs.Kinds.{kind_in}
 use Rattle.calls.specs.Run.{Lent, lent_after, lines_of, state_over, state_of, left_by}
 use Rattle.calls.proofs.RunLaws.{steps_of, Passed, passed_valid}
 use Rattle.calls.proofs.ValidLent.{tagged}
-use Rattle.calls.proofs.ValidAgain.{length_cells, get_d_cells, held_back}
+use Rattle.calls.proofs.ValidAgain.{length_cells, get_or_cells, held_back}
 use Rattle.calls.proofs.FinishLaws.{good_lines, state_valid}
 
 none_held : held unset ≡ none
@@ -43,7 +43,7 @@ module _ (P : ℕ → Type 0) (small : (row : ℕ) → P row → row < unset) (c
   store_back i = go (dec_lt i count)
     where
       go : Dec (i < count) → held (get_or (cells_from 0 count store) i unset) ≡ store i
-      go (yes inside) = rw (get_d_cells 0 count store i inside, zero-add) (held_back P small (store i) (fits i))
+      go (yes inside) = rw (get_or_cells 0 count store i inside, zero-add) (held_back P small (store i) (fits i))
       go (no outside) =
           let over : count ≤ i = omega arith in
           past_cells (cells_from 0 count store) i (omega (arith, length_cells 0 count store)) ∙ sym (past i over)

@@ -31,11 +31,11 @@ unfolding cells_from
 length_cells n zero store = refl
 length_cells n (suc count) store = ap suc (length_cells (suc n) count store)
 
-pub get_d_cells : (n count : ℕ) (store : ℕ → Option ℕ) (i : ℕ) → i < count → get_or (cells_from n count store) i unset ≡ cell_of (store (n + i))
+pub get_or_cells : (n count : ℕ) (store : ℕ → Option ℕ) (i : ℕ) → i < count → get_or (cells_from n count store) i unset ≡ cell_of (store (n + i))
 unfolding cells_from
-get_d_cells n zero store i h = absurd (omega arith)
-get_d_cells n (suc count) store zero h = rw (add-zero n)
-get_d_cells n (suc count) store (suc i) h = get_d_cells (suc n) count store i (omega arith) ∙ rw (add-suc n i, suc-add n i)
+get_or_cells n zero store i h = absurd (omega arith)
+get_or_cells n (suc count) store zero h = rw (add-zero n)
+get_or_cells n (suc count) store (suc i) h = get_or_cells (suc n) count store i (omega arith) ∙ rw (add-suc n i, suc-add n i)
 
 -- what a cell holds is what was put there, if it is a row below 65,535
 pub held_back : (P : ℕ → Type 0) → ((row : ℕ) → P row → row < unset) → (cell : Option ℕ) → Held P cell → held (cell_of cell) ≡ cell
@@ -77,7 +77,7 @@ module _ (x : Lent) (a : Valid x) (t : State row_world) (v : ValidState (kind_in
       × HoldsKind rows used (kind_in x.kinds o) (get_or (cells_from 0 variables t.stores.σ) o unset)
   objects_fit o k h =
       let inside : o < variables = omega (arith, length_cells 0 variables t.stores.σ) in
-      rw (get_d_cells 0 variables t.stores.σ o inside, zero-add o)
+      rw (get_or_cells 0 variables t.stores.σ o inside, zero-add o)
       ((object_held rows used (kind_in x.kinds o) (cell_of (t.stores.σ o)) (tagged v.table.table)).1
       (held_cell (λ row. (row < used) × (tag_of (get_or rows row 0) ≡ kind_in x.kinds o)) (λ row p. omega (arith, p.0, few)) (t.stores.σ o)
       (tags (kind_in x.kinds o) (t.stores.σ o) (v.objects o))))

@@ -43,7 +43,7 @@ pub record Orders : Type 0 where
   pub constant_matched : refused false (constant 1 1 5) (1 ∷ []) [] ≡ some (WrittenWhileSet 1)
   -- k : op(K): 7K 6k; created (CREATE K) 6k
   pub op_matched : (refused false (opposite 1 4 5) (4 ∷ []) [] ≡ some (ReadWhileUnset 1)) × (refused true (opposite 1 4 5) (4 ∷ []) [] ≡ some (WrittenWhileSet 1))
-  -- k : key_of(a): 6k 7a; created 7a 6k
+  -- k : keyOf(a): 6k 7a; created 7a 6k
   pub key_of_both : (refused false (key_of 1 4 3) (4 ∷ []) [] ≡ some (WrittenWhileSet 1)) × (refused true (key_of 1 4 3) (4 ∷ []) [] ≡ some (ReadWhileUnset 1))
   -- E(x, p): 6e 7x <1>; created 7x <1> 6e
   pub encryption_matched : (refused false (encryption 1 7 (plain_key 5) bad) (7 ∷ 11 ∷ []) [] ≡ some (WrittenWhileSet 1))
@@ -52,14 +52,14 @@ pub record Orders : Type 0 where
       × (refused true (encryption 1 7 (plain_key 4) bad) (4 ∷ 7 ∷ 11 ∷ []) [] ≡ some (WrittenWhileSet 0))
   -- E(k : op(K), p), created: (CREATE K) 6k <1> 6e
   pub encryption_op : refused true (encryption 1 7 (op_key 4 5) bad) (4 ∷ 11 ∷ []) [] ≡ some (WrittenWhileSet 1)
-  -- E(k : key_of(a), p), created: 7a 6k <1> 6e
-  pub encryption_keyOf : refused true (encryption 1 7 (certified_key 4 3) bad) (4 ∷ 11 ∷ []) [] ≡ some (ReadWhileUnset 1)
+  -- E(k : keyOf(a), p), created: 7a 6k <1> 6e
+  pub encryption_key_of : refused true (encryption 1 7 (certified_key 4 3) bad) (4 ∷ 11 ∷ []) [] ≡ some (ReadWhileUnset 1)
   -- S(x, r): 6s 7x 7r; created (CREATE x) 7r 6s
   pub signature_both : (refused false (signature 1 8 (plain_key 4) 0) (8 ∷ []) [] ≡ some (WrittenWhileSet 1)) × (refused true (signature 1 8 (plain_key 5) 0) (8 ∷ []) [] ≡ some (ReadWhileUnset 1))
   -- S(k : op(K), r): 6s 7K 6k 7r
   pub signature_op : (refused false (signature 1 8 (op_key 4 5) 0) (4 ∷ []) [] ≡ some (ReadWhileUnset 1)) × (refused false (signature 1 8 (op_key 4 5) 0) (4 ∷ 5 ∷ []) [] ≡ some (WrittenWhileSet 1))
-  -- S(k : key_of(a), r): 6s 7a 6k 7r
-  pub signature_keyOf : (refused false (signature 1 8 (certified_key 4 3) 0) (4 ∷ []) [] ≡ some (ReadWhileUnset 1))
+  -- S(k : keyOf(a), r): 6s 7a 6k 7r
+  pub signature_key_of : (refused false (signature 1 8 (certified_key 4 3) 0) (4 ∷ []) [] ≡ some (ReadWhileUnset 1))
       × (refused false (signature 1 8 (certified_key 4 3) 0) (3 ∷ 4 ∷ []) [] ≡ some (WrittenWhileSet 1))
   -- H(r): 6h 7r; created 7r 6h
   pub hash_both : (refused false (hash 1 9 0) (9 ∷ []) [] ≡ some (WrittenWhileSet 1)) × (refused true (hash 1 9 0) (9 ∷ []) [] ≡ some (ReadWhileUnset 1))

@@ -142,7 +142,7 @@ module _ (x : Lent) (code : List ℕ) {g : Registers} {objects messages rows : L
             rest = rw (add-one i) (rw goes at now);
           }
 
-      -- a step that does not go on leftWith the rows, so that what was appended can be cleared
+      -- a step that does not go on left_with the rows, so that what was appended can be cleared
       module _ (same : slices objects' messages' rows' x.certificates ≡ slices objects messages rows x.certificates) where
         spans : (used ≤ g.used) × (g.used ≤ length rows')
         spans =

@@ -187,7 +187,7 @@ module _ (w : Walk) (kind : ℕ → ℕ) (rows objects : List ℕ) (row v : ℕ)
   pub decoded_low : {i : ℕ} → i < length objects → i < length objects'
   decoded_low l = omega (arith, (comes_kept (decoded (slices [] [] [] []))).lengths.objects_length, l)
 
-  -- k : key_of(a)
+  -- k : keyOf(a)
   pub key_of_same : (agent : Object) (certificates : List ℕ) {found answer : Walked}
       → GoesOnBy message_and_stores (λ m. asked row (λ n. n.σ agent.0) (λ a. World.key_of a) m.1) came
       (λ x. with_certificates (with_objects x objects') certificates) found (λ x. with_certificates (with_objects x objects') certificates)

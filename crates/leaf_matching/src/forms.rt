@@ -120,7 +120,7 @@ pub fn match_opposite(
     same_as(kept, row, message)
 }
 
-// k : key_of(a)
+// k : keyOf(a)
 pub fn match_key_of(
     kinds: &[u8],
     certificates: &[u64],

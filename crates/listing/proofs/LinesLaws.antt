@@ -6,7 +6,7 @@ use native.Mathlib.Omega.{arith}
 use lib.ListN.{length, take, drop, length-append}
 use lib.Seq.{take_at}
 use Rattle.text.specs.Written.{Wrote}
-use Rattle.bundles.specs.Given.{Given, refused, ran, givenBy}
+use Rattle.bundles.specs.Given.{Given, refused, ran, given_by}
 use Rattle.printing.specs.Listing.{refused_line, code_lines, end_numbers, set_lines, given_lines, listing}
 use Rattle.running.specs.declared.Ended.{Ended}
 use Rattle.outcomes.specs.declared.Gave.{Gave}
@@ -41,20 +41,20 @@ held_room (refused number place) code objects messages rows = tt
 held_room (ran words o) code objects messages rows = omega (arith, length-append words (drop (length words) code))
 
 module _ (bytes : List ℕ) (before-code before-objects before-messages before-rows : List ℕ) {gave : Gave} {code objects messages rows : List ℕ}
-    (is : record { gave = gave; code = code; objects = objects; messages = messages; rows = rows } ≡ held_by (givenBy bytes) before-code before-objects before-messages before-rows) where
+    (is : record { gave = gave; code = code; objects = objects; messages = messages; rows = rows } ≡ held_by (given_by bytes) before-code before-objects before-messages before-rows) where
   pub words_fit : {words : ℕ} {ended : Ended} → gave ≡ Ran words ended → words ≤ length code
   words_fit told =
       subst (λ g. Room (record { gave = g; code = code; objects = objects; messages = messages; rows = rows })) told
-      (subst Room (sym is) (held_room (givenBy bytes) before-code before-objects before-messages before-rows))
+      (subst Room (sym is) (held_room (given_by bytes) before-code before-objects before-messages before-rows))
 
   module _ {before after : List ℕ} {next : ℕ} where
     listed : (g : Gave) → gave ≡ g → Wrote (held_lines (record { gave = g; code = code; objects = objects; messages = messages; rows = rows })) before 0 after next
         → Wrote (listing bytes) before 0 after next
     unfolding listing
     listed g told wrote =
-        let lines : held_lines (record { gave = g; code = code; objects = objects; messages = messages; rows = rows }) ≡ given_lines (givenBy bytes) =
+        let lines : held_lines (record { gave = g; code = code; objects = objects; messages = messages; rows = rows }) ≡ given_lines (given_by bytes) =
         ap (λ (x : Gave). held_lines (record { gave = x; code = code; objects = objects; messages = messages; rows = rows })) (sym told)
-        ∙ ap held_lines is ∙ held_lines_lem (givenBy bytes) before-code before-objects before-messages before-rows in
+        ∙ ap held_lines is ∙ held_lines_lem (given_by bytes) before-code before-objects before-messages before-rows in
         subst (λ l. Wrote l before 0 after next) lines wrote
 
     pub refused_listed : {number place : ℕ} → gave ≡ Refused number place → Wrote (refused_line number place) before 0 after next → Wrote (listing bytes) before 0 after next

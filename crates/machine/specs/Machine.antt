@@ -51,7 +51,7 @@ using_rows g used = record { place = g.place; accumulator = g.accumulator; used 
 abbrev pub naming : Registers → ℕ → ℕ → Registers
 naming g used counter = record { place = g.place; accumulator = g.accumulator; used = used; counter = counter }
 
--- n rows written to the cells from b on, one after another as in `setMessages`
+-- n rows written to the cells from b on, one after another as in `set_messages`
 unfoldable pub spread : List ℕ → ℕ → ℕ → (ℕ → ℕ) → List ℕ
 spread cells b zero row = cells
 spread cells b (suc n) row = set (spread cells b n row) (b + n) (row n)

@@ -69,7 +69,7 @@ pub fn match_opposite(
     instructions::compare(code, emission, row, s);
 }
 
-// k : key_of(a)
+// k : keyOf(a)
 pub fn match_key_of(code: &mut Code, emission: &mut Emission, row: u8, key: Object, agent: Object)
     requires key_lt_variables { key.0 < variables }
     requires room_for { RoomFor 7 1 emission.old }
@@ -114,7 +114,7 @@ pub fn verify_opposite(
     instructions::verify(code, emission, row, public, r);
 }
 
-// What k : key_of(a) verifies.
+// What k : keyOf(a) verifies.
 pub fn verify_certified(
     code: &mut Code,
     emission: &mut Emission,

@@ -21,7 +21,7 @@ use Rattle.bundles.specs.declared.Opened.TheVariants.{Refused, Is}
 use Rattle.bundles.proofs.OpeningLaws.{opened_is}
 use Rattle.bundles.proofs.BundleLaws.{lengths}
 use Rattle.bundles.specs.Bundle.{Bundle, read_bundle, clear_of}
-use Rattle.bundles.specs.Given.{Given, ran, lentTo, compileOf, compiledFrom, givenCompiled, givenRead, givenBy}
+use Rattle.bundles.specs.Given.{Given, ran, lent_to, compile_of, compiled_from, given_compiled, given_read, given_by}
 use Rattle.theory.specs.Emission.{Emitted, ok, refuse}
 use Rattle.calls.specs.Compile.{CompileOutcome, code_words, used_part, leaves, finished, refusals, emitted, compile_by, compile}
 use Rattle.calls.specs.Run.{RunOutcome, run}
@@ -73,9 +73,9 @@ ended_is {ended} is counted =
 
 -- compile refuses, or its words run
 module _ (b : Bundle) {room code : List ℕ} {answer : Compiled} {number place : ℕ} (zeros : room ≡ replicate most_code_words 0)
-    (is : record { answer = answer; code = code } ≡ compileOf b room) (number_is : number ≡ compiled_number answer)
+    (is : record { answer = answer; code = code } ≡ compile_of b room) (number_is : number ≡ compiled_number answer)
     (place_is : place ≡ compiled_place answer) (objects messages rows : List ℕ) where
-  compiled : record { answer = answer; code = code } ≡ compiledFrom b
+  compiled : record { answer = answer; code = code } ≡ compiled_from b
   compiled = rw zeros at is
 
   left : Leaves room (record { answer = answer; code = code })
@@ -83,22 +83,22 @@ module _ (b : Bundle) {room code : List ℕ} {answer : Compiled} {number place :
 
   pub compile_refuses : (number ≡ 0 → ⊥)
       → record { gave = Gave.Refused number place; code = code; objects = objects; messages = messages; rows = rows }
-      ≡ held_by (givenCompiled b (compiledFrom b)) room objects messages rows
+      ≡ held_by (given_compiled b (compiled_from b)) room objects messages rows
   compile_refuses other =
       let n : compiled_number answer ≡ 0 → ⊥ = λ e. other (number_is ∙ e) in
       let all : ◌≡◌ {A = Held} (record { gave = Gave.Refused number place; code = code; objects = objects; messages = messages; rows = rows })
-      (held_by (givenCompiled b (record { answer = answer; code = code })) room objects messages rows) =
-      rw (ne_eqb (compiled_number answer) 0 n, givenCompiled, held_by, number_is, place_is, left.refuses n) in
-      all ∙ ap (λ c. held_by (givenCompiled b c) room objects messages rows) compiled
+      (held_by (given_compiled b (record { answer = answer; code = code })) room objects messages rows) =
+      rw (ne_eqb (compiled_number answer) 0 n, given_compiled, held_by, number_is, place_is, left.refuses n) in
+      all ∙ ap (λ c. held_by (given_compiled b c) room objects messages rows) compiled
 
   pub compile_runs : {ended : Ended} {after-objects after-messages after-rows : List ℕ} → number ≡ 0 → place ≤ length code
       → record { answer = ended.answer; objects = after-objects; messages = after-messages; accumulator = ended.accumulator; terms = after-rows; counter = ended.counter }
-      ≡ run (lentTo b) (take place code)
+      ≡ run (lent_to b) (take place code)
       → ended.used ≡ used_rows after-rows
       → record { gave = Gave.Ran place ended; code = code; objects = after-objects; messages = after-messages; rows = after-rows }
-      ≡ held_by (givenCompiled b (compiledFrom b)) room objects messages rows
+      ≡ held_by (given_compiled b (compiled_from b)) room objects messages rows
   compile_runs {ended} {after-objects} {after-messages} {after-rows} done fits ends counted =
-      let o = run (lentTo b) (take place code) in
+      let o = run (lent_to b) (take place code) in
       let whole : code ≡ take place code ++ drop place room =
       sym (take-append-drop place code) ∙ ap (λ rest. take place code ++ rest) (rw (← place_is) at left.past) in
       let words : place ≡ length (take place code) = sym (length-take-le place code fits) in
@@ -119,35 +119,35 @@ module _ (b : Bundle) {room code : List ℕ} {answer : Compiled} {number place :
         rows = (ends i).terms;
       } in
       let words_are : used_part (compiled_place answer) code ≡ take place code = ap (λ n. used_part n code) (sym place_is) ∙ part_fits place code fits in
-      let given_is : ◌≡◌ {A = Given} (givenCompiled b (record { answer = answer; code = code })) (ran (take place code) o) =
-      rw (eq-eqb (compiled_number answer) 0 (sym number_is ∙ done), givenCompiled) (ap (λ w. ran w (run (lentTo b) w)) words_are) in
-      all ∙ ap (λ g. held_by g room objects messages rows) (sym given_is) ∙ ap (λ c. held_by (givenCompiled b c) room objects messages rows) compiled
+      let given_is : ◌≡◌ {A = Given} (given_compiled b (record { answer = answer; code = code })) (ran (take place code) o) =
+      rw (eq-eqb (compiled_number answer) 0 (sym number_is ∙ done), given_compiled) (ap (λ w. ran w (run (lent_to b) w)) words_are) in
+      all ∙ ap (λ g. held_by g room objects messages rows) (sym given_is) ∙ ap (λ c. held_by (given_compiled b c) room objects messages rows) compiled
 
 -- a spare certificate bit is set, or none is
 module _ (bytes : List ℕ) {certificates : List ℕ} {clear : Bool} (are : certificates ≡ (bundle_in bytes).certificates) (is : clear ≡ clear_of certificates) where
   pub spare_set : (code objects messages rows : List ℕ) → not clear ≡ true
       → record { gave = Gave.Refused 3 0; code = code; objects = objects; messages = messages; rows = rows }
-      ≡ held_by (givenRead (some (bundle_in bytes))) code objects messages rows
+      ≡ held_by (given_read (some (bundle_in bytes))) code objects messages rows
   spare_set code objects messages rows bad =
       let set : clear_of (bundle_in bytes).certificates ≡ false = ap clear_of (sym are) ∙ sym is ∙ not-true clear bad in
-      rw (set, givenRead)
+      rw (set, given_read)
 
   pub spare_clear : {held : Held} (code objects messages rows : List ℕ) → not clear ≡ false
-      → held ≡ held_by (givenCompiled (bundle_in bytes) (compiledFrom (bundle_in bytes))) code objects messages rows
-      → held ≡ held_by (givenRead (some (bundle_in bytes))) code objects messages rows
+      → held ≡ held_by (given_compiled (bundle_in bytes) (compiled_from (bundle_in bytes))) code objects messages rows
+      → held ≡ held_by (given_read (some (bundle_in bytes))) code objects messages rows
   spare_clear code objects messages rows fine gives =
       let none : clear_of (bundle_in bytes).certificates ≡ true = ap clear_of (sym are) ∙ sym is ∙ not-false clear fine in
-      rw (none, givenRead) gives
+      rw (none, given_read) gives
 
 -- no bundle, or what one gives
 pub not_opened : (bytes code objects messages rows : List ℕ) → opened bytes ≡ Refused
-    → record { gave = Gave.Refused 1 0; code = code; objects = objects; messages = messages; rows = rows } ≡ held_by (givenBy bytes) code objects messages rows
-unfolding givenBy
+    → record { gave = Gave.Refused 1 0; code = code; objects = objects; messages = messages; rows = rows } ≡ held_by (given_by bytes) code objects messages rows
+unfolding given_by
 not_opened bytes code objects messages rows refuses = rw (refused_none bytes refuses)
 
 pub is_opened : (bytes : List ℕ) (header : Header) {held : Held} (code objects messages rows : List ℕ) → opened bytes ≡ Is header
-    → held ≡ held_by (givenRead (some (bundle_in bytes))) code objects messages rows → held ≡ held_by (givenBy bytes) code objects messages rows
-unfolding givenBy
+    → held ≡ held_by (given_read (some (bundle_in bytes))) code objects messages rows → held ≡ held_by (given_by bytes) code objects messages rows
+unfolding given_by
 is_opened bytes header code objects messages rows opens gives = rw (opened_is bytes header opens).bundle gives
 
 pub long_room : {room : List ℕ} → room ≡ replicate most_code_words 0 → length room ≡ most_code_words
@@ -159,11 +159,11 @@ module _ (bytes : List ℕ) (header : Header) (opens : opened bytes ≡ Is heade
   b = bundle_in bytes
 
   pub few_words : (code : List ℕ) {answer : Compiled} {after : List ℕ} {number place : ℕ}
-      → record { answer = answer; code = after } ≡ compileOf b code → number ≡ compiled_number answer
+      → record { answer = answer; code = after } ≡ compile_of b code → number ≡ compiled_number answer
       → place ≡ compiled_place answer → number ≡ 0 → place ≤ 767
   few_words code {answer} is number_is place_is done = rw place_is (go answer (sym (ap (λ o. o.answer) is)) (sym number_is ∙ done))
     where
-      go : (answer : Compiled) → (compileOf b code).answer ≡ answer → compiled_number answer ≡ 0 → compiled_place answer ≤ 767
+      go : (answer : Compiled) → (compile_of b code).answer ≡ answer → compiled_number answer ≡ 0 → compiled_place answer ≤ 767
       go (Done words) e d =
           let w = compile_writes b.create b.pattern b.kinds b.objects b.named (lengths bytes header opens).kinds code words e in
           omega (arith, w.compiles.counts, w.limits.words)

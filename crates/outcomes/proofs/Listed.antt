@@ -32,7 +32,7 @@ use Rattle.answers.specs.First.{first}
 use Rattle.numbers.specs.Kinds.{kind_in}
 use Rattle.calls.specs.Run.{Lent, state_of, lines_of, left_by, ended, refusals, run_by, run}
 use Rattle.numbers.specs.Limits.{most_code_words}
-use Rattle.bundles.specs.Given.{Given, refused, ran, lentTo, compiledFrom, givenCompiled, givenRead, givenBy}
+use Rattle.bundles.specs.Given.{Given, refused, ran, lent_to, compiled_from, given_compiled, given_read, given_by}
 use Rattle.printing.specs.Listing.{refused_word, refused_line, given_lines, listing}
 use Rattle.calls.proofs.CompileLaws.{part_length}
 use Rattle.calls.proofs.ValidAgain.{length_cells}
@@ -55,7 +55,7 @@ pub refused_short : (number place : ℕ) → length (refused_line number place) 
 refused_short number place = omega (arith, word_line_most refused_word (number ∷ place ∷ []))
 
 compiled_short : (bytes : List ℕ) (header : Header) → opened bytes ≡ Is header → (c : CompileOutcome)
-    → (compiled_number c.answer ≡ 0 → compiled_place c.answer ≤ 767) → length (given_lines (givenCompiled (bundle_in bytes) c)) ≤ 65536
+    → (compiled_number c.answer ≡ 0 → compiled_place c.answer ≤ 767) → length (given_lines (given_compiled (bundle_in bytes) c)) ≤ 65536
 compiled_short bytes header opens c few = go (eqb (compiled_number c.answer) 0) (eqb-true (compiled_number c.answer) 0)
   where
     words : List ℕ
@@ -65,19 +65,19 @@ compiled_short bytes header opens c few = go (eqb (compiled_number c.answer) 0) 
     b = bundle_in bytes
 
     go : (done : Bool) → (done ≡ true → compiled_number c.answer ≡ 0)
-        → length (given_lines (elim done as (λ _. Given) [ true ↦ ran words (run (lentTo b) words) | false ↦ refused (compiled_number c.answer) (compiled_place c.answer) ])) ≤ 65536
+        → length (given_lines (elim done as (λ _. Given) [ true ↦ ran words (run (lent_to b) words) | false ↦ refused (compiled_number c.answer) (compiled_place c.answer) ])) ≤ 65536
     go true is =
-        let long = run_objects (lentTo b) words (lengths bytes header opens).objects in
+        let long = run_objects (lent_to b) words (lengths bytes header opens).objects in
         let fits = few (is refl) in
-        omega (arith, ran_length words (run (lentTo b) words) (omega (arith, part_length (compiled_place c.answer) c.code)) (omega arith))
+        omega (arith, ran_length words (run (lent_to b) words) (omega (arith, part_length (compiled_place c.answer) c.code)) (omega arith))
     go false is = refused_short _ _
 
 -- every listing fits 65,536 bytes
 pub listing_short : (bytes : List ℕ) → length (listing bytes) ≤ 65536
-unfolding listing givenBy
+unfolding listing given_by
 listing_short bytes = by (opened bytes) refl
   where
-    by : (o : Opened) → opened bytes ≡ o → length (given_lines (givenRead (read_bundle bytes))) ≤ 65536
+    by : (o : Opened) → opened bytes ≡ o → length (given_lines (given_read (read_bundle bytes))) ≤ 65536
     by Refused e = rw (refused_none bytes e) (refused_short 1 0)
     by (Is header) e = rw (opened_is bytes header e).bundle (go (certificates_clear b))
       where
@@ -85,9 +85,9 @@ listing_short bytes = by (opened bytes) refl
         b = bundle_in bytes
 
         compiled : CompileOutcome
-        compiled = compiledFrom b
+        compiled = compiled_from b
 
-        go : (clear : Bool) → length (given_lines (elim clear as (λ _. Given) [ true ↦ givenCompiled b compiled | false ↦ refused 3 0 ])) ≤ 65536
+        go : (clear : Bool) → length (given_lines (elim clear as (λ _. Given) [ true ↦ given_compiled b compiled | false ↦ refused 3 0 ])) ≤ 65536
         go true = compiled_short bytes header e compiled (few_words bytes header e (replicate most_code_words 0) refl refl refl)
         go false = refused_short 3 0
 
@@ -104,7 +104,7 @@ module _ (bytes : List ℕ) {before after : List ℕ} {next : ℕ} (wrote : Wrot
 
 -- no bundle is longer than 34,088 bytes
 long_refused : (bytes : List ℕ) → 34088 < length bytes → listing bytes ≡ refused_line 1 0
-unfolding listing givenBy
+unfolding listing given_by
 long_refused bytes long = rw (refused_none bytes (sym (refuses bytes λ w. omega (arith, w.size, w.header))))
 
 -- input beyond the buffer changes nothing

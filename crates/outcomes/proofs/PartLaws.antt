@@ -19,7 +19,7 @@ use Rattle.numbers.specs.Limits.{variables, message_cells, scratch_cells, most_c
 use Rattle.looking.specs.Found.{used_with}
 use Rattle.running.proofs.EndLaws.{used_counted}
 use Rattle.bundles.proofs.OpeningLaws.{opened_is}
-use Rattle.bundles.specs.Given.{lentTo, compileOf}
+use Rattle.bundles.specs.Given.{lent_to, compile_of}
 
 -- a part that fills its array
 pub whole : {array part : List ℕ} → array ≡ part ++ [] → array ≡ part
@@ -35,35 +35,35 @@ module _ (bytes : List ℕ) {header : Header} (opens : opened bytes ≡ Is heade
 
   -- zero rows after the bundle's
   pub terms_lent : (room : List ℕ) {rows : List ℕ} → length room ≡ most_term_rows → rows ≡ (bundle_in bytes).terms ++ replicate (length room - header.term_rows) 0
-      → rows ≡ (lentTo (bundle_in bytes)).terms
+      → rows ≡ (lent_to (bundle_in bytes)).terms
   terms_lent room long is = rw ((lengths bytes header opens).terms, ← long) is
 
   -- cells fill their slice, and scratch starts unset
-  pub objects_lent : (room : List ℕ) {cells : List ℕ} → length room ≡ variables → cells ≡ (bundle_in bytes).objects ++ drop 64 room → cells ≡ (lentTo (bundle_in bytes)).objects
+  pub objects_lent : (room : List ℕ) {cells : List ℕ} → length room ≡ variables → cells ≡ (bundle_in bytes).objects ++ drop 64 room → cells ≡ (lent_to (bundle_in bytes)).objects
   objects_lent room long is = whole (is ∙ ap (λ rest. (bundle_in bytes).objects ++ rest) (drop_of_length-le room {i = 64} (omega (arith, long))))
 
   pub messages_lent : (room : List ℕ) {cells : List ℕ} → length room ≡ message_cells → cells ≡ (bundle_in bytes).named ++ replicate (length room - 64) unset
-      → cells ≡ (lentTo (bundle_in bytes)).messages
+      → cells ≡ (lent_to (bundle_in bytes)).messages
   messages_lent room long is = rw long at is
 
-  pub named_front : {cells : List ℕ} → cells ≡ (lentTo (bundle_in bytes)).messages → take 64 cells ≡ (bundle_in bytes).named
+  pub named_front : {cells : List ℕ} → cells ≡ (lent_to (bundle_in bytes)).messages → take 64 cells ≡ (bundle_in bytes).named
   named_front is = rw is (take_at (bundle_in bytes).named (replicate 192 unset) 64 (lengths bytes header opens).named)
 
   -- what compile is given is what the bundle holds
   pub compile_given : (code : List ℕ) {pattern kinds objects messages : List ℕ} {outcome : CompileOutcome} → pattern ≡ (bundle_in bytes).pattern
-      → kinds ≡ (lentTo (bundle_in bytes)).kinds → objects ≡ (lentTo (bundle_in bytes)).objects → messages ≡ (lentTo (bundle_in bytes)).messages
+      → kinds ≡ (lent_to (bundle_in bytes)).kinds → objects ≡ (lent_to (bundle_in bytes)).objects → messages ≡ (lent_to (bundle_in bytes)).messages
       → outcome ≡ compile header.create pattern kinds objects (take 64 messages) code
-      → outcome ≡ compileOf (bundle_in bytes) code
+      → outcome ≡ compile_of (bundle_in bytes) code
   compile_given code pattern-is kinds-are objects-are messages-are compiles =
       compiles ∙ rw (pattern-is, kinds-are, objects-are, named_front messages-are, ← (fields bytes header opens).create)
 
   -- what run is lent is what the bundle holds
-  pub run_lent : (code : List ℕ) {kinds objects messages certificates terms : List ℕ} {outcome : RunOutcome} → kinds ≡ (lentTo (bundle_in bytes)).kinds
-      → objects ≡ (lentTo (bundle_in bytes)).objects → messages ≡ (lentTo (bundle_in bytes)).messages → certificates ≡ (bundle_in bytes).certificates
-      → terms ≡ (lentTo (bundle_in bytes)).terms
+  pub run_lent : (code : List ℕ) {kinds objects messages certificates terms : List ℕ} {outcome : RunOutcome} → kinds ≡ (lent_to (bundle_in bytes)).kinds
+      → objects ≡ (lent_to (bundle_in bytes)).objects → messages ≡ (lent_to (bundle_in bytes)).messages → certificates ≡ (bundle_in bytes).certificates
+      → terms ≡ (lent_to (bundle_in bytes)).terms
       → outcome
       ≡ run (record { kinds = kinds; objects = objects; messages = messages; certificates = certificates; accumulator = header.accumulator; terms = terms; counter = header.counter }) code
-      → outcome ≡ run (lentTo (bundle_in bytes)) code
+      → outcome ≡ run (lent_to (bundle_in bytes)) code
   run_lent code kinds-are objects-are messages-are certificates-are terms-are ran =
       let f = fields bytes header opens in
       ran ∙ rw (kinds-are, objects-are, messages-are, certificates-are, terms-are, ← f.accumulator, ← f.counter)
@@ -71,7 +71,7 @@ module _ (bytes : List ℕ) {header : Header} (opens : opened bytes ≡ Is heade
 -- what is lent to a bundle's run is within the limits, so that its used rows come back
 module _ (bytes : List ℕ) {header : Header} (opens : opened bytes ≡ Is header) (code : List ℕ) (few : length code ≤ most_code_words) where
   abbrev x : Lent
-  x = lentTo (bundle_in bytes)
+  x = lent_to (bundle_in bytes)
 
   within : LentWithin x
   within =

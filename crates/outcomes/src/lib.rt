@@ -7,7 +7,7 @@ ghost use Rattle.terms.specs.Rules.{used_rows};
 ghost use Rattle.numbers.specs.Limits.{variables, message_cells, most_code_words, most_term_rows};
 ghost use Rattle.calls.specs.Run.{run};
 ghost use Rattle.bundles.specs.Opening.{bundle_in, opened};
-ghost use Rattle.bundles.specs.Given.{lentTo, compileOf, givenRead, givenBy};
+ghost use Rattle.bundles.specs.Given.{lent_to, compile_of, given_read, given_by};
 ghost use Rattle.outcomes.specs.Held.{held_by};
 
 use answers::Compiled;
@@ -26,7 +26,7 @@ pub enum Gave {
 // Compiles the bundle's pattern.
 fn compiled(bytes: &[u8], header: Header, code: &mut [u32]) -> Compiled
     requires { opened bytes.now ≡ Opened.Is header }
-    ensures { record { answer = result; code = code.new } ≡ compileOf (bundle_in bytes.now) code.old }
+    ensures { record { answer = result; code = code.new } ≡ compile_of (bundle_in bytes.now) code.old }
 {
     let pattern = parts::pattern(bytes, header);
     let count = header.pattern_rows as usize;
@@ -55,7 +55,7 @@ fn ran(
     requires { (opened bytes.now ≡ Opened.Is header) × (length code.now ≤ most_code_words) × (length objects.old ≡ variables) ×
         (length messages.old ≡ message_cells) × (length rows.old ≡ most_term_rows) }
     ensures { (record { answer = result.answer; objects = objects.new; messages = messages.new; accumulator = result.accumulator; terms = rows.new; counter = result.counter }
-        ≡ run (lentTo (bundle_in bytes.now)) code.now)
+        ≡ run (lent_to (bundle_in bytes.now)) code.now)
         × (result.used ≡ used_rows rows.new) }
 {
     let kinds = parts::kinds(bytes, header);
@@ -88,7 +88,7 @@ fn given_by_bundle(
     requires { (opened bytes.now ≡ Opened.Is header) × (code.old ≡ replicate most_code_words 0) × (length objects.old ≡ variables) ×
         (length messages.old ≡ message_cells) × (length rows.old ≡ most_term_rows) }
     ensures { record { gave = result; code = code.new; objects = objects.new; messages = messages.new; rows = rows.new }
-        ≡ held_by (givenRead (some (bundle_in bytes.now))) code.old objects.old messages.old rows.old }
+        ≡ held_by (given_read (some (bundle_in bytes.now))) code.old objects.old messages.old rows.old }
 {
     let pairs = parts::certificates(bytes, header);
     let count = header.certificates as usize;
@@ -116,7 +116,7 @@ pub fn given(
 ) -> Gave
     requires { (code.old ≡ replicate most_code_words 0) × (length objects.old ≡ variables) × (length messages.old ≡ message_cells) × (length rows.old ≡ most_term_rows) }
     ensures { record { gave = result; code = code.new; objects = objects.new; messages = messages.new; rows = rows.new }
-        ≡ held_by (givenBy bytes.now) code.old objects.old messages.old rows.old }
+        ≡ held_by (given_by bytes.now) code.old objects.old messages.old rows.old }
 {
     let opened = bundles::open(bytes);
     match opened {

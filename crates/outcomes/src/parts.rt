@@ -1,7 +1,7 @@
 // The parts of a bundle that opened, each in an array of its own.
 ghost use Rattle.std.specs.Prelude.{◌≡◌, take};
 ghost use Rattle.bundles.specs.Opening.{bundle_in, opened};
-ghost use Rattle.bundles.specs.Given.{lentTo};
+ghost use Rattle.bundles.specs.Given.{lent_to};
 
 use bundles::{Header, Opened};
 
@@ -16,7 +16,7 @@ pub fn pattern(bytes: &[u8], header: Header) -> [u64; 96]
 
 pub fn kinds(bytes: &[u8], header: Header) -> [u8; 64]
     requires { opened bytes.now ≡ Opened.Is header }
-    ensures { result ≡ (lentTo (bundle_in bytes.now)).kinds }
+    ensures { result ≡ (lent_to (bundle_in bytes.now)).kinds }
 {
     let mut kinds = [0u8; 64];
     bundles::kinds(bytes, header, &mut kinds);
@@ -25,7 +25,7 @@ pub fn kinds(bytes: &[u8], header: Header) -> [u8; 64]
 
 pub fn objects(bytes: &[u8], header: Header) -> [u16; 64]
     requires { opened bytes.now ≡ Opened.Is header }
-    ensures { result ≡ (lentTo (bundle_in bytes.now)).objects }
+    ensures { result ≡ (lent_to (bundle_in bytes.now)).objects }
 {
     let mut cells = [0u16; 64];
     bundles::object_cells(bytes, header, &mut cells);
@@ -35,7 +35,7 @@ pub fn objects(bytes: &[u8], header: Header) -> [u16; 64]
 // The named cells, then scratch, which starts unset.
 pub fn messages(bytes: &[u8], header: Header) -> [u16; 256]
     requires { opened bytes.now ≡ Opened.Is header }
-    ensures { result ≡ (lentTo (bundle_in bytes.now)).messages }
+    ensures { result ≡ (lent_to (bundle_in bytes.now)).messages }
 {
     let mut cells = [0u16; 256];
     bundles::message_cells(bytes, header, &mut cells);

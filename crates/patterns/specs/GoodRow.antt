@@ -9,7 +9,7 @@ use Rattle.patterns.specs.Row.{PatternFields, pattern_fields, children, children
 abbrev pub Zero : List ℕ → Type 0
 Zero fields = All (λ field. field ≡ 0) fields
 
--- F=0 variable X; F=1 X : op(Y); F=2 X : key_of(Y); F=3 is bad. X above 63 is bad in a key
+-- F=0 variable X; F=1 X : op(Y); F=2 X : keyOf(Y); F=3 is bad. X above 63 is bad in a key
 pub record GoodKey (row : PatternFields) : Type 0 where
   pub form : row.f ≤ certified_form
   pub variable : row.x ≤ 63

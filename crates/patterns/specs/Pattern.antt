@@ -2,7 +2,7 @@
 use Rattle.std.specs.Prelude.{ℕ, zero, suc, ◌+◌, ◌<◌, ◌≤◌}
 use Rattle.numbers.specs.Limits.{most_parts}
 
--- the key of E and S: a variable, k : op(K) or k : key_of(a)
+-- the key of E and S: a variable, k : op(K) or k : keyOf(a)
 pub data Key : Type 0 where
   plain_key : ℕ → Key
   op_key : ℕ → ℕ → Key
@@ -18,7 +18,7 @@ mutual
     constant : ℕ → ℕ → ℕ → Pattern
     -- k : op(K)
     opposite : ℕ → ℕ → ℕ → Pattern
-    -- k : key_of(a)
+    -- k : keyOf(a)
     key_of : ℕ → ℕ → ℕ → Pattern
     -- e : E(key, p)
     encryption : ℕ → ℕ → Key → Pattern → Pattern

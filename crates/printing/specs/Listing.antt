@@ -9,7 +9,7 @@ use Rattle.terms.specs.Rules.{used_rows}
 use Rattle.stores.specs.Cells.{is_set}
 use Rattle.numbers.specs.Limits.{named_cells}
 use Rattle.calls.specs.Run.{RunOutcome}
-use Rattle.bundles.specs.Given.{Given, refused, ran, givenBy}
+use Rattle.bundles.specs.Given.{Given, refused, ran, given_by}
 
 -- the words that lines begin with, in ASCII
 abbrev pub refused_word : List ℕ
@@ -64,4 +64,4 @@ given_lines (refused number place) = refused_line number place
 given_lines (ran code r) = ran_lines code r
 
 unfoldable pub listing : List ℕ → List ℕ
-listing bytes = given_lines (givenBy bytes)
+listing bytes = given_lines (given_by bytes)

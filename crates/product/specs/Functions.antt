@@ -33,8 +33,8 @@ module _ (κs : Lfts 5) (lent : ArgsD Compile.signature κs) where
   abbrev pub compiled_to : ResD Compile.signature κs → AtExit Compile.ended κs → CompileOutcome
   compiled_to answer left = record { answer = answer; code = left.1.1.1.1.1.0.now }
 
-  abbrev pub compileOf : CompileOutcome
-  compileOf = compile lent.0 lent.1.0.now lent.1.1.0.now lent.1.1.1.0.now lent.1.1.1.1.0.now lent.1.1.1.1.1.0.now
+  abbrev pub compile_of : CompileOutcome
+  compile_of = compile lent.0 lent.1.0.now lent.1.1.0.now lent.1.1.1.0.now lent.1.1.1.1.0.now lent.1.1.1.1.1.0.now
 
 -- used(code, n)
 module _ (κs : Lfts 1) (lent : ArgsD Used.signature κs) where
@@ -92,7 +92,7 @@ module _ (κs : Lfts 6) (lent : ArgsD CramRun.signature κs) where
 -- what a contract says of an outcome is an equation with the definition's
 pub record Says : Type 0 where
   pub compiles : (κs : Lfts 5) (lent : ArgsD Compile.signature κs) (answer : ResD Compile.signature κs) (left : AtExit Compile.ended κs)
-      → CompileReads.Learnt κs lent answer left → compiled_to κs lent answer left ≡ compileOf κs lent
+      → CompileReads.Learnt κs lent answer left → compiled_to κs lent answer left ≡ compile_of κs lent
   pub uses : (κs : Lfts 1) (lent : ArgsD Used.signature κs) (part : ResD Used.signature κs) (left : AtExit Used.ended κs)
       → UsedReads.Learnt κs lent part left → (part.now ≡ used_of κs lent) × (part.ref_ptr ≡ lent.0.ref_ptr)
   pub runs : (κs : Lfts 6) (lent : ArgsD Run.signature κs) (ended : ResD Run.signature κs) (left : AtExit Run.ended κs)

@@ -25,7 +25,7 @@ use Rattle.answers.specs.First.{first}
 use Rattle.calls.specs.Compile.{used_part, compile}
 use Rattle.calls.specs.Run.{state_over, left_by, lines_from, run}
 use Rattle.bundles.specs.Bundle.{header_of, bundle_of, read_bundle}
-use Rattle.bundles.specs.Given.{givenBy}
+use Rattle.bundles.specs.Given.{given_by}
 use Rattle.printing.specs.Listing.{code_lines, cell_lines, listing}
 use Rattle.promises.specs.Listing.{Printed}
 
@@ -35,5 +35,5 @@ unfolding flat_map number bytes_of words spelled lowest_from each one_of digits 
     locate held cell_of store_of cells_from agent_of key_of spare_of certified pair_fits agents_once kinds_fit each_variable declared valid count pattern_fields
     Patterns.repeats Patterns.bad_row Patterns.unnamed Patterns.bad_pattern patterns_from patterns_of pattern_of wrong_kind put puts creatable message
     set_message set_messages messages behind and_then readable occupied add_raw emit first used_part compile state_over left_by lines_from run header_of
-    bundle_of read_bundle givenBy code_lines cell_lines listing
+    bundle_of read_bundle given_by code_lines cell_lines listing
 printed = record { example = refl }

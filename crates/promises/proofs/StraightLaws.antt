@@ -161,8 +161,8 @@ module _ (creates : Bool) (pattern : List ℕ) (x : Lent) where
   unfolding direct
   direct_leaves = by_looks fit declares (bad_pattern pattern) wrong refl refl refl refl
 
-  pub direct_asGiven : direct_number outcome.answer ≢ 0 → outcome ≡ as_given outcome.answer x
-  direct_asGiven = direct_leaves.1.0
+  pub direct_as_given : direct_number outcome.answer ≢ 0 → outcome ≡ as_given outcome.answer x
+  direct_as_given = direct_leaves.1.0
 
   pub direct_given : (r : ℕ × Stores row_world) → rule ≡ done r → direct_number outcome.answer ≡ 0 → outcome ≡ direct_ends x (done r)
   direct_given = direct_leaves.1.1

@@ -28,7 +28,7 @@ use Rattle.promises.specs.Straight.{DirectAnswers, Compilable, StraightTable, St
 use Rattle.promises.proofs.StepLaws.{reason_back}
 use Rattle.promises.proofs.ConditionLaws.{bad_variable, no_bad_variable}
 use Rattle.promises.proofs.NumberLaws.{checked}
-use Rattle.promises.proofs.StraightLaws.{Tried, DirectGives, direct_of, rule_reasoned, direct_asGiven, direct_given, gives_direct, direct_answered, direct_stuck, compilable, lengths_within, stores_good, asked}
+use Rattle.promises.proofs.StraightLaws.{Tried, DirectGives, direct_of, rule_reasoned, direct_as_given, direct_given, gives_direct, direct_answered, direct_stuck, compilable, lengths_within, stores_good, asked}
 use Rattle.promises.proofs.StraightDecision.{done_place, no_direct_reason, never_eight, never_nine, direct_valid_again, direct_match, direct_creation}
 
 -- the numbers that come back
@@ -128,7 +128,7 @@ module _ (creates : Bool) (pattern : List ℕ) (x : Lent) where
         no_room = λ row. (λ a. let (t, e) = told a in (ready.0 t, e), λ h. comes (NoRoom row) (ready.1 h.0, h.1));
         finishes = (λ a. let (t, e) = told a in (ready.0 t, e), λ h. comes Done (ready.1 h.0, h.1));
         given = λ r q e. direct_given creates pattern x r e (comes Done (ready.1 q, (r, e))).0;
-        left = direct_asGiven creates pattern x;
+        left = direct_as_given creates pattern x;
         range = direct_range (direct creates pattern x).answer;
         no_place = done_place (direct creates pattern x).answer;
         no_reason = no_direct_reason (direct creates pattern x).answer;

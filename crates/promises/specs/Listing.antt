@@ -10,7 +10,7 @@ use Rattle.stores.specs.Certificates.{spare_of}
 use Rattle.calls.specs.Compile.{compiled_code}
 use Rattle.calls.specs.Run.{run}
 use Rattle.bundles.specs.Bundle.{Bundle, bundle_in, read_bundle, BundleWithin}
-use Rattle.bundles.specs.Given.{lentTo, compiledFrom}
+use Rattle.bundles.specs.Given.{lent_to, compiled_from}
 use Rattle.printing.specs.Listing.{end_word, object_word, message_word, refused_line, code_lines, end_line, store_lines, listing}
 use Rattle.promises.specs.Answers.{compile_number}
 
@@ -57,9 +57,9 @@ pub record ListingTable (bytes : List ℕ) : Type 0 where
   pub read : (read_bundle bytes ≡ some (bundle_in bytes)) ↔ BundleWithin bytes
   pub limit : (BundleWithin bytes → ⊥) → listing bytes ≡ refused_line 1 0
   pub spare_bit : BundleWithin bytes → (CertificatesClear (bundle_in bytes) → ⊥) → listing bytes ≡ refused_line 3 0
-  pub refused : BundleWithin bytes → CertificatesClear (bundle_in bytes) → compile_number (compiledFrom (bundle_in bytes)) ≢ 0
-      → listing bytes ≡ refused_line (compiled_number (compiledFrom (bundle_in bytes)).answer) (compiled_place (compiledFrom (bundle_in bytes)).answer)
-  pub listed : BundleWithin bytes → CertificatesClear (bundle_in bytes) → compile_number (compiledFrom (bundle_in bytes)) ≡ 0
-      → let code = compiled_code (compiledFrom (bundle_in bytes)) in
-      let ran = run (lentTo (bundle_in bytes)) code in
+  pub refused : BundleWithin bytes → CertificatesClear (bundle_in bytes) → compile_number (compiled_from (bundle_in bytes)) ≢ 0
+      → listing bytes ≡ refused_line (compiled_number (compiled_from (bundle_in bytes)).answer) (compiled_place (compiled_from (bundle_in bytes)).answer)
+  pub listed : BundleWithin bytes → CertificatesClear (bundle_in bytes) → compile_number (compiled_from (bundle_in bytes)) ≡ 0
+      → let code = compiled_code (compiled_from (bundle_in bytes)) in
+      let ran = run (lent_to (bundle_in bytes)) code in
       listing bytes ≡ code_lines zero code ++ end_line ran ++ store_lines ran

@@ -9,7 +9,7 @@ use lib.ListN.{length, get_or, set, take, drop, length-append, length-drop}
 use lib.Seq.{length-take-le, sets, length-sets, take-append_seam}
 use borrow.Rule.Slice.PartMut.{put_mid}
 use Rattle.word.specs.Bytes.{whole, elements, spelled, bytes_of}
-use Rattle.word.proofs.ByteLaws.{Below, length_bytesOf, length_spelled, spelled_append, spelled_elements, sets_append}
+use Rattle.word.proofs.ByteLaws.{Below, length_bytes_of, length_spelled, spelled_append, spelled_elements, sets_append}
 use Rattle.theory.specs.Machine.{Line}
 use Rattle.theory.specs.Emission.{Env, Emitted, ok, refuse}
 use Rattle.calls.specs.Compile.{code_words}
@@ -160,7 +160,7 @@ module _ (kinds matching creating : List ℕ) (e : Env) (place : ℕ) (code : Li
           ap (λ (l : List ℕ). sets l (4 * end') (bytes_of 4 output_word))
           (created.slice ∙ ap (λ (l : List ℕ). sets l (4 * end) (spelled 4 c)) matched.slice)
           ∙ four_parts code (4 * place) (bytes_of 4 input_word) (spelled 4 m) (spelled 4 c) (bytes_of 4 output_word)
-          (omega (arith, length_bytesOf 4 input_word)) (omega (arith, length_spelled 4 m, matched.ends)) (omega (arith, length_spelled 4 c, created.ends))
+          (omega (arith, length_bytes_of 4 input_word)) (omega (arith, length_spelled 4 m, matched.ends)) (omega (arith, length_spelled 4 c, created.ends))
           ∙ ap (sets code (4 * place)) (sym in_parts)
 
       pub bytes_left_lem : {last : List ℕ} → last ≡ sets after' (4 * end') (bytes_of 4 output_word)

@@ -34,7 +34,7 @@ fn match_raw(emission: &mut Emission, row: u8, r: Raw)
     }
 }
 
-// k : key_of(a)
+// k : keyOf(a)
 fn match_key_of(emission: &mut Emission, row: u8, key: Object, agent: Object)
     requires { (length emission.old ≡ 5) × (key.0 < variables) }
     ensures { (kind : ℕ → ℕ) → Surveys kind (matching_looks (key_of row key.0 agent.0)) emission.old emission.new }

@@ -18,7 +18,7 @@ use Rattle.theory.specs.Machine.{set_memory}
 use Rattle.theory.specs.Rules.{create, create_parts, create_key, get_variable, decodes, made}
 use Rattle.theory.specs.TermModel.{Term, encrypted, signed, hashed, term_world}
 use Rattle.theory.specs.Figure2.{TermStores, set_object, set_raw, ◌∉◌, Decodes}
-use Rattle.theory.specs.Figure3.{CreatesNew, KeyCreates, Creates, CreatesParts, new, key_set, key_new, key_op, key_keyOf, object_set, object_new, raw_set, constant_rule, op_rule, op_new, key_of_rule, encryption_rule, signature_rule, hash_rule, tuple_rule, let_rule, no_more, one_more}
+use Rattle.theory.specs.Figure3.{CreatesNew, KeyCreates, Creates, CreatesParts, new, key_set, key_new, key_op, key_key_of, object_set, object_new, raw_set, constant_rule, op_rule, op_new, key_of_rule, encryption_rule, signature_rule, hash_rule, tuple_rule, let_rule, no_more, one_more}
 use Rattle.theory.proofs.StoreLaws.{put_same, put_other}
 use Rattle.theory.proofs.FigureLaws.{stuck_not_done, done_inj, bind_then, at_then, need_then, free_then, got_message, gives_then, decodes_then, apart}
 
@@ -62,14 +62,14 @@ module _ (kind : ℕ → ℕ) where
   key-ρ (key_set set) = refl
   key-ρ (key_new (new unset can gives after)) = ap (λ n. n.ρ) (sym after)
   key-ρ (key_op K unset gives after) = ap (λ n. n.ρ) (sym after) ∙ key-ρ K
-  key-ρ (key_keyOf unset set gives fits after) = ap (λ n. n.ρ) (sym after)
+  key-ρ (key_key_of unset set gives fits after) = ap (λ n. n.ρ) (sym after)
 
   -- the figure looks at k before K is created, the code after
   key_is_done : {n n' : TermStores} {key : Key} {o : Term} (row : ℕ) → Distinct key → KeyCreates kind n key o n' → create_key term_world kind row key n ≡ done (o, n')
   key_is_done row distinct (key_set set) = rw set
   key_is_done row distinct (key_new created) = new_is_done row created
   key_is_done row distinct (key_op K unset gives after) = rw (key_is_done row tt K, other_kept distinct K, unset, gives, after)
-  key_is_done row distinct (key_keyOf unset set gives fits after) = rw (set, gives, unset, fits, after)
+  key_is_done row distinct (key_key_of unset set gives fits after) = rw (set, gives, unset, fits, after)
 
   -- a made message is decoded into the variable of its form
   decoded_is_done : {n' : TermStores} {t m : Term} (row v : ℕ) (n : TermStores) → t ≡ m → v ∉ n.σ → Decodes kind n v m → set_object n v m ≡ n'
@@ -132,7 +132,7 @@ module _ (kind : ℕ → ℕ) where
       let (b, set, e) = need_then row (n.σ a) _ _ e in
       let (o, gives, e) = gives_then row (Voc.key_of b) n _ _ tt e in
       let (unset, fits, e) = decodes_then kind row k o n _ _ e in
-      carried (KeyCreates kind n (certified_key k a)) e (key_keyOf unset set gives fits refl)
+      carried (KeyCreates kind n (certified_key k a)) e (key_key_of unset set gives fits refl)
 
   -- what creates a key creates the form that reads as it does
   object_of_key : {n n' : TermStores} {v : ℕ} {m : Term} (row : ℕ) → KeyCreates kind n (plain_key v) m n' → Creates kind n (object row v) m n'
@@ -145,7 +145,7 @@ module _ (kind : ℕ → ℕ) where
       op_new unset created (op_rule (other_kept K≢k (key_new created) ∙ unset) (new_is_set created) gives after)
 
   key_of_of_key : {n n' : TermStores} {k a : ℕ} {m : Term} (row : ℕ) → KeyCreates kind n (certified_key k a) m n' → Creates kind n (key_of row k a) m n'
-  key_of_of_key row (key_keyOf unset set gives fits after) = key_of_rule unset set gives fits after
+  key_of_of_key row (key_key_of unset set gives fits after) = key_of_rule unset set gives fits after
 
   mutual
     unfolding RightKinds

@@ -69,7 +69,7 @@ module _ (kind : ℕ → ℕ) where
   unfolding TakesT
   one_word row i e e' n p h f = record { taken = (omega arith, omega arith, (f, tt)) }
 
--- addRaw keeps the scratch number
+-- add_raw keeps the scratch number
 added : (e : Env) (cell : ℕ) → (add_raw e cell).next ≡ e.next
 unfolding add_raw
 added e cell = go (ltb cell 64)

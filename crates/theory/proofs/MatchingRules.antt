@@ -20,7 +20,7 @@ use Rattle.theory.specs.Store.{put}
 use Rattle.theory.specs.World as Voc
 use Rattle.theory.specs.Rules.{match, match_parts, match_key, match_object, match_raw}
 use Rattle.theory.specs.TermModel.{Term, atom, encrypted, signed, hashed, tupled, Terms, nil, cons, Names, collected, listed, term_world}
-use Rattle.theory.specs.Figure2.{TermStores, set_object, Gives, KeyMatches, Matches, MatchesParts, key_variable, key_op, key_keyOf, no_more, one_more, object_set, raw_set, object_new, raw_new, constant_rule, op_rule, key_of_rule, signature_rule, hash_rule, tuple_rule, let_rule, encryption_rule}
+use Rattle.theory.specs.Figure2.{TermStores, set_object, Gives, KeyMatches, Matches, MatchesParts, key_variable, key_op, key_key_of, no_more, one_more, object_set, raw_set, object_new, raw_new, constant_rule, op_rule, key_of_rule, signature_rule, hash_rule, tuple_rule, let_rule, encryption_rule}
 use Rattle.theory.proofs.StoreLaws.{put_other, put_back, put_comm}
 use Rattle.theory.proofs.Meaning.{shape_listed}
 use Rattle.theory.proofs.FigureLaws.{stuck_not_done, done_inj, bind_then, at_then, need_then, free_then, got_message, same_self, same_then, gives_then, decodes_then, apart}
@@ -39,9 +39,9 @@ shows_later : (g : ℕ → Term) (i : ℕ) (ms : List Term) → Shows (λ j. g (
 shows_later g i [] s = tt
 shows_later g i (m ∷ ms) s = (s.0, shows_later g (suc i) ms s.1)
 
-get_d_shows : (ms : List Term) (m : Term) → Shows (λ i. get_or ms i m) zero ms
-get_d_shows [] m = tt
-get_d_shows (a ∷ ms) m = (refl, shows_later (λ i. get_or (a ∷ ms) i m) zero ms (get_d_shows ms m))
+get_or_shows : (ms : List Term) (m : Term) → Shows (λ i. get_or ms i m) zero ms
+get_or_shows [] m = tt
+get_or_shows (a ∷ ms) m = (refl, shows_later (λ i. get_or (a ∷ ms) i m) zero ms (get_or_shows ms m))
 
 parts_are : (m : Term) (ms : List Term) (k : ℕ) (x : Names) → m ≡ tupled (collected ms) → length ms ≡ k → term_world.parts m k x ≡ got (λ i. get_or ms i m)
 parts_are m ms k x whole counted = rw whole (rw (shape_listed ms, eq-eqb _ _ counted))
@@ -79,12 +79,12 @@ module _ (kind : ℕ → ℕ) where
   key-ρ : {n n' : TermStores} {key : Key} {o : Term} → KeyMatches kind n key o n' → n'.ρ ≡ n.ρ
   key-ρ (key_variable set) = refl
   key-ρ (key_op unset set gives after) = ap (λ n. n.ρ) (sym after)
-  key-ρ (key_keyOf unset set gives fits after) = ap (λ n. n.ρ) (sym after)
+  key-ρ (key_key_of unset set gives fits after) = ap (λ n. n.ρ) (sym after)
 
   key_memory : {n n' : TermStores} {key : Key} {o : Term} → KeyMatches kind n key o n' → n'.memory ≡ n.memory
   key_memory (key_variable set) = refl
   key_memory (key_op unset set gives after) = ap (λ n. n.memory) (sym after)
-  key_memory (key_keyOf unset set gives fits after) = ap (λ n. n.memory) (sym after)
+  key_memory (key_key_of unset set gives fits after) = ap (λ n. n.memory) (sym after)
 
   -- the figure looks at the key before s is written, the code after
   key_is_done : {n n' : TermStores} {key : Key} {o : Term} (row s : ℕ) (m : Term) (f : Term → TermStores → Outcome TermStores) → Beside s key
@@ -93,7 +93,7 @@ module _ (kind : ℕ → ℕ) where
   key_is_done row s m f others (key_op {K = K} unset set gives after) =
       let (s≢k, s≢K) = others in
       rw (put_other _ s K, set, put_other, unset, gives, put_comm, ← after)
-  key_is_done row s m f others (key_keyOf {a = a} unset set gives fits after) =
+  key_is_done row s m f others (key_key_of {a = a} unset set gives fits after) =
       let (s≢k, s≢a) = others in
       rw (put_other _ s a, set, gives, put_other, unset, fits, put_comm, ← after)
 
@@ -114,7 +114,7 @@ module _ (kind : ℕ → ℕ) where
       let (b, set, e) = need_then row (put n.σ s (some m) a) _ _ e in
       let (o, gives, e) = gives_then row (Voc.key_of b) n _ _ tt e in
       let (unset, fits, e) = decodes_then kind row k o (set_object n s m) _ _ e in
-      (o, _, key_keyOf (put_back n.σ (some m) s≢k unset) (put_back n.σ (some m) s≢a set) gives fits refl, rw put_comm at e)
+      (o, _, key_key_of (put_back n.σ (some m) s≢k unset) (put_back n.σ (some m) s≢a set) gives fits refl, rw put_comm at e)
 
   parts_count : {n n' : TermStores} {ps : Parts} {ms : List Term} → MatchesParts kind n ps ms n' → length ms ≡ count ps
   unfolding count
@@ -139,13 +139,13 @@ module _ (kind : ℕ → ℕ) where
         rw (unset, fits, key_is_done row s m _ (beside s key right) k, key-ρ k, set, key_memory k, verified, ← key-ρ k, ← key_memory k, after)
     matches_is_done right (hash_rule {m = m} unset set gives fits after) = rw (unset, fits, set, got_message gives, same_self m, after)
     matches_is_done right (tuple_rule {ps = ps} {ms = ms} {m = m} unset fits whole parts) =
-        rw (unset, fits, parts_are m ms (count ps) _ whole (parts_count parts)) (parts_are_done (λ i. get_or ms i m) zero right.1 (get_d_shows ms m) parts)
+        rw (unset, fits, parts_are m ms (count ps) _ whole (parts_count parts)) (parts_are_done (λ i. get_or ms i m) zero right.1 (get_or_shows ms m) parts)
     matches_is_done right (let_rule unset first set second) = rw (unset, matches_is_done right.1 first, set) (matches_is_done right.0 second)
     matches_is_done right (encryption_rule {e = e} (key_variable {v = v} set) unset fits gives body) =
         let e≢v = apart kind e v 7 (one_of (5 ∷ 6 ∷ [])) right.0 (λ u. u) in
         rw (unset, fits, put_other, set, gives) (matches_is_done right.1 body)
     matches_is_done right (encryption_rule {e = e} (key_op _ _ _ _) unset fits gives body) = absurd ((both (eqb (kind e) 7) false).0 right.0).1
-    matches_is_done right (encryption_rule {e = e} (key_keyOf _ _ _ _ _) unset fits gives body) = absurd ((both (eqb (kind e) 7) false).0 right.0).1
+    matches_is_done right (encryption_rule {e = e} (key_key_of _ _ _ _ _) unset fits gives body) = absurd ((both (eqb (kind e) 7) false).0 right.0).1
 
     parts_are_done : {n n' : TermStores} {ps : Parts} {ms : List Term} (g : ℕ → Term) (i : ℕ) → RightParts false kind ps → Shows g i ms → MatchesParts kind n ps ms n'
         → match_parts term_world kind ps i g n ≡ done n'
@@ -217,7 +217,7 @@ module _ (kind : ℕ → ℕ) where
     done_is_matches (tuple row t ps) n n' m right e =
         let (unset, fits, e) = decodes_then kind row t m n _ _ e in
         let (ms, whole, counted, e) = parts_then row m (count ps) n.memory _ _ e in
-        tuple_rule unset fits whole (done_are_parts ps ms _ n' (λ i. get_or ms i m) zero right.1 counted (get_d_shows ms m) e)
+        tuple_rule unset fits whole (done_are_parts ps ms _ n' (λ i. get_or ms i m) zero right.1 counted (get_or_shows ms m) e)
     done_is_matches (let_in row r p₁ p₂) n n' m right e =
         let (unset, e) = free_then row (n.ρ r) _ _ e in
         let (n₁, first, e) = bind_then (match term_world kind p₂ (some m) n) _ _ e in

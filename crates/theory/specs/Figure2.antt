@@ -46,7 +46,7 @@ module _ (kind : ℕ → ℕ) where
         → k ∉ n.σ → n.σ K ≡ some a → Gives n (Voc.op a) o
         → set_object n k o ≡ n'
         → KeyMatches n (op_key k K) o n'
-    key_keyOf : {n n' : TermStores} {k a : ℕ} {b o : Term}
+    key_key_of : {n n' : TermStores} {k a : ℕ} {b o : Term}
         → k ∉ n.σ → n.σ a ≡ some b → Gives n (Voc.key_of b) o → Decodes n k o
         → set_object n k o ≡ n'
         → KeyMatches n (certified_key k a) o n'

@@ -30,7 +30,7 @@ module _ (kind : ℕ → ℕ) where
         → k ∉ n.σ → Gives n₁ (Voc.op a) o
         → set_object n₁ k o ≡ n'
         → KeyCreates n (op_key k K) o n'
-    key_keyOf : {n n' : TermStores} {k a : ℕ} {b o : Term}
+    key_key_of : {n n' : TermStores} {k a : ℕ} {b o : Term}
         → k ∉ n.σ → n.σ a ≡ some b → Gives n (Voc.key_of b) o → Decodes kind n k o
         → set_object n k o ≡ n'
         → KeyCreates n (certified_key k a) o n'

@@ -25,10 +25,10 @@ below_take limit (suc count) (value ∷ values) below (suc place) = below_take l
 room : (size : ℕ) → 0 < 256 ^ size
 room size = one-le-pow size 256 (omega arith)
 
-pub length_bytesOf : (size n : ℕ) → length (bytes_of size n) ≡ size
+pub length_bytes_of : (size n : ℕ) → length (bytes_of size n) ≡ size
 unfolding bytes_of
-length_bytesOf zero n = refl
-length_bytesOf (suc size) n = ap suc (length_bytesOf size n)
+length_bytes_of zero n = refl
+length_bytes_of (suc size) n = ap suc (length_bytes_of size n)
 
 pub length_words : (size count : ℕ) (bytes : List ℕ) → length (words size count bytes) ≡ count
 unfolding words
@@ -38,7 +38,7 @@ length_words size (suc count) bytes = ap suc (length_words size count (drop size
 pub length_spelled : (size : ℕ) (values : List ℕ) → length (spelled size values) ≡ size * length values
 unfolding spelled
 length_spelled size [] = sym (mul-zero size)
-length_spelled size (value ∷ values) = rw (length-append, length_bytesOf, length_spelled size values) (omega arith)
+length_spelled size (value ∷ values) = rw (length-append, length_bytes_of, length_spelled size values) (omega arith)
 
 -- bytes in two parts: the first counts by the power of 256 that the second has room for
 pub number_append : (high low : List ℕ) → number (high ++ low) ≡ number high * 256 ^ length low + number low
@@ -84,14 +84,14 @@ bytes_of_add zero low n = ap (λ (k : ℕ). bytes_of k n) (zero-add low)
 bytes_of_add (suc high) low n = rw (suc-add, bytes_of_add high low n, add_comm high low, pow-add, div-div-eq-div-mul)
 
 -- one number there and back
-number_bytesOf_mod : (size n : ℕ) → number (bytes_of size n) ≡ n % 256 ^ size
+number_bytes_of_mod : (size n : ℕ) → number (bytes_of size n) ≡ n % 256 ^ size
 unfolding number bytes_of
-number_bytesOf_mod zero n = sym (mod-one n)
-number_bytesOf_mod (suc size) n =
-    rw (length_bytesOf size n, number_bytesOf_mod size n, pow-succ') (sym (mod-mul n (omega arith) (room size)))
+number_bytes_of_mod zero n = sym (mod-one n)
+number_bytes_of_mod (suc size) n =
+    rw (length_bytes_of size n, number_bytes_of_mod size n, pow-succ') (sym (mod-mul n (omega arith) (room size)))
 
-pub number_bytesOf : (size n : ℕ) → n < 256 ^ size → number (bytes_of size n) ≡ n
-number_bytesOf size n fits = number_bytesOf_mod size n ∙ mod-eq_of_lt fits
+pub number_bytes_of : (size n : ℕ) → n < 256 ^ size → number (bytes_of size n) ≡ n
+number_bytes_of size n fits = number_bytes_of_mod size n ∙ mod-eq_of_lt fits
 
 pub number_lt : (bytes : List ℕ) → Below 256 bytes → number bytes < 256 ^ length bytes
 unfolding number
@@ -124,9 +124,9 @@ unfolding words spelled
 words_spelled size [] below = refl
 words_spelled size (value ∷ values) below =
     rw (
-      take_at (bytes_of size value) (spelled size values) size (length_bytesOf size value),
-      drop_at (bytes_of size value) (spelled size values) size (length_bytesOf size value),
-      number_bytesOf size value (below 0),
+      take_at (bytes_of size value) (spelled size values) size (length_bytes_of size value),
+      drop_at (bytes_of size value) (spelled size values) size (length_bytes_of size value),
+      number_bytes_of size value (below 0),
       words_spelled size values (λ place. below (suc place)),
     )
 
@@ -171,7 +171,7 @@ sets_pair n bytes at fits =
 -- a number is stored in two parts
 pub sets_split : (high low n : ℕ) (bytes : List ℕ) (at : ℕ)
     → sets (sets bytes at (bytes_of high (n / 256 ^ low))) (at + high) (bytes_of low (n % 256 ^ low)) ≡ sets bytes at (bytes_of (high + low) n)
-sets_split high low n bytes at = rw (bytes_of_mod, bytes_of_add, sets_append, length_bytesOf)
+sets_split high low n bytes at = rw (bytes_of_mod, bytes_of_add, sets_append, length_bytes_of)
 
 -- so many words have been read
 pub record Unpacked (size : ℕ) (bytes before out : List ℕ) (count : ℕ) : Type 0 where
@@ -239,7 +239,7 @@ pub packed_more : (size : ℕ) (values before bytes after : List ℕ) (count : �
     → Packed size values before after (count + 1)
 unfolding spelled
 packed_more size values before bytes after count so_far more fits is =
-    let width = length_bytesOf size (get_or values count 0) in
+    let width = length_bytes_of size (get_or values count 0) in
     record {
       within = omega arith;
       long = rw (is, length-sets) so_far.long;

@@ -79,6 +79,6 @@ pub record CertifiedBy (certificates : List ℕ) (agent : ℕ) (answer : Opened)
   pub says : (x : Table) → x.certificates ≡ certificates → row_world.apply (key_of agent) x ≡ as_opened x answer
   pub below : (row : TermRow) → answer ≡ Opened.Row row → row.0 < most_term_rows
 
--- a key goes with another: `goesWith`, which looks at their two rows alone
+-- a key goes with another: `goes_with`, which looks at their two rows alone
 unfoldable pub keys_pair : List ℕ → ℕ → ℕ → Bool
 keys_pair rows key other = goes_with row_model key other (record { rows = rows; used = 0; counter = 0; certificates = [] })
