@@ -4,10 +4,6 @@ use Rattle.printing.proofs.LineLaws.{cells_end}
 use Rattle.printing.proofs.RanLaws.{ways}
 use Rattle.printing.proofs.store_lines.Goals as goal
 
--- TODO need slice-aggregate-cell-lines-3
--- slice-aggregate-cell-lines-3 : tie.Need-slice-aggregate-cell-lines-3
--- slice-aggregate-cell-lines-3 c = sym (length-take-le 64 c.before.before.before.before.before.before.before.before.before.before.before.args.messages.now (omega arith))
-
 pub cell_lines-requires : goal.cell_lines-requires
 cell_lines-requires c =
     omega (
