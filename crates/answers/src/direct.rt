@@ -5,7 +5,7 @@ ghost use Rattle.answers.specs.DirectNumbers.{direct_number, direct_place, direc
 use super::Reason;
 
 // Compile's and run's answers, but that no code can be too short or bad. Places are rows: of the term table with 2, else of the pattern.
-#[derive(Clone, Copy)]
+#[derive(Clone, Copy, PartialEq, Eq)]
 pub enum Direct {
     Done,
     Limit,
@@ -41,16 +41,14 @@ impl Direct {
         ensures { result ≡ direct_place self }
     {
         match self {
-            Direct::Done => 0,
-            Direct::Limit => 0,
-            Direct::BadTerm(row) => row,
-            Direct::BadStore => 0,
-            Direct::BadPattern(row) => row,
-            Direct::WrongKind(row) => row,
-            Direct::WrittenWhileSet(row) => row,
-            Direct::ReadWhileUnset(row) => row,
-            Direct::Stuck(row, _) => row,
-            Direct::NoRoom(row) => row,
+            Direct::Done | Direct::Limit | Direct::BadStore => 0,
+            Direct::BadTerm(row)
+            | Direct::BadPattern(row)
+            | Direct::WrongKind(row)
+            | Direct::WrittenWhileSet(row)
+            | Direct::ReadWhileUnset(row)
+            | Direct::Stuck(row, _)
+            | Direct::NoRoom(row) => row,
         }
     }
 
@@ -59,16 +57,8 @@ impl Direct {
         ensures { (result ≡ direct_reason self) × (result ≤ 7) }
     {
         match self {
-            Direct::Done => 0,
-            Direct::Limit => 0,
-            Direct::BadTerm(_) => 0,
-            Direct::BadStore => 0,
-            Direct::BadPattern(_) => 0,
-            Direct::WrongKind(_) => 0,
-            Direct::WrittenWhileSet(_) => 0,
-            Direct::ReadWhileUnset(_) => 0,
             Direct::Stuck(_, reason) => reason.number(),
-            Direct::NoRoom(_) => 0,
+            _ => 0,
         }
     }
 }

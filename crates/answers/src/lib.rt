@@ -1,4 +1,5 @@
 // What a call answers, one enum for each kind of call, and the numbers that it comes back as.
+// Done is one answer among the others, no Ok: document 01 numbers it 0, and the promises speak of each answer's number and place.
 #![tactic(auto)]
 
 mod direct;
@@ -10,7 +11,7 @@ ghost use Rattle.answers.specs.Numbers.{reason_number, compiled_number, compiled
 pub use direct::Direct;
 pub use rounds::{NONE_WAITS, Rounded, Session};
 
-#[derive(Clone, Copy)]
+#[derive(Clone, Copy, PartialEq, Eq)]
 pub enum Reason {
     Unset,
     OtherKind,
@@ -21,7 +22,7 @@ pub enum Reason {
     NotVerified,
 }
 
-#[derive(Clone, Copy)]
+#[derive(Clone, Copy, PartialEq, Eq)]
 pub enum Compiled {
     Done(u32),
     Limit,
@@ -33,7 +34,7 @@ pub enum Compiled {
     CodeTooShort(u32),
 }
 
-#[derive(Clone, Copy)]
+#[derive(Clone, Copy, PartialEq, Eq)]
 pub enum Ran {
     Done(u32),
     Limit,
@@ -80,14 +81,12 @@ impl Compiled {
         ensures { result ≡ compiled_place self }
     {
         match self {
-            Compiled::Done(words) => words,
-            Compiled::Limit => 0,
-            Compiled::BadStore => 0,
-            Compiled::BadPattern(row) => row,
-            Compiled::WrongKind(row) => row,
-            Compiled::WrittenWhileSet(row) => row,
-            Compiled::ReadWhileUnset(row) => row,
-            Compiled::CodeTooShort(words) => words,
+            Compiled::Limit | Compiled::BadStore => 0,
+            Compiled::Done(words) | Compiled::CodeTooShort(words) => words,
+            Compiled::BadPattern(row)
+            | Compiled::WrongKind(row)
+            | Compiled::WrittenWhileSet(row)
+            | Compiled::ReadWhileUnset(row) => row,
         }
     }
 }
@@ -111,13 +110,10 @@ impl Ran {
         ensures { result ≡ ran_place self }
     {
         match self {
+            Ran::Limit | Ran::BadStore => 0,
             Ran::Done(words) => words,
-            Ran::Limit => 0,
             Ran::BadTerm(row) => row,
-            Ran::BadStore => 0,
-            Ran::BadWord(word) => word,
-            Ran::Stuck(word, _) => word,
-            Ran::NoRoom(word) => word,
+            Ran::BadWord(word) | Ran::Stuck(word, _) | Ran::NoRoom(word) => word,
         }
     }
 
@@ -126,13 +122,8 @@ impl Ran {
         ensures { (result ≡ ran_reason self) × (result ≤ 7) }
     {
         match self {
-            Ran::Done(_) => 0,
-            Ran::Limit => 0,
-            Ran::BadTerm(_) => 0,
-            Ran::BadStore => 0,
-            Ran::BadWord(_) => 0,
             Ran::Stuck(_, reason) => reason.number(),
-            Ran::NoRoom(_) => 0,
+            _ => 0,
         }
     }
 }

@@ -17,7 +17,7 @@ pub struct Session {
 }
 
 // What a run may answer, and three answers of a round's own.
-#[derive(Clone, Copy)]
+#[derive(Clone, Copy, PartialEq, Eq)]
 pub enum Rounded {
     Ran(Ran),
     NoMessage,
@@ -42,9 +42,7 @@ impl Rounded {
     {
         match self {
             Rounded::Ran(ran) => ran.place(),
-            Rounded::NoMessage => 0,
-            Rounded::NotTaken => 0,
-            Rounded::RoleEnded => 0,
+            _ => 0,
         }
     }
 
@@ -54,9 +52,7 @@ impl Rounded {
     {
         match self {
             Rounded::Ran(ran) => ran.reason(),
-            Rounded::NoMessage => 0,
-            Rounded::NotTaken => 0,
-            Rounded::RoleEnded => 0,
+            _ => 0,
         }
     }
 }

@@ -12,7 +12,7 @@ use Rattle.word.proofs.ByteLaws.{length_words}
 use Rattle.bundles.specs.Bundle.{bundle_of, kinds_of, cells_of}
 use Rattle.bundles.specs.Opening.{header_in, bundle_in, kinds_at, opened}
 use Rattle.bundles.specs.declared.Header.{Header}
-use Rattle.bundles.specs.declared.Opened.TheVariants.{Is}
+use Rattle.std.specs.Prelude.{Some}
 use Rattle.bundles.proofs.OpeningLaws.{opened_is}
 
 pub record Fields (bytes : List ℕ) (header : Header) : Type 0 where
@@ -29,7 +29,7 @@ pub record Fields (bytes : List ℕ) (header : Header) : Type 0 where
   pub certificates :
       (bundle_in bytes).certificates ≡ take header.certificates (drop (kinds_at header + 36) (elements 8 bytes))
 
-pub fields : (bytes : List ℕ) (header : Header) → opened bytes ≡ Is header → Fields bytes header
+pub fields : (bytes : List ℕ) (header : Header) → opened bytes ≡ Some header → Fields bytes header
 unfolding bundle_of
 fields bytes header e =
     let o = opened_is bytes header e in
@@ -70,7 +70,7 @@ pub record Lengths (bytes : List ℕ) (header : Header) : Type 0 where
   pub named : length (bundle_in bytes).named ≡ 64
   pub certificates : length (bundle_in bytes).certificates ≡ header.certificates
 
-pub lengths : (bytes : List ℕ) (header : Header) → opened bytes ≡ Is header → Lengths bytes header
+pub lengths : (bytes : List ℕ) (header : Header) → opened bytes ≡ Some header → Lengths bytes header
 lengths bytes header e =
     let f = fields bytes header e in
     record {

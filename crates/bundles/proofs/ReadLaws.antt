@@ -3,7 +3,7 @@ use Prim.Native.Nat.{ℕ, ◌*◌}
 use mathlib.Core.Path.{◌≡◌, refl, ap}
 use mathlib.Core.Logic.{◌↔◌, ◌≢◌}
 use mathlib.Core.Bool.{Bool, true, false, ◌&&◌}
-use mathlib.Core.Option.{none, some}
+use Rattle.std.specs.Prelude.{None, Some}
 use mathlib.Core.List.{List}
 use lib.Dec.{T}
 use lib.ListN.{length}
@@ -32,13 +32,13 @@ module _ (bytes : List ℕ) where
   unfolding read_bundle
   by_fit b e = ap (λ b. bundle_by b bytes) e
 
-  pub read_within : BundleWithin bytes → read_bundle bytes ≡ some (bundle_in bytes)
+  pub read_within : BundleWithin bytes → read_bundle bytes ≡ Some (bundle_in bytes)
   read_within w = by_fit true (is_true fits (bundle_within.1 w))
 
-  pub unread_outside : (BundleWithin bytes → ⊥) → read_bundle bytes ≡ none
+  pub unread_outside : (BundleWithin bytes → ⊥) → read_bundle bytes ≡ None
   unread_outside n = by_fit false (is_false fits λ t. n (bundle_within.0 t))
 
-  pub within_read : read_bundle bytes ≢ none → BundleWithin bytes
+  pub within_read : read_bundle bytes ≢ None → BundleWithin bytes
   within_read n = go fits refl
     where
       go : (b : Bool) → fits ≡ b → BundleWithin bytes

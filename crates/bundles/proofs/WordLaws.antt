@@ -19,7 +19,7 @@ take_words size (suc k) (suc count) bytes fewer = ap (number (take size bytes) �
 drop_words : (size from count : ℕ) (bytes : List ℕ) → drop from (words size count bytes) ≡ words size (count - from) (drop (size * from) bytes)
 unfolding words
 drop_words size zero count bytes = rw (sub-zero, mul-zero)
-drop_words size (suc from) zero bytes = let none : 0 - suc from ≡ 0 = omega arith in rw none
+drop_words size (suc from) zero bytes = let none_left : 0 - suc from ≡ 0 = omega arith in rw none_left
 drop_words size (suc from) (suc count) bytes =
     let left : suc count - suc from ≡ count - from = omega arith in
     let past : size * suc from ≡ size + size * from = omega arith in

@@ -1,6 +1,6 @@
 -- A bundle: 64-bit words, high byte first.
 use Rattle.std.specs.Prelude.{ℕ, ◌+◌, ◌*◌, ◌≤◌, ◌≡◌, Bool, true, false, ◌&&◌, length, take, drop, replicate, get_or, eqb, leb}
-use Rattle.std.proofs.Math.Option.{Option, none, some}
+use Rattle.std.specs.Prelude.{Option, None, Some}
 use mathlib.Core.List.{List, [], ◌∷◌, flat_map}
 use Rattle.word.specs.Fields.{split, at}
 use Rattle.word.specs.Bytes.{elements}
@@ -102,8 +102,8 @@ abbrev pub size_fits : Header → List ℕ → Bool
 size_fits h bytes = eqb (length bytes) (word_bytes * words_in h)
 
 abbrev pub bundle_by : Bool → List ℕ → Option Bundle
-bundle_by true bytes = some (bundle_in bytes)
-bundle_by false bytes = none
+bundle_by true bytes = Some (bundle_in bytes)
+bundle_by false bytes = None
 
 -- none is 1
 unfoldable pub read_bundle : List ℕ → Option Bundle

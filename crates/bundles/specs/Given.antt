@@ -1,6 +1,6 @@
 -- What a bundle gives: a refusal with its number and place, or code words and the outcome of their run.
 use Rattle.std.specs.Prelude.{ℕ, ◌-◌, true, false, List, ◌++◌, length, replicate, eqb}
-use Rattle.std.proofs.Math.Option.{Option, none, some}
+use Rattle.std.specs.Prelude.{Option, None, Some}
 use Rattle.answers.specs.Numbers.{compiled_number, compiled_place}
 use Rattle.stores.specs.Cells.{unset}
 use Rattle.numbers.specs.Limits.{scratch_cells, most_code_words, most_term_rows}
@@ -40,8 +40,8 @@ given_compiled b c =
 
 -- 1, then a spare certificate bit, then compile into 768 words, then run
 abbrev pub given_read : Option Bundle → Given
-given_read none = refused 1 0
-given_read (some b) = elim (certificates_clear b) [ true ↦ given_compiled b (compiled_from b) | false ↦ refused 3 0 ]
+given_read None = refused 1 0
+given_read (Some b) = elim (certificates_clear b) [ true ↦ given_compiled b (compiled_from b) | false ↦ refused 3 0 ]
 
 unfoldable pub given_by : List ℕ → Given
 given_by bytes = given_read (read_bundle bytes)

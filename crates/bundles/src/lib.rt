@@ -33,13 +33,6 @@ pub struct Header {
     pub counter: u32,
 }
 
-// A bundle with a wrong size, a set spare bit or a count outside its limit is refused.
-#[derive(Clone, Copy)]
-pub enum Opened {
-    Refused,
-    Is(Header),
-}
-
 // The header's fields, the most significant first.
 fn header_of(word: u64) -> Header
     ensures { result ≡ held_header (header_of word) }
@@ -65,25 +58,12 @@ fn header_fits(word: u64) -> bool
     ensures { result ≡ header_fits (header_of word) }
 {
     let header = header_of(word);
-    if word % 0x10 != 0 {
-        return false;
-    }
-    if header.pattern_rows < 1 {
-        return false;
-    }
-    if header.pattern_rows as usize > MOST_PATTERN_ROWS {
-        return false;
-    }
-    if header.certificates as usize > MOST_CERTIFICATES {
-        return false;
-    }
-    if header.term_rows as usize > MOST_TERM_ROWS {
-        return false;
-    }
-    if header.counter > MOST_NAMES {
-        return false;
-    }
-    true
+    word % 0x10 == 0
+        && 1 <= header.pattern_rows
+        && header.pattern_rows as usize <= MOST_PATTERN_ROWS
+        && header.certificates as usize <= MOST_CERTIFICATES
+        && header.term_rows as usize <= MOST_TERM_ROWS
+        && header.counter <= MOST_NAMES
 }
 
 // The header, the pattern's rows and the terms' come before the kinds.
@@ -93,22 +73,23 @@ fn kinds_at(header: Header) -> usize
     1 + header.pattern_rows as usize + header.term_rows as usize
 }
 
-pub fn open(bytes: &[u8]) -> Opened
+// A bundle with a wrong size, a set spare bit or a count outside its limit does not open.
+pub fn open(bytes: &[u8]) -> Option<Header>
     ensures { result ≡ opened bytes.now }
 {
     if bytes.len() < 8 {
-        return Opened::Refused;
+        return None;
     }
     let word = word::word_at(bytes, 0);
     if !header_fits(word) {
-        return Opened::Refused;
+        return None;
     }
     let header = header_of(word);
     let words = kinds_at(header) + CERTIFICATES_BEHIND + header.certificates as usize;
     if bytes.len() != 8 * words {
-        return Opened::Refused;
+        return None;
     }
-    Opened::Is(header)
+    Some(header)
 }
 
 // So many words from a place on, to the front of a slice.
@@ -137,32 +118,16 @@ fn read_kinds(bytes: &[u8], from: usize, kinds: &mut [u8])
     ensures { kinds.new ≡ kinds_of (take 4 (drop from (elements 8 bytes.now))) ++ drop 64 kinds.old }
 {
     let start = 8 * from;
-    for place in 0..KIND_BYTES {
-        let byte = bytes[start + place];
+    let end = start + KIND_BYTES;
+    for (place, &byte) in bytes[start..end].iter().enumerate() {
         kinds[2 * place] = byte / 16;
         kinds[2 * place + 1] = byte % 16;
     }
 }
 
-fn clear(rows: &mut [u64])
-    ensures { rows.new ≡ replicate (length rows.old) 0 }
-{
-    for place in 0..rows.len() {
-        rows[place] = 0;
-    }
-}
-
-fn unset_all(cells: &mut [u16])
-    ensures { cells.new ≡ replicate (length cells.old) unset }
-{
-    for place in 0..cells.len() {
-        cells[place] = UNSET;
-    }
-}
-
 // The parts of a bundle that opened, each to the front of a slice.
 pub fn pattern_rows(bytes: &[u8], header: Header, rows: &mut [u64])
-    requires { (opened bytes.now ≡ Opened.Is header) × (header.pattern_rows ≤ length rows.old) }
+    requires { (opened bytes.now ≡ Some header) × (header.pattern_rows ≤ length rows.old) }
     ensures { rows.new ≡ (bundle_in bytes.now).pattern ++ drop header.pattern_rows rows.old }
 {
     let count = header.pattern_rows as usize;
@@ -171,17 +136,17 @@ pub fn pattern_rows(bytes: &[u8], header: Header, rows: &mut [u64])
 
 // Zero rows after the bundle's.
 pub fn term_rows(bytes: &[u8], header: Header, rows: &mut [u64])
-    requires { (opened bytes.now ≡ Opened.Is header) × (header.term_rows ≤ length rows.old) }
+    requires { (opened bytes.now ≡ Some header) × (header.term_rows ≤ length rows.old) }
     ensures { rows.new ≡ (bundle_in bytes.now).terms ++ replicate (length rows.old - header.term_rows) 0 }
 {
     let from = 1 + header.pattern_rows as usize;
     let count = header.term_rows as usize;
     read_words(bytes, from, count, rows);
-    clear(&mut rows[count..]);
+    rows[count..].fill(0);
 }
 
 pub fn kinds(bytes: &[u8], header: Header, kinds: &mut [u8])
-    requires { (opened bytes.now ≡ Opened.Is header) × (64 ≤ length kinds.old) }
+    requires { (opened bytes.now ≡ Some header) × (64 ≤ length kinds.old) }
     ensures { kinds.new ≡ (bundle_in bytes.now).kinds ++ drop 64 kinds.old }
 {
     let from = kinds_at(header);
@@ -189,7 +154,7 @@ pub fn kinds(bytes: &[u8], header: Header, kinds: &mut [u8])
 }
 
 pub fn object_cells(bytes: &[u8], header: Header, cells: &mut [u16])
-    requires { (opened bytes.now ≡ Opened.Is header) × (64 ≤ length cells.old) }
+    requires { (opened bytes.now ≡ Some header) × (64 ≤ length cells.old) }
     ensures { cells.new ≡ (bundle_in bytes.now).objects ++ drop 64 cells.old }
 {
     let from = kinds_at(header) + OBJECTS_BEHIND;
@@ -198,16 +163,16 @@ pub fn object_cells(bytes: &[u8], header: Header, cells: &mut [u16])
 
 // The named cells, and after them unset ones.
 pub fn message_cells(bytes: &[u8], header: Header, cells: &mut [u16])
-    requires { (opened bytes.now ≡ Opened.Is header) × (64 ≤ length cells.old) }
+    requires { (opened bytes.now ≡ Some header) × (64 ≤ length cells.old) }
     ensures { cells.new ≡ (bundle_in bytes.now).named ++ replicate (length cells.old - 64) unset }
 {
     let from = kinds_at(header) + NAMED_BEHIND;
     read_cells(bytes, from, cells);
-    unset_all(&mut cells[VARIABLES..]);
+    cells[VARIABLES..].fill(UNSET);
 }
 
 pub fn certificates(bytes: &[u8], header: Header, certificates: &mut [u64])
-    requires { (opened bytes.now ≡ Opened.Is header) × (header.certificates ≤ length certificates.old) }
+    requires { (opened bytes.now ≡ Some header) × (header.certificates ≤ length certificates.old) }
     ensures { certificates.new ≡ (bundle_in bytes.now).certificates ++ drop header.certificates certificates.old }
 {
     let from = kinds_at(header) + CERTIFICATES_BEHIND;
@@ -219,10 +184,5 @@ pub fn certificates(bytes: &[u8], header: Header, certificates: &mut [u64])
 pub fn certificates_clear(certificates: &[u64]) -> bool
     ensures { result ≡ clear_of certificates.now }
 {
-    for place in 0..certificates.len() {
-        if certificates[place] % 0x100_0000_0000 != 0 {
-            return false;
-        }
-    }
-    true
+    certificates.iter().all(|&word| word % 0x100_0000_0000 == 0)
 }

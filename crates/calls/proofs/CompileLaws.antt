@@ -2,7 +2,8 @@
 use mathlib.Core.Path.{◌≡◌, refl, sym, ◌∙◌, subst}
 use mathlib.Core.Logic.{◌↔◌}
 use mathlib.Core.Bool.{Bool, true, false, cond, not}
-use mathlib.Core.Option.{Option, none, some, map}
+use Rattle.std.specs.Prelude.{Option, None, Some}
+use Rattle.std.specs.Option.{option_map}
 use mathlib.Core.List.{List, [], ◌∷◌, ◌++◌}
 use Prim.Native.Nat.{ℕ, ◌≤◌}
 use native.Mathlib.Omega.{arith}
@@ -60,69 +61,69 @@ part_length n code = go (leb n (length code))
 
 -- the first refusal of checks in their order
 module _ {A : Type 0} where
-  pub first_none : (check : Option A) (rest : List (Option A)) → first (check ∷ rest) ≡ none → (check ≡ none) × (first rest ≡ none)
+  pub first_none : (check : Option A) (rest : List (Option A)) → first (check ∷ rest) ≡ None → (check ≡ None) × (first rest ≡ None)
   unfolding first
-  first_none none rest e = (refl, e)
-  first_none (some answer) rest e = absurd (let z : ◌≡◌ {A = ℕ} 0 1 = cc in omega arith)
+  first_none None rest e = (refl, e)
+  first_none (Some answer) rest e = absurd (let z : ◌≡◌ {A = ℕ} 0 1 = cc in omega arith)
 
-  pub first_nothing : (P : A → Type 0) (answer : A) → first [] ≡ some answer → P answer
+  pub first_nothing : (P : A → Type 0) (answer : A) → first [] ≡ Some answer → P answer
   unfolding first
   first_nothing P answer e = absurd (let z : ◌≡◌ {A = ℕ} 0 1 = cc in omega arith)
 
-  pub first_some : (P : A → Type 0) (check : Option A) (rest : List (Option A)) → ((answer : A) → check ≡ some answer → P answer)
-      → ((answer : A) → first rest ≡ some answer → P answer) → (answer : A) → first (check ∷ rest) ≡ some answer → P answer
+  pub first_some : (P : A → Type 0) (check : Option A) (rest : List (Option A)) → ((answer : A) → check ≡ Some answer → P answer)
+      → ((answer : A) → first rest ≡ Some answer → P answer) → (answer : A) → first (check ∷ rest) ≡ Some answer → P answer
   unfolding first
-  first_some P none rest h g answer e = g answer e
-  first_some P (some other) rest h g answer e = h answer e
+  first_some P None rest h g answer e = g answer e
+  first_some P (Some other) rest h g answer e = h answer e
 
   -- of two lists of checks, the first refusal of the one, else that of the other
-  pub first_before : (checks more : List (Option A)) (answer : A) → first checks ≡ some answer → first (checks ++ more) ≡ some answer
+  pub first_before : (checks more : List (Option A)) (answer : A) → first checks ≡ Some answer → first (checks ++ more) ≡ Some answer
   unfolding first
   first_before [] more answer e = absurd (let z : ◌≡◌ {A = ℕ} 0 1 = cc in omega arith)
-  first_before (none ∷ checks) more answer e = first_before checks more answer e
-  first_before (some other ∷ checks) more answer e = e
+  first_before (None ∷ checks) more answer e = first_before checks more answer e
+  first_before (Some other ∷ checks) more answer e = e
 
-  pub first_behind : (checks more : List (Option A)) → first checks ≡ none → first (checks ++ more) ≡ first more
+  pub first_behind : (checks more : List (Option A)) → first checks ≡ None → first (checks ++ more) ≡ first more
   unfolding first
   first_behind [] more e = refl
-  first_behind (none ∷ checks) more e = first_behind checks more e
-  first_behind (some other ∷ checks) more e = absurd (let z : ◌≡◌ {A = ℕ} 0 1 = cc in omega arith)
+  first_behind (None ∷ checks) more e = first_behind checks more e
+  first_behind (Some other ∷ checks) more e = absurd (let z : ◌≡◌ {A = ℕ} 0 1 = cc in omega arith)
 
-  pub when_none : (b : Bool) (answer : A) → when b answer ≡ none → T (not b)
+  pub when_none : (b : Bool) (answer : A) → when b answer ≡ None → T (not b)
   when_none true answer e = absurd (let z : ◌≡◌ {A = ℕ} 0 1 = cc in omega arith)
   when_none false answer e = tt
 
-  pub when_some : (P : A → Type 0) (b : Bool) (answer : A) → P answer → (other : A) → when b answer ≡ some other → P other
+  pub when_some : (P : A → Type 0) (b : Bool) (answer : A) → P answer → (other : A) → when b answer ≡ Some other → P other
   when_some P true answer h other e = let p : answer ≡ other = cc in subst P p h
   when_some P false answer h other e = absurd (let z : ◌≡◌ {A = ℕ} 0 1 = cc in omega arith)
 
   -- a check that passes, and one that fails
-  pub passes_when : (b : Bool) (answer : A) → T b → when (not b) answer ≡ none
+  pub passes_when : (b : Bool) (answer : A) → T b → when (not b) answer ≡ None
   passes_when true answer h = refl
   passes_when false answer h = absurd h
 
-  pub fails_when : (b : Bool) (answer : A) → (T b → ⊥) → when (not b) answer ≡ some answer
+  pub fails_when : (b : Bool) (answer : A) → (T b → ⊥) → when (not b) answer ≡ Some answer
   fails_when true answer h = absurd (h tt)
   fails_when false answer h = refl
 
 module _ {A B : Type 0} (f : A → B) where
-  pub map_none : (o : Option A) → map f o ≡ none → o ≡ none
-  map_none none e = refl
-  map_none (some a) e = absurd (let z : ◌≡◌ {A = ℕ} 0 1 = cc in omega arith)
+  pub map_none : (o : Option A) → option_map f o ≡ None → o ≡ None
+  map_none None e = refl
+  map_none (Some a) e = absurd (let z : ◌≡◌ {A = ℕ} 0 1 = cc in omega arith)
 
-  pub map_some : (P : B → Type 0) → ((a : A) → P (f a)) → (o : Option A) (b : B) → map f o ≡ some b → P b
-  map_some P h none b e = absurd (let z : ◌≡◌ {A = ℕ} 0 1 = cc in omega arith)
-  map_some P h (some a) b e = let p : f a ≡ b = cc in subst P p (h a)
+  pub map_some : (P : B → Type 0) → ((a : A) → P (f a)) → (o : Option A) (b : B) → option_map f o ≡ Some b → P b
+  map_some P h None b e = absurd (let z : ◌≡◌ {A = ℕ} 0 1 = cc in omega arith)
+  map_some P h (Some a) b e = let p : f a ≡ b = cc in subst P p (h a)
 
 module _ (create : Bool) (pattern kinds objects named : List ℕ) where
   -- no refusal of 1, 3, 4 and 5
   pub record Checked : Type 0 where
     pub lengths : T (lengths_fit create pattern kinds objects named)
     pub cells : T (declared kinds objects)
-    pub rows : bad_pattern pattern ≡ none
-    pub right : wrong_kind create (kind_in kinds) pattern ≡ none
+    pub rows : bad_pattern pattern ≡ None
+    pub right : wrong_kind create (kind_in kinds) pattern ≡ None
 
-  pub checked : first (refusals create pattern kinds objects named) ≡ none → Checked
+  pub checked : first (refusals create pattern kinds objects named) ≡ None → Checked
   checked e =
       let (limits, e) = first_none _ _ e in
       let (cells, e) = first_none _ _ e in
@@ -136,7 +137,7 @@ module _ (create : Bool) (pattern kinds objects named : List ℕ) where
       }
 
   -- 1, 3, 4 and 5 are not done
-  pub checks_not_done : (answer : Compiled) → first (refusals create pattern kinds objects named) ≡ some answer → NotDone answer
+  pub checks_not_done : (answer : Compiled) → first (refusals create pattern kinds objects named) ≡ Some answer → NotDone answer
   checks_not_done =
       first_some NotDone _ _ (when_some NotDone (not (lengths_fit create pattern kinds objects named)) Limit λ words e. let z : ◌≡◌ {A = ℕ} 0 1 = cc in omega arith)
       (first_some NotDone _ _ (when_some NotDone (not (declared kinds objects)) BadStore λ words e. let z : ◌≡◌ {A = ℕ} 0 1 = cc in omega arith)
@@ -172,5 +173,5 @@ module _ (create : Bool) (pattern kinds objects named : List ℕ) where
 
       by_refusal : (o : Option Compiled) → first (refusals create pattern kinds objects named) ≡ o → (compile_by create pattern kinds objects named o code).answer ≡ Done words
           → Compiles words (compile_by create pattern kinds objects named o code).code
-      by_refusal (some answer) q e = absurd (checks_not_done answer q words e)
-      by_refusal none q e = by_emission (emitted create pattern kinds objects named) (checked q) refl e
+      by_refusal (Some answer) q e = absurd (checks_not_done answer q words e)
+      by_refusal None q e = by_emission (emitted create pattern kinds objects named) (checked q) refl e

@@ -1,7 +1,7 @@
 -- The words of compiled code pass run's check, and are read as the lines that they were written for.
 use mathlib.Core.Path.{◌≡◌, refl, ap}
 use mathlib.Core.Bool.{◌&&◌}
-use mathlib.Core.Option.{none}
+use Rattle.std.specs.Prelude.{None}
 use mathlib.Core.List.{List, [], ◌∷◌, map}
 use Prim.Native.Nat.{ℕ, zero, suc, ◌<◌}
 use native.Mathlib.Omega.{arith}
@@ -58,7 +58,7 @@ module _ (kind : ℕ → ℕ) where
   good_words (x ∷ lines) h (suc i) l = good_words lines h.1 i (omega arith)
 
   -- run's check 9 passes
-  pub compiled_words_good : (lines : List Line) → AllInRange kind lines → bad_word kind (code_words lines) ≡ none
+  pub compiled_words_good : (lines : List Line) → AllInRange kind lines → bad_word kind (code_words lines) ≡ None
   compiled_words_good lines h = (no_bad_word_iff kind (code_words lines)).1 (good_words lines h)
 
   -- and the words are the same instructions again

@@ -1,7 +1,8 @@
 -- The run of compiled code on valid stores with those set cells, and enough room: finished with what the figures give, or stuck where they give nothing.
 use mathlib.Core.Path.{◌≡◌, refl, sym, ◌∙◌, ap, subst}
 use mathlib.Core.Bool.{Bool, true, false}
-use mathlib.Core.Option.{Option, none, some, map}
+use Rattle.std.specs.Prelude.{Option, None, Some}
+use Rattle.std.specs.Option.{option_map}
 use mathlib.Core.List.{List}
 use Prim.Native.Nat.{ℕ}
 use native.Mathlib.Omega.{arith}
@@ -52,12 +53,12 @@ use Rattle.calls.proofs.RunLaws.{run_steps, valid_passes}
 use Rattle.calls.proofs.SetCells.{set_held, entry_known}
 
 -- compile sees of a cell what the rules see of its term: whether it is set
-set_some : (means : ℕ → Term) (cell : ℕ) → is_set cell ≡ is_some (map means (held cell))
+set_some : (means : ℕ → Term) (cell : ℕ) → is_set cell ≡ is_some (option_map means (held cell))
 set_some means cell = set_held cell ∙ go (held cell)
   where
-    go : (row : Option ℕ) → is_some row ≡ is_some (map means row)
-    go none = refl
-    go (some row) = refl
+    go : (row : Option ℕ) → is_some row ≡ is_some (option_map means row)
+    go None = refl
+    go (Some row) = refl
 
 module _ (x : Lent) where
   abbrev kind : ℕ → ℕ
@@ -97,7 +98,7 @@ module _ (x : Lent) where
 
   -- and for a creation: the accumulator holds the message; the counter is among the stores
   pub data CreateEnds (p : Pattern) (words : ℕ) (code : List ℕ) : RunOutcome → Type 0 where
-    finishes : (t : State row_world) (m : Term) → Steps code t → ValidState kind t → (terms_of t).accumulator ≡ some m
+    finishes : (t : State row_world) (m : Term) → Steps code t → ValidState kind t → (terms_of t).accumulator ≡ Some m
         → Creates kind before p m (terms_of t).stores → CreateEnds p words code (left_by (Ran.Done words) t)
     sticks : (place : ℕ) (reason : Reason) → ((m : Term) (n : TermStores) → Creates kind before p m n → ⊥)
         → CreateEnds p words code (unchanged (Ran.Stuck place reason) x)
@@ -105,7 +106,7 @@ module _ (x : Lent) where
   module _ (p : Pattern) (words : ℕ) (code : List ℕ) where
     match_ends : (m : Term) → RightKinds false kind p → (o o' : Outcome (State row_world)) (o'' : Outcome (State term_world))
         → runs (lines_of code) ≡ o → moved_to 0 o ≡ moved_to 0 o' → SameEnd (Reads kind) o' o''
-        → bind o'' (stores_of term_world) ≡ match term_world kind p (some m) before → MatchEnds p m words code (ended words x o)
+        → bind o'' (stores_of term_world) ≡ match term_world kind p (Some m) before → MatchEnds p m words code (ended words x o)
     match_ends m right (done s) o' o'' comes moved (both_done {a = s'} {b = t'} r) e =
         let same : s ≡ s' = done_inj moved in
         let read : t' ≡ terms_of s = r.1 ∙ ap terms_of (sym same) in
@@ -208,14 +209,14 @@ module _ (create : Bool) (pattern slice : List ℕ) (x : Lent) (a : Valid x) (wo
 
 -- Matching: the accumulator's term is the message.
 module _ (pattern slice : List ℕ) (x : Lent) (a : Valid x) (words : ℕ) where
-  pub matching_demand : (row : ℕ) → held x.accumulator ≡ some row
+  pub matching_demand : (row : ℕ) → held x.accumulator ≡ Some row
       → (compiled_for x false pattern slice).answer ≡ Compiled.Done words → Free words words (state_of x).stores.memory
       → MatchEnds x (pattern_of pattern) (meaning x.terms row) words (code_for x false pattern slice words) (run x (code_for x false pattern slice words))
   unfolding state_over
   matching_demand row set answer free =
       let c = compiled false pattern slice x a words answer free in
       let runs_as = matching_runs term_world (kind x) (pattern_of pattern) (raws_below pattern) (terms_of (state_of x)) (emits false pattern slice x a words answer free) in
-      let message = ap (λ m. match term_world (kind x) (pattern_of pattern) m (before x)) (ap (map (meaning x.terms)) set) in
+      let message = ap (λ m. match term_world (kind x) (pattern_of pattern) m (before x)) (ap (option_map (meaning x.terms)) set) in
       rw (steps false pattern slice x a words answer free)
       (match_ends x (pattern_of pattern) words (code_for x false pattern slice words) (meaning x.terms row) c.right _ _ _
       (written false pattern slice x a words answer free) (moved false pattern slice x a words answer free)

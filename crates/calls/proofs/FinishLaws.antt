@@ -1,7 +1,7 @@
 -- A run of good words that ends leaves a valid state, whose used rows are those before its first zero row.
 use Prim.Native.Nat.{ℕ, zero, suc, ◌<◌}
 use mathlib.Core.Path.{◌≡◌, refl}
-use mathlib.Core.Option.{Option, none, some}
+use Rattle.std.specs.Prelude.{Option, None, Some}
 use mathlib.Core.List.{List, [], ◌∷◌}
 use native.Mathlib.Omega.{arith}
 use lib.Dec.{T}
@@ -34,14 +34,14 @@ module _ (kind : ℕ → ℕ) where
   good_lines place [] good = tt
   good_lines place (word ∷ rest) good = add (instruction_of word) refl (good_lines (suc place) rest λ i l. good (suc i) (omega arith))
     where
-      fits : (i : Instruction) → instruction_of word ≡ some i → T (operands_fit kind i) × ByteFits i
+      fits : (i : Instruction) → instruction_of word ≡ Some i → T (operands_fit kind i) × ByteFits i
       fits i e = good_word_fits kind word i e ((good_iff kind word).1 (good zero (omega arith)))
 
       add : (o : Option Instruction) → instruction_of word ≡ o → All Fits (lines_from (suc place) rest) → All Fits (add_line place o (lines_from (suc place) rest))
-      add (some i) e h = (fits i e, h)
-      add none e h = h
+      add (Some i) e h = (fits i e, h)
+      add None e h = h
 
-module _ (x : Lent) (code : List ℕ) (valid : Valid x) (good : bad_word (kind_in x.kinds) code ≡ none) (t : State row_world) where
+module _ (x : Lent) (code : List ℕ) (valid : Valid x) (good : bad_word (kind_in x.kinds) code ≡ None) (t : State row_world) where
   pub state_valid : exec row_world (kind_in x.kinds) (lines_of code) (state_of x) ≡ done t → ValidState (kind_in x.kinds) t
   state_valid steps =
       done_valid (rw steps at (rows_run_as_terms (kind_in x.kinds) (lines_of code) (state_of x) (terms_of (state_of x))

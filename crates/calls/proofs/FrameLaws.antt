@@ -1,6 +1,6 @@
 -- A round's code taken apart: its words in turn, and the words between INPUT and OUTPUT.
 use mathlib.Core.Path.{◌≡◌, refl, sym, ◌∙◌, ap}
-use mathlib.Core.Option.{Option, none, some}
+use Rattle.std.specs.Prelude.{Option, None, Some}
 use mathlib.Core.List.{List, [], ◌∷◌, ◌++◌, map}
 use Prim.Native.Nat.{ℕ, suc, ◌+◌, ◌-◌, ◌<◌, ◌≤◌}
 use native.Mathlib.Nat.{add-zero, add-suc, suc-add}
@@ -17,8 +17,8 @@ use Rattle.calls.specs.Run.{add_line, lines_from, lines_of}
 use Rattle.calls.specs.Frame.{output_word, framed, middle}
 
 add_append : (place : ℕ) (o : Option Instruction) (a b : List Line) → add_line place o (a ++ b) ≡ add_line place o a ++ b
-add_append place (some i) a b = refl
-add_append place none a b = refl
+add_append place (Some i) a b = refl
+add_append place None a b = refl
 
 -- the lines of words in turn
 pub lines_append : (place : ℕ) (a b : List ℕ) → lines_from place (a ++ b) ≡ lines_from place a ++ lines_from (place + length a) b
@@ -29,8 +29,8 @@ lines_append place (word ∷ a) b =
     ∙ add_append place (instruction_of word) (lines_from (suc place) a) (lines_from (place + suc (length a)) b)
 
 later_add : (first place : ℕ) (o : Option Instruction) (a : List Line) → map (later_line first) (add_line place o a) ≡ add_line (first + place) o (map (later_line first) a)
-later_add first place (some i) a = refl
-later_add first place none a = refl
+later_add first place (Some i) a = refl
+later_add first place None a = refl
 
 -- the lines of words further on
 pub lines_later : (first place : ℕ) (words : List ℕ) → lines_from (first + place) words ≡ map (later_line first) (lines_from place words)
@@ -66,8 +66,8 @@ lines_few place [] = omega arith
 lines_few place (word ∷ words) = go (instruction_of word) (lines_few (suc place) words)
   where
     go : (o : Option Instruction) → length (lines_from (suc place) words) ≤ length words → length (add_line place o (lines_from (suc place) words)) ≤ suc (length words)
-    go (some i) few = omega (arith, few)
-    go none few = omega (arith, few)
+    go (Some i) few = omega (arith, few)
+    go None few = omega (arith, few)
 
 module _ (kind : ℕ → ℕ) where
   -- the steps of words from a place on

@@ -1,7 +1,7 @@
 -- A half: what it has passed, the limits of its code, and compile over cells as the half from those that are set.
 use mathlib.Core.Path.{◌≡◌, refl, sym, ◌∙◌, ap}
 use mathlib.Core.Bool.{Bool, true, false, not, ◌&&◌, ◌||◌, and-true}
-use mathlib.Core.Option.{Option, none, some}
+use Rattle.std.specs.Prelude.{Option, None, Some}
 use mathlib.Core.List.{List, [], ◌∷◌}
 use Prim.Native.Nat.{ℕ, zero, suc, ◌+◌, ◌≤◌}
 use native.Mathlib.Nat.{add-zero, zero-add}
@@ -40,10 +40,10 @@ module _ (create : Bool) (rows kinds : List ℕ) (objects : ℕ → Bool) where
   pub record KnownPassed : Type 0 where
     pub lengths : KnownWithin rows kinds
     pub cells : T (declared_known kinds objects)
-    pub rows_good : bad_pattern rows ≡ none
-    pub right : wrong_kind create (kind_in kinds) rows ≡ none
+    pub rows_good : bad_pattern rows ≡ None
+    pub right : wrong_kind create (kind_in kinds) rows ≡ None
 
-  pub known_passed : first (known_refusals create rows kinds objects) ≡ none → KnownPassed
+  pub known_passed : first (known_refusals create rows kinds objects) ≡ None → KnownPassed
   known_passed e =
       let (limits, e) = first_none _ _ e in
       let (cells, e) = first_none _ _ e in
@@ -57,7 +57,7 @@ module _ (create : Bool) (rows kinds : List ℕ) (objects : ℕ → Bool) where
       }
 
   -- 1, 3, 4 and 5 are not done
-  known_not_done : (answer : Compiled) → first (known_refusals create rows kinds objects) ≡ some answer → NotDone answer
+  known_not_done : (answer : Compiled) → first (known_refusals create rows kinds objects) ≡ Some answer → NotDone answer
   known_not_done =
       first_some NotDone _ _ (when_some NotDone (not (known_fit (length rows) (length kinds))) Limit λ words e. let z : ◌≡◌ {A = ℕ} 0 1 = cc in omega arith)
       (first_some NotDone _ _ (when_some NotDone (not (declared_known kinds objects)) BadStore λ words e. let z : ◌≡◌ {A = ℕ} 0 1 = cc in omega arith)
@@ -75,8 +75,8 @@ module _ (create : Bool) (rows kinds : List ℕ) (e : Env) (start : e.next ≡ 0
   half_refuses answer = by_refusal (first (known_refusals create rows kinds e.objects)) refl
     where
       by_refusal : (o : Option Compiled) → first (known_refusals create rows kinds e.objects) ≡ o → half_by o (known_emitted create rows kinds e) ≡ refuse answer → NotDone answer
-      by_refusal (some other) p q = let same : other ≡ answer = cc in rw (← same) (known_not_done create rows kinds e.objects other p)
-      by_refusal none p q =
+      by_refusal (Some other) p q = let same : other ≡ answer = cc in rw (← same) (known_not_done create rows kinds e.objects other p)
+      by_refusal None p q =
           let passed = known_passed create rows kinds e.objects p in
           refusal_not_done (given_refuses create rows kinds passed.lengths.kinds_length (passed_given passed) e start answer q)
 
@@ -91,8 +91,8 @@ module _ (create : Bool) (rows kinds : List ℕ) (e : Env) (start : e.next ≡ 0
   half_done lines e' = by_refusal (first (known_refusals create rows kinds e.objects)) refl
     where
       by_refusal : (o : Option Compiled) → first (known_refusals create rows kinds e.objects) ≡ o → half_by o (known_emitted create rows kinds e) ≡ ok lines e' → HalfDone lines e'
-      by_refusal (some other) p q = absurd (let z : ◌≡◌ {A = ℕ} 0 1 = cc in omega arith)
-      by_refusal none p q =
+      by_refusal (Some other) p q = absurd (let z : ◌≡◌ {A = ℕ} 0 1 = cc in omega arith)
+      by_refusal None p q =
           let passed = known_passed create rows kinds e.objects p in
           record {
             passed = passed;
@@ -143,5 +143,5 @@ module _ (create : Bool) (pattern kinds objects named : List ℕ) (objects_lengt
   compile_half code = rw same_refusals (by_refusal (first (known_refusals create pattern kinds (entry objects named).objects)))
     where
       by_refusal : (o : Option Compiled) → compile_by create pattern kinds objects named o code ≡ finished (half_by o (known_emitted create pattern kinds (entry objects named))) code
-      by_refusal (some answer) = refl
-      by_refusal none = refl
+      by_refusal (Some answer) = refl
+      by_refusal None = refl

@@ -1,7 +1,7 @@
 -- Demand 3, from packed words to the figures: what the run of compiled code comes to is what the rules give.
 use mathlib.Core.Path.{◌≡◌, refl}
 use mathlib.Core.Bool.{Bool, true, false, ◌&&◌}
-use mathlib.Core.Option.{none}
+use Rattle.std.specs.Prelude.{None}
 use mathlib.Core.List.{List}
 use Prim.Native.Nat.{ℕ, ◌≤◌}
 use native.Mathlib.Omega.{arith}
@@ -52,7 +52,7 @@ module _ (create : Bool) (pattern kinds : List ℕ) (kinds_length : length kinds
     pub raws : RawsBelow 64 (pattern_of pattern)
     pub fields : Packed (pattern_of pattern)
 
-  pub given : 1 ≤ length pattern → length pattern ≤ 96 → bad_pattern pattern ≡ none → wrong_kind create (kind_in kinds) pattern ≡ none → Given
+  pub given : 1 ≤ length pattern → length pattern ≤ 96 → bad_pattern pattern ≡ None → wrong_kind create (kind_in kinds) pattern ≡ None → Given
   given least most rows right = record {
     few = omega (arith, pattern_size pattern rows least);
     right = right_kinds pattern rows create (kind_in kinds) least right;

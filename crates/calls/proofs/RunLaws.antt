@@ -2,7 +2,7 @@
 use mathlib.Core.Path.{◌≡◌}
 use mathlib.Core.Logic.{◌↔◌}
 use mathlib.Core.Bool.{Bool}
-use mathlib.Core.Option.{none}
+use Rattle.std.specs.Prelude.{None}
 use mathlib.Core.List.{List}
 use Prim.Native.Nat.{ℕ, ◌≤◌}
 use lib.Dec.{T}
@@ -35,9 +35,9 @@ module _ (x : Lent) where
 -- nothing is refused before the steps
 pub record Passed (x : Lent) (code : List ℕ) : Type 0 where
   pub lengths : T (lengths_fit x code)
-  pub rows : bad_term x.terms x.counter ≡ none
+  pub rows : bad_term x.terms x.counter ≡ None
   pub stores : T (stores_fit x)
-  pub words : bad_word (kind_in x.kinds) code ≡ none
+  pub words : bad_word (kind_in x.kinds) code ≡ None
 
 module _ (x : Lent) (code : List ℕ) where
   pub run_steps : Passed x code → run x code ≡ ended (length code) x (steps_of x code)
@@ -62,7 +62,7 @@ module _ {x : Lent} {code : List ℕ} where
   pub passed_valid : Passed x code → Valid x
   passed_valid p = record { within = ((run_within x code).0 p.lengths).0; table = (valid_table x.terms x.counter).0 p.rows; stores = (stores_valid x).0 p.stores }
 
-  pub valid_passes : Valid x → length code ≤ most_code_words → bad_word (kind_in x.kinds) code ≡ none → Passed x code
+  pub valid_passes : Valid x → length code ≤ most_code_words → bad_word (kind_in x.kinds) code ≡ None → Passed x code
   valid_passes v few good = record {
     lengths = (run_within x code).1 (v.within, few);
     rows = (valid_table x.terms x.counter).1 v.table;

@@ -1,7 +1,7 @@
 -- Compile sees only which cells are set, and of the code slice only its length.
 use mathlib.Core.Path.{◌≡◌, refl, ◌∙◌, ap}
 use mathlib.Core.Bool.{Bool, true, false, cond, not}
-use mathlib.Core.Option.{Option, none, some}
+use Rattle.std.specs.Prelude.{Option, None, Some}
 use mathlib.Core.List.{List, [], ◌∷◌, ◌++◌}
 use Prim.Native.Nat.{ℕ, zero, suc}
 use native.Mathlib.Omega.{arith}
@@ -29,7 +29,7 @@ pub set_held : (cell : ℕ) → is_set cell ≡ is_some (held cell)
 unfolding held
 set_held cell = go (eqb cell unset)
   where
-    go : (b : Bool) → not b ≡ is_some (cond b none (some cell))
+    go : (b : Bool) → not b ≡ is_some (cond b None (Some cell))
     go true = refl
     go false = refl
 
@@ -95,8 +95,8 @@ module _ (create : Bool) (pattern kinds : List ℕ) where
       emitted_same = ap (tables create (kind_in kinds) (pattern_of pattern)) (same_entry objects objects' named named' o n)
 
       by_refusal : (r : Option Compiled) → compile_by create pattern kinds objects named r code ≡ compile_by create pattern kinds objects' named' r code
-      by_refusal (some answer) = refl
-      by_refusal none = ap (λ E. finished E code) emitted_same
+      by_refusal (Some answer) = refl
+      by_refusal None = ap (λ E. finished E code) emitted_same
 
   -- two code slices of one length: the same answer, and the same words written
   pub same_slices : (objects named code code' : List ℕ) → length code ≡ length code'
@@ -105,5 +105,5 @@ module _ (create : Bool) (pattern kinds : List ℕ) where
   same_slices objects named code code' l = by_refusal (first (refusals create pattern kinds objects named))
     where
       by_refusal : (o : Option Compiled) → SameCode code code' (compile_by create pattern kinds objects named o code) (compile_by create pattern kinds objects named o code')
-      by_refusal (some answer) = left
-      by_refusal none = finished_same (emitted create pattern kinds objects named) code code' l
+      by_refusal (Some answer) = left
+      by_refusal None = finished_same (emitted create pattern kinds objects named) code code' l

@@ -1,7 +1,7 @@
 -- The cells that a finished run leaves are its last state again.
 use Prim.Native.Nat.{ℕ, zero, ◌<◌, ◌≤◌}
 use mathlib.Core.Path.{◌≡◌, refl, sym, ◌∙◌, fun_ext}
-use mathlib.Core.Option.{Option, none, some}
+use Rattle.std.specs.Prelude.{Option, None, Some}
 use mathlib.Core.List.{List}
 use native.Mathlib.Nat.{zero-add}
 use native.Mathlib.Omega.{arith}
@@ -28,17 +28,17 @@ use Rattle.calls.proofs.ValidLent.{tagged}
 use Rattle.calls.proofs.ValidAgain.{length_cells, get_or_cells, held_back}
 use Rattle.calls.proofs.FinishLaws.{good_lines, state_valid}
 
-none_held : held unset ≡ none
+none_held : held unset ≡ None
 unfolding held
 none_held = refl
 
 -- past a list of cells nothing is held
-past_cells : (cells : List ℕ) (i : ℕ) → length cells ≤ i → held (get_or cells i unset) ≡ none
+past_cells : (cells : List ℕ) (i : ℕ) → length cells ≤ i → held (get_or cells i unset) ≡ None
 past_cells cells i long = rw (get_or-eq_default cells unset long) none_held
 
 -- the cells of a store, and past them none
 module _ (P : ℕ → Type 0) (small : (row : ℕ) → P row → row < unset) (count : ℕ) (store : ℕ → Option ℕ) (fits : (i : ℕ) → Held P (store i))
-    (past : (i : ℕ) → count ≤ i → store i ≡ none) where
+    (past : (i : ℕ) → count ≤ i → store i ≡ None) where
   store_back : (i : ℕ) → held (get_or (cells_from 0 count store) i unset) ≡ store i
   store_back i = go (dec_lt i count)
     where
@@ -67,24 +67,24 @@ module _ {x : Lent} {code : List ℕ} (p : Passed x code) (t : State row_world) 
   small row used = let l = row_small last_valid.table row used in omega arith
 
   -- a variable past the kinds is undeclared, and no row has kind 0
-  object_past : (o : ℕ) → variables ≤ o → t.stores.σ o ≡ none
+  object_past : (o : ℕ) → variables ≤ o → t.stores.σ o ≡ None
   object_past o over = go (t.stores.σ o) (last_valid.objects o)
     where
-      go : (cell : Option ℕ) → Held (HasTag t.stores.memory (kind_in x.kinds o)) cell → cell ≡ none
-      go none h = refl
-      go (some row) h =
+      go : (cell : Option ℕ) → Held (HasTag t.stores.memory (kind_in x.kinds o)) cell → cell ≡ None
+      go None h = refl
+      go (Some row) h =
           absurd (tagged last_valid.table.table row (let c = last_valid.table.counted in omega (arith, h.0))
           (h.1 ∙ get_or-eq_default x.kinds 0 (let l = (passed_valid p).within.kinds in omega arith)))
 
   -- nothing is put past the named cells, nor past the scratch
-  named_past : (r : ℕ) → named_cells ≤ r → t.stores.ρ r ≡ none
+  named_past : (r : ℕ) → named_cells ≤ r → t.stores.ρ r ≡ None
   unfolding state_over store_of
   named_past r past =
       let named = take named_cells x.messages in
       let long : length named ≤ r = omega (arith, length-take-le named_cells x.messages (omega (arith, (passed_valid p).within.messages))) in
       leaves.past r past ∙ past_cells named r long
 
-  scratch_past : (i : ℕ) → scratch_cells ≤ i → t.scratches i ≡ none
+  scratch_past : (i : ℕ) → scratch_cells ≤ i → t.scratches i ≡ None
   unfolding state_over store_of
   scratch_past i past =
       let fit = good_lines (kind_in x.kinds) zero code ((no_bad_word_iff (kind_in x.kinds) code).0 p.words) in
@@ -93,8 +93,8 @@ module _ {x : Lent} {code : List ℕ} (p : Passed x code) (t : State row_world) 
       scratch_kept (kind_in x.kinds) (lines_of code) fit (state_of x) t steps i past ∙ past_cells scratch i long
 
   used : (kind : ℕ) (cell : Option ℕ) → Held (HasTag t.stores.memory kind) cell → Held (IsUsed t.stores.memory) cell
-  used kind none h = tt
-  used kind (some row) h = h.0
+  used kind None h = tt
+  used kind (Some row) h = h.0
 
   module _ (answer : Ran) where
     object_back : (o : ℕ) → store_of (left_by answer t).objects o ≡ t.stores.σ o

@@ -1,8 +1,8 @@
 -- Straight from the pattern is compile, then run.
 use mathlib.Core.Path.{◌≡◌, refl, sym, ◌∙◌, ap}
 use mathlib.Core.Bool.{Bool, true, false, not, ◌&&◌, and-true}
-use mathlib.Core.Option
-use mathlib.Core.Option.{Option, none, some}
+use Rattle.std.specs.Option.{option_map}
+use Rattle.std.specs.Prelude.{Option, None, Some}
 use mathlib.Core.List.{List, [], ◌∷◌, ◌++◌, map}
 use Prim.Native.Nat.{ℕ, zero, suc, ◌≤◌}
 use native.Mathlib.Omega.{arith}
@@ -180,14 +180,14 @@ module _ (creates : Bool) (pattern : List ℕ) (x : Lent) where
 
       -- one look of run's after another, then the rules
       by_looks : (a b : Bool) (rows : Option ℕ)
-          → direct_by creates pattern x (first (when (not a) Direct.Limit ∷ Option.map Direct.BadTerm rows ∷ when (not b) Direct.BadStore ∷ []))
+          → direct_by creates pattern x (first (when (not a) Direct.Limit ∷ option_map Direct.BadTerm rows ∷ when (not b) Direct.BadStore ∷ []))
           ≡ ran_outcome creates pattern x
-          (run_by (lent_to_run x) (code_words lines) (first (when (not a) Ran.Limit ∷ Option.map Ran.BadTerm rows ∷ when (not b) Ran.BadStore ∷ none ∷ [])))
+          (run_by (lent_to_run x) (code_words lines) (first (when (not a) Ran.Limit ∷ option_map Ran.BadTerm rows ∷ when (not b) Ran.BadStore ∷ None ∷ [])))
       unfolding first
       by_looks false b rows = sym (left_untouched Ran.Limit)
-      by_looks true b (some term) = sym (left_untouched (Ran.BadTerm term))
-      by_looks true false none = sym (left_untouched Ran.BadStore)
-      by_looks true true none = steps_straight (length (code_words lines))
+      by_looks true b (Some term) = sym (left_untouched (Ran.BadTerm term))
+      by_looks true false None = sym (left_untouched Ran.BadStore)
+      by_looks true true None = steps_straight (length (code_words lines))
 
       few_words : length (code_words lines) ≤ 767
       few_words = omega (arith, length-map lines (λ l. word_of l.instruction), limits.words)
@@ -211,7 +211,7 @@ module _ (creates : Bool) (pattern : List ℕ) (x : Lent) where
     after_compile o = then_run creates pattern x o.answer (compiled_code o)
 
     by_emission : Checked creates pattern x.kinds x.objects x.messages → (E : Emitted) → emitted creates pattern x.kinds x.objects x.messages ≡ E
-        → direct_by creates pattern x (first (Option.map refused_as (first (refused_by E ∷ [])) ∷ store_refusals x)) ≡ after_compile (finished E slice)
+        → direct_by creates pattern x (first (option_map refused_as (first (refused_by E ∷ [])) ∷ store_refusals x)) ≡ after_compile (finished E slice)
     unfolding first
     by_emission c (ok lines e) q = code_straight c lines e q slice long
     by_emission c (refuse answer) q =
@@ -219,13 +219,13 @@ module _ (creates : Bool) (pattern : List ℕ) (x : Lent) where
         (refusal_not_done (checked_refuses creates pattern x.kinds x.objects x.messages (within c).kinds_length c answer q)) _
 
     by_refusal : (o : Option Compiled) → first (refusals creates pattern x.kinds x.objects x.messages) ≡ o
-        → direct_by creates pattern x (first (Option.map refused_as (first (pattern_refusals creates pattern x)) ∷ store_refusals x))
+        → direct_by creates pattern x (first (option_map refused_as (first (pattern_refusals creates pattern x)) ∷ store_refusals x))
         ≡ after_compile (compile_by creates pattern x.kinds x.objects x.messages o slice)
     unfolding first
-    by_refusal (some answer) q =
+    by_refusal (Some answer) q =
         rw (first_before (refusals creates pattern x.kinds x.objects x.messages) _ answer q)
         (refused_back answer (checks_not_done creates pattern x.kinds x.objects x.messages answer q) _)
-    by_refusal none q =
+    by_refusal None q =
         rw (first_behind (refusals creates pattern x.kinds x.objects x.messages) (refused_by (emitted creates pattern x.kinds x.objects x.messages) ∷ []) q)
         (by_emission (checked creates pattern x.kinds x.objects x.messages q) (emitted creates pattern x.kinds x.objects x.messages) refl)
 

@@ -1,7 +1,7 @@
 -- What the product leans on, for what is lent: each theorem once, each proved by citing where it is shown.
 use mathlib.Core.Path.{◌≡◌}
 use mathlib.Core.Bool.{Bool, true, false}
-use mathlib.Core.Option.{some}
+use Rattle.std.specs.Prelude.{Some}
 use mathlib.Core.List.{List}
 use Prim.Native.Nat.{ℕ}
 use lib.ListN.{length}
@@ -35,7 +35,7 @@ sees_slice_length create pattern kinds = same_slices create pattern kinds
 
 -- Demand 3, from packed words to the figures, for what is lent and good and as many free rows and names as code words: the run of the words that compile wrote
 -- finishes with stores (and message and counter) that the figures give, and gets stuck only where they give nothing. It is never out of room.
-pub demand_3_matching : (pattern slice : List ℕ) (x : Lent) → Valid x → (words row : ℕ) → held x.accumulator ≡ some row
+pub demand_3_matching : (pattern slice : List ℕ) (x : Lent) → Valid x → (words row : ℕ) → held x.accumulator ≡ Some row
     → (compiled_for x false pattern slice).answer ≡ Done words → Free words words (state_of x).stores.memory
     → MatchEnds x (pattern_of pattern) (meaning x.terms row) words (code_for x false pattern slice words) (run x (code_for x false pattern slice words))
 demand_3_matching = matching_demand

@@ -1,6 +1,6 @@
 -- After a finished run what was lent is good again.
 use mathlib.Core.Path.{◌≡◌, refl, ◌∙◌, ap, subst}
-use mathlib.Core.Option.{Option, none, some}
+use Rattle.std.specs.Prelude.{Option, None, Some}
 use mathlib.Core.List.{List, ◌++◌}
 use Prim.Native.Nat.{ℕ, zero, suc, ◌+◌, ◌<◌, ◌≤◌}
 use native.Mathlib.Nat.{zero-add, add-zero, add-suc, suc-add}
@@ -40,8 +40,8 @@ get_or_cells n (suc count) store (suc i) h = get_or_cells (suc n) count store i 
 -- what a cell holds is what was put there, if it is a row below 65,535
 pub held_back : (P : ℕ → Type 0) → ((row : ℕ) → P row → row < unset) → (cell : Option ℕ) → Held P cell → held (cell_of cell) ≡ cell
 unfolding held cell_of
-held_back P small none h = refl
-held_back P small (some row) h = rw (ne_eqb row 65535 (λ e. omega (arith, small row h)))
+held_back P small None h = refl
+held_back P small (Some row) h = rw (ne_eqb row 65535 (λ e. omega (arith, small row h)))
 
 held_cell : (P : ℕ → Type 0) → ((row : ℕ) → P row → row < unset) → (cell : Option ℕ) → Held P cell → Held P (held (cell_of cell))
 held_cell P small cell h = rw (held_back P small cell h) h

@@ -2,7 +2,7 @@
 use mathlib.Core.Path.{◌≡◌, refl, ◌∙◌}
 use mathlib.Core.Logic.{◌↔◌, ◌⊎◌, inl, inr, ⊎_elim}
 use mathlib.Core.Bool.{Bool, true, false, cond, not}
-use mathlib.Core.Option.{none, some}
+use Rattle.std.specs.Prelude.{None, Some}
 use mathlib.Core.List.{List}
 use Prim.Native.Nat.{ℕ, ◌+◌, ◌<◌, ◌≤◌}
 use native.Mathlib.Omega.{arith}
@@ -27,7 +27,7 @@ pub cell_held : (used cell : ℕ) → UnsetOrUsed used cell ↔ Held (λ row. ro
 unfolding held
 cell_held used cell = go (eqb cell unset) (equals cell unset)
   where
-    go : (b : Bool) → T b ↔ (cell ≡ unset) → UnsetOrUsed used cell ↔ Held (λ row. row < used) (cond b none (some cell))
+    go : (b : Bool) → T b ↔ (cell ≡ unset) → UnsetOrUsed used cell ↔ Held (λ row. row < used) (cond b None (Some cell))
     go true e = (λ _. tt, λ _. inl (e.0 tt))
     go false e = (⊎_elim (λ u. absurd (e.1 u)) (λ h. h), inr)
 
@@ -38,7 +38,7 @@ unfolding held
 object_held rows used kind cell known = go (eqb cell unset) (equals cell unset)
   where
     go : (b : Bool) → T b ↔ (cell ≡ unset)
-        → (UndeclaredUnset kind cell × HoldsKind rows used kind cell) ↔ Held (λ row. (row < used) × (tag_of (get_or rows row 0) ≡ kind)) (cond b none (some cell))
+        → (UndeclaredUnset kind cell × HoldsKind rows used kind cell) ↔ Held (λ row. (row < used) × (tag_of (get_or rows row 0) ≡ kind)) (cond b None (Some cell))
     go true e = (λ _. tt, λ _. (λ _. e.0 tt, λ set. absurd (set (e.0 tt))))
     go false e = (λ h. h.1 e.1, λ g. (λ z. absurd (known cell g.0 (g.1 ∙ z)), λ _. g))
 

@@ -1,7 +1,7 @@
 -- Compile's answer: it looks in the order 1, 3, 4, 5, then 6 and 7 by emission, then 8.
 use Rattle.std.specs.Prelude.{ℕ, Bool, true, false, cond, not, ◌&&◌, ◌≡◌, List, [], ◌∷◌, ◌++◌, map, length, get_or, take, drop, eqb, leb}
-use Rattle.std.proofs.Math.Option
-use Rattle.std.proofs.Math.Option.{Option, none, some}
+use Rattle.std.specs.Option.{option_map}
+use Rattle.std.specs.Prelude.{Option, None, Some}
 use Rattle.numbers.specs.Kinds.{kind_in}
 use Rattle.numbers.specs.Limits.{variables, most_pattern_rows}
 use Rattle.answers.specs.First.{when, first}
@@ -74,8 +74,8 @@ module _ (create : Bool) (pattern kinds objects named : List ℕ) where
   refusals =
       when (not lengths_fit) Limit
       ∷ when (not (declared kinds objects)) BadStore
-      ∷ Option.map BadPattern (bad_pattern pattern)
-      ∷ Option.map WrongKind (wrong_kind create (kind_in kinds) pattern)
+      ∷ option_map BadPattern (bad_pattern pattern)
+      ∷ option_map WrongKind (wrong_kind create (kind_in kinds) pattern)
       ∷ []
 
   -- 6 and 7
@@ -83,8 +83,8 @@ module _ (create : Bool) (pattern kinds objects named : List ℕ) where
   emitted = tables create (kind_in kinds) (pattern_of pattern) (entry objects named)
 
   abbrev pub compile_by : Option Compiled → List ℕ → CompileOutcome
-  compile_by (some answer) code = leaves answer code
-  compile_by none code = finished emitted code
+  compile_by (Some answer) code = leaves answer code
+  compile_by None code = finished emitted code
 
   unfoldable pub compile : List ℕ → CompileOutcome
   compile code = compile_by (first refusals) code

@@ -1,6 +1,7 @@
 -- Straight from the pattern: compile's refusals but for 8, then run's 1, 2 and 3, then the rules of figures 2 and 3 at rows. Any answer but 0 leaves the values on entry.
 use Rattle.std.specs.Prelude.{ℕ, Bool, true, false, not, ◌&&◌, List, [], ◌∷◌, ◌++◌, length, leb}
-use Rattle.std.proofs.Math.Option.{Option, none, some, map}
+use Rattle.std.specs.Prelude.{Option, None, Some}
+use Rattle.std.specs.Option.{option_map}
 use Rattle.answers.specs.First.{when, first}
 use Rattle.answers.specs.Numbers.{reason_of}
 use Rattle.answers.specs.declared.Compiled.{Compiled}
@@ -47,8 +48,8 @@ refused_as (Compiled.ReadWhileUnset row) = ReadWhileUnset row
 refused_as (Compiled.CodeTooShort words) = Done
 
 abbrev pub refused_by : Emitted → Option Compiled
-refused_by (ok lines e) = none
-refused_by (refuse answer) = some answer
+refused_by (ok lines e) = None
+refused_by (refuse answer) = Some answer
 
 -- what the rules give: a message, and the stores
 abbrev pub direct_ends : Lent → Outcome (ℕ × Stores row_world) → DirectOutcome
@@ -71,7 +72,7 @@ module _ (x : Lent) where
   abbrev pub store_refusals : List (Option Direct)
   store_refusals =
       when (not table_fits) Limit
-      ∷ map BadTerm (bad_term x.terms x.counter)
+      ∷ option_map BadTerm (bad_term x.terms x.counter)
       ∷ when
       (not (valid x.terms (used_rows x.terms) x.kinds x.objects x.messages x.certificates x.accumulator))
       BadStore
@@ -90,8 +91,8 @@ module _ (creates : Bool) (pattern : List ℕ) (x : Lent) where
   ruled false = bind (match row_world (kind_in x.kinds) (pattern_of pattern) (held x.accumulator) (state_of x).stores) λ n. done (x.accumulator, n)
 
   abbrev pub direct_by : Option Direct → DirectOutcome
-  direct_by (some answer) = as_given answer x
-  direct_by none = direct_ends x (ruled creates)
+  direct_by (Some answer) = as_given answer x
+  direct_by None = direct_ends x (ruled creates)
 
   unfoldable pub direct : DirectOutcome
-  direct = direct_by (first (map refused_as (first pattern_refusals) ∷ store_refusals x))
+  direct = direct_by (first (option_map refused_as (first pattern_refusals) ∷ store_refusals x))

@@ -1,6 +1,6 @@
 -- A round's code: INPUT, the matching code, the creating code, OUTPUT. INPUT and OUTPUT are a frame around code and no instructions.
 use Rattle.std.specs.Prelude.{ℕ, suc, ◌-◌, ◌^◌, Bool, cond, not, List, [], ◌∷◌, ◌++◌, length, take, drop, eqb}
-use Rattle.std.proofs.Math.Option.{Option}
+use Rattle.std.specs.Prelude.{Option}
 use Rattle.word.specs.Lowest.{lowest}
 use Rattle.code.specs.Words.{good_word}
 

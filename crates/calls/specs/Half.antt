@@ -1,6 +1,7 @@
 -- A half of a round, from which cells are set: its own 1, 3, 4, 5, then 6 and 7 by emission. A pattern that is compiled alone is one half.
 use Rattle.std.specs.Prelude.{ℕ, zero, suc, Bool, true, not, ◌&&◌, ◌||◌, List, [], ◌∷◌, length, eqb, leb}
-use Rattle.std.proofs.Math.Option.{Option, none, some, map}
+use Rattle.std.specs.Prelude.{Option, None, Some}
+use Rattle.std.specs.Option.{option_map}
 use Rattle.numbers.specs.Kinds.{kind_in}
 use Rattle.numbers.specs.Limits.{variables, most_pattern_rows}
 use Rattle.answers.specs.First.{when, first}
@@ -31,8 +32,8 @@ abbrev pub known_refusals : Bool → List ℕ → List ℕ → (ℕ → Bool) �
 known_refusals create rows kinds objects =
     when (not (known_fit (length rows) (length kinds))) Limit
     ∷ when (not (declared_known kinds objects)) BadStore
-    ∷ map BadPattern (bad_pattern rows)
-    ∷ map WrongKind (wrong_kind create (kind_in kinds) rows)
+    ∷ option_map BadPattern (bad_pattern rows)
+    ∷ option_map WrongKind (wrong_kind create (kind_in kinds) rows)
     ∷ []
 
 -- 6 and 7
@@ -40,8 +41,8 @@ abbrev pub known_emitted : Bool → List ℕ → List ℕ → Env → Emitted
 known_emitted create rows kinds e = tables create (kind_in kinds) (pattern_of rows) e
 
 abbrev pub half_by : Option Compiled → Emitted → Emitted
-half_by (some answer) E = refuse answer
-half_by none E = E
+half_by (Some answer) E = refuse answer
+half_by None E = E
 
 unfoldable pub half : Bool → List ℕ → List ℕ → Env → Emitted
 half create rows kinds e = half_by (first (known_refusals create rows kinds e.objects)) (known_emitted create rows kinds e)

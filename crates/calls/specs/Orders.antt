@@ -1,6 +1,6 @@
 -- The order in which 6 and 7 are looked at, a field for each row of document 01's forms, and other places where a definition is easily got wrong.
 use Rattle.std.specs.Prelude.{ℕ, ◌≡◌, Bool, true, false, List, [], ◌∷◌, ◌++◌, get_or, replicate}
-use Rattle.std.proofs.Math.Option.{Option, none, some}
+use Rattle.std.specs.Prelude.{Option, None, Some}
 use Rattle.word.specs.Lowest.{one_of}
 use Rattle.answers.specs.declared.Compiled.{Compiled}
 use Rattle.answers.specs.declared.Compiled.TheVariants.{Done, BadPattern, WrittenWhileSet, ReadWhileUnset}
@@ -20,8 +20,8 @@ kind_of v = get_or (0 ∷ 1 ∷ 2 ∷ 3 ∷ 4 ∷ 5 ∷ 6 ∷ 7 ∷ 8 ∷ 9 ∷ 
 
 -- what a pattern is refused with where these object and raw variables are set
 abbrev pub refusal_of : Emitted → Option Compiled
-refusal_of (ok lines e) = none
-refusal_of (refuse answer) = some answer
+refusal_of (ok lines e) = None
+refusal_of (refuse answer) = Some answer
 
 abbrev pub refused : Bool → Pattern → List ℕ → List ℕ → Option Compiled
 refused create p objects raws =
@@ -36,37 +36,37 @@ only p = part p end
 
 pub record Orders : Type 0 where
   -- v: 7 unless set or creatable
-  pub object_created : (refused true (object 1 3) [] [] ≡ some (ReadWhileUnset 1)) × (refused true (object 1 2) [] [] ≡ none)
+  pub object_created : (refused true (object 1 3) [] [] ≡ Some (ReadWhileUnset 1)) × (refused true (object 1 2) [] [] ≡ None)
   -- r: 7r
-  pub raw_created : refused true (raw 1 0) [] [] ≡ some (ReadWhileUnset 1)
+  pub raw_created : refused true (raw 1 0) [] [] ≡ Some (ReadWhileUnset 1)
   -- c : C: 6c
-  pub constant_matched : refused false (constant 1 1 5) (1 ∷ []) [] ≡ some (WrittenWhileSet 1)
+  pub constant_matched : refused false (constant 1 1 5) (1 ∷ []) [] ≡ Some (WrittenWhileSet 1)
   -- k : op(K): 7K 6k; created (CREATE K) 6k
-  pub op_matched : (refused false (opposite 1 4 5) (4 ∷ []) [] ≡ some (ReadWhileUnset 1)) × (refused true (opposite 1 4 5) (4 ∷ []) [] ≡ some (WrittenWhileSet 1))
+  pub op_matched : (refused false (opposite 1 4 5) (4 ∷ []) [] ≡ Some (ReadWhileUnset 1)) × (refused true (opposite 1 4 5) (4 ∷ []) [] ≡ Some (WrittenWhileSet 1))
   -- k : keyOf(a): 6k 7a; created 7a 6k
-  pub key_of_both : (refused false (key_of 1 4 3) (4 ∷ []) [] ≡ some (WrittenWhileSet 1)) × (refused true (key_of 1 4 3) (4 ∷ []) [] ≡ some (ReadWhileUnset 1))
+  pub key_of_both : (refused false (key_of 1 4 3) (4 ∷ []) [] ≡ Some (WrittenWhileSet 1)) × (refused true (key_of 1 4 3) (4 ∷ []) [] ≡ Some (ReadWhileUnset 1))
   -- E(x, p): 6e 7x <1>; created 7x <1> 6e
-  pub encryption_matched : (refused false (encryption 1 7 (plain_key 5) bad) (7 ∷ 11 ∷ []) [] ≡ some (WrittenWhileSet 1))
-      × (refused false (encryption 1 7 (plain_key 5) bad) (11 ∷ []) [] ≡ some (ReadWhileUnset 1))
-  pub encryption_created : (refused true (encryption 1 7 (plain_key 4) bad) (7 ∷ 11 ∷ []) [] ≡ some (ReadWhileUnset 1))
-      × (refused true (encryption 1 7 (plain_key 4) bad) (4 ∷ 7 ∷ 11 ∷ []) [] ≡ some (WrittenWhileSet 0))
+  pub encryption_matched : (refused false (encryption 1 7 (plain_key 5) bad) (7 ∷ 11 ∷ []) [] ≡ Some (WrittenWhileSet 1))
+      × (refused false (encryption 1 7 (plain_key 5) bad) (11 ∷ []) [] ≡ Some (ReadWhileUnset 1))
+  pub encryption_created : (refused true (encryption 1 7 (plain_key 4) bad) (7 ∷ 11 ∷ []) [] ≡ Some (ReadWhileUnset 1))
+      × (refused true (encryption 1 7 (plain_key 4) bad) (4 ∷ 7 ∷ 11 ∷ []) [] ≡ Some (WrittenWhileSet 0))
   -- E(k : op(K), p), created: (CREATE K) 6k <1> 6e
-  pub encryption_op : refused true (encryption 1 7 (op_key 4 5) bad) (4 ∷ 11 ∷ []) [] ≡ some (WrittenWhileSet 1)
+  pub encryption_op : refused true (encryption 1 7 (op_key 4 5) bad) (4 ∷ 11 ∷ []) [] ≡ Some (WrittenWhileSet 1)
   -- E(k : keyOf(a), p), created: 7a 6k <1> 6e
-  pub encryption_key_of : refused true (encryption 1 7 (certified_key 4 3) bad) (4 ∷ 11 ∷ []) [] ≡ some (ReadWhileUnset 1)
+  pub encryption_key_of : refused true (encryption 1 7 (certified_key 4 3) bad) (4 ∷ 11 ∷ []) [] ≡ Some (ReadWhileUnset 1)
   -- S(x, r): 6s 7x 7r; created (CREATE x) 7r 6s
-  pub signature_both : (refused false (signature 1 8 (plain_key 4) 0) (8 ∷ []) [] ≡ some (WrittenWhileSet 1)) × (refused true (signature 1 8 (plain_key 5) 0) (8 ∷ []) [] ≡ some (ReadWhileUnset 1))
+  pub signature_both : (refused false (signature 1 8 (plain_key 4) 0) (8 ∷ []) [] ≡ Some (WrittenWhileSet 1)) × (refused true (signature 1 8 (plain_key 5) 0) (8 ∷ []) [] ≡ Some (ReadWhileUnset 1))
   -- S(k : op(K), r): 6s 7K 6k 7r
-  pub signature_op : (refused false (signature 1 8 (op_key 4 5) 0) (4 ∷ []) [] ≡ some (ReadWhileUnset 1)) × (refused false (signature 1 8 (op_key 4 5) 0) (4 ∷ 5 ∷ []) [] ≡ some (WrittenWhileSet 1))
+  pub signature_op : (refused false (signature 1 8 (op_key 4 5) 0) (4 ∷ []) [] ≡ Some (ReadWhileUnset 1)) × (refused false (signature 1 8 (op_key 4 5) 0) (4 ∷ 5 ∷ []) [] ≡ Some (WrittenWhileSet 1))
   -- S(k : keyOf(a), r): 6s 7a 6k 7r
-  pub signature_key_of : (refused false (signature 1 8 (certified_key 4 3) 0) (4 ∷ []) [] ≡ some (ReadWhileUnset 1))
-      × (refused false (signature 1 8 (certified_key 4 3) 0) (3 ∷ 4 ∷ []) [] ≡ some (WrittenWhileSet 1))
+  pub signature_key_of : (refused false (signature 1 8 (certified_key 4 3) 0) (4 ∷ []) [] ≡ Some (ReadWhileUnset 1))
+      × (refused false (signature 1 8 (certified_key 4 3) 0) (3 ∷ 4 ∷ []) [] ≡ Some (WrittenWhileSet 1))
   -- H(r): 6h 7r; created 7r 6h
-  pub hash_both : (refused false (hash 1 9 0) (9 ∷ []) [] ≡ some (WrittenWhileSet 1)) × (refused true (hash 1 9 0) (9 ∷ []) [] ≡ some (ReadWhileUnset 1))
+  pub hash_both : (refused false (hash 1 9 0) (9 ∷ []) [] ≡ Some (WrittenWhileSet 1)) × (refused true (hash 1 9 0) (9 ∷ []) [] ≡ Some (ReadWhileUnset 1))
   -- t : [..]: 6t <1>..<n>; created <1>..<n> 6t
-  pub tuple_both : (refused false (tuple 1 10 (only bad)) (10 ∷ 11 ∷ []) [] ≡ some (WrittenWhileSet 1)) × (refused true (tuple 1 10 (only bad)) (10 ∷ 11 ∷ []) [] ≡ some (WrittenWhileSet 0))
+  pub tuple_both : (refused false (tuple 1 10 (only bad)) (10 ∷ 11 ∷ []) [] ≡ Some (WrittenWhileSet 1)) × (refused true (tuple 1 10 (only bad)) (10 ∷ 11 ∷ []) [] ≡ Some (WrittenWhileSet 0))
   -- let r = p1 in p2: 6r <2> 7r <1>; created <1> 6r <2>
-  pub let_both : (refused false (let_in 2 0 bad (raw 1 1)) (11 ∷ []) [] ≡ some (ReadWhileUnset 2)) × (refused true (let_in 2 0 bad (raw 1 1)) (11 ∷ []) (0 ∷ []) ≡ some (WrittenWhileSet 0))
+  pub let_both : (refused false (let_in 2 0 bad (raw 1 1)) (11 ∷ []) [] ≡ Some (ReadWhileUnset 2)) × (refused true (let_in 2 0 bad (raw 1 1)) (11 ∷ []) (0 ∷ []) ≡ Some (WrittenWhileSet 0))
 
 pub record Corners : Type 0 where
   -- a tuple of no parts takes no scratch: its B is the next number, which a later form takes

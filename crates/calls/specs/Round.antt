@@ -1,6 +1,7 @@
 -- A round's answer: it looks in the order 1, 2, 3, 9, 14, 13, 12, then steps. Any answer but 0 leaves the values on entry.
 use Rattle.std.specs.Prelude.{ℕ, suc, Bool, not, ◌&&◌, List, [], ◌∷◌, length, eqb, leb}
-use Rattle.std.proofs.Math.Option.{Option, none, some, map}
+use Rattle.std.specs.Prelude.{Option, None, Some}
+use Rattle.std.specs.Option.{option_map}
 use Rattle.numbers.specs.Kinds.{kind_in}
 use Rattle.numbers.specs.Limits.{variables, message_cells, most_term_rows, most_certificates, most_names, most_rounds, most_round_words}
 use Rattle.answers.specs.First.{when, first}
@@ -90,9 +91,9 @@ module _ (x : RoundLent) (code : List ℕ) where
   abbrev pub round_refusals : List (Option Rounded)
   round_refusals =
       when (not round_lengths_fit) (Ran Limit)
-      ∷ map (λ row. Ran (BadTerm row)) (bad_term x.terms x.session.counter)
+      ∷ option_map (λ row. Ran (BadTerm row)) (bad_term x.terms x.session.counter)
       ∷ when (not record_fits) (Ran BadStore)
-      ∷ map (λ word. Ran (BadWord word)) (bad_round_word (kind_in x.kinds) code)
+      ∷ option_map (λ word. Ran (BadWord word)) (bad_round_word (kind_in x.kinds) code)
       ∷ when (leb x.rounds x.session.round) RoleEnded
       ∷ when (is_set x.session.answer) NotTaken
       ∷ when (not (is_set x.session.message)) NoMessage
@@ -100,8 +101,8 @@ module _ (x : RoundLent) (code : List ℕ) where
 
   -- the words between INPUT, which is word 0, and OUTPUT
   abbrev pub round_by : Option Rounded → RoundOutcome
-  round_by (some answer) = untouched answer x
-  round_by none = round_ended (length code) x (exec row_world (kind_in x.kinds) (lines_from 1 (middle code)) (state_of (received x)))
+  round_by (Some answer) = untouched answer x
+  round_by None = round_ended (length code) x (exec row_world (kind_in x.kinds) (lines_from 1 (middle code)) (state_of (received x)))
 
   unfoldable pub round : RoundOutcome
   round = round_by (first round_refusals)

@@ -1,6 +1,7 @@
 -- Run's answer: it looks in the order 1, 2, 3, 9, then steps. Any answer but 0 leaves the values on entry.
 use Rattle.std.specs.Prelude.{ℕ, zero, suc, Bool, not, ◌&&◌, List, [], ◌∷◌, ◌++◌, length, take, drop, eqb, leb}
-use Rattle.std.proofs.Math.Option.{Option, none, some, map}
+use Rattle.std.specs.Prelude.{Option, None, Some}
+use Rattle.std.specs.Option.{option_map}
 use Rattle.answers.specs.Numbers.{reason_of}
 use Rattle.answers.specs.declared.Ran.{Ran}
 use Rattle.answers.specs.declared.Ran.TheVariants.{Done, Limit, BadTerm, BadStore, BadWord, Stuck, NoRoom}
@@ -79,8 +80,8 @@ left_by answer s = record {
 
 -- the instructions of code words, each at its number; every word that passed 9 has one
 abbrev pub add_line : ℕ → Option Instruction → List Line → List Line
-add_line place (some instruction) lines = line_at place instruction ∷ lines
-add_line place none lines = lines
+add_line place (Some instruction) lines = line_at place instruction ∷ lines
+add_line place None lines = lines
 
 unfoldable pub lines_from : ℕ → List ℕ → List Line
 lines_from place [] = []
@@ -105,16 +106,16 @@ module _ (x : Lent) (code : List ℕ) where
   abbrev pub refusals : List (Option Ran)
   refusals =
       when (not lengths_fit) Limit
-      ∷ map BadTerm (bad_term x.terms x.counter)
+      ∷ option_map BadTerm (bad_term x.terms x.counter)
       ∷ when
       (not (valid x.terms (used_rows x.terms) x.kinds x.objects x.messages x.certificates x.accumulator))
       BadStore
-      ∷ map BadWord (bad_word (kind_in x.kinds) code)
+      ∷ option_map BadWord (bad_word (kind_in x.kinds) code)
       ∷ []
 
   abbrev pub run_by : Option Ran → RunOutcome
-  run_by (some answer) = unchanged answer x
-  run_by none = ended (length code) x (exec row_world (kind_in x.kinds) (lines_of code) (state_of x))
+  run_by (Some answer) = unchanged answer x
+  run_by None = ended (length code) x (exec row_world (kind_in x.kinds) (lines_of code) (state_of x))
 
   unfoldable pub run : RunOutcome
   run = run_by (first refusals)

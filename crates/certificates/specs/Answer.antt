@@ -1,10 +1,9 @@
 -- The code's answer for an agent.
 use Rattle.std.specs.Prelude.{ℕ}
-use Rattle.std.proofs.Math.Option.{Option, none, some}
+use Rattle.std.specs.Prelude.{Option, None, Some}
 use Rattle.numbers.specs.Sorts.{as_term_row}
-use Rattle.certificates.specs.declared.Certificate.{Certificate}
-use Rattle.certificates.specs.declared.Certificate.TheVariants.{Key, None}
+use Rattle.numbers.specs.declared.TermRow.{TermRow}
 
-abbrev pub certificate_of : Option ℕ → Certificate
-certificate_of (some row) = Key (as_term_row row)
-certificate_of none = None
+abbrev pub certificate_of : Option ℕ → Option TermRow
+certificate_of (Some row) = Some (as_term_row row)
+certificate_of None = None

@@ -1,19 +1,12 @@
 // Certificates: agent row 12, public key row 12, zero 40.
 #![tactic(auto)]
 
-ghost use Rattle.std.specs.Prelude.{◌≡◌, not, drop, eqb};
+ghost use Rattle.std.specs.Prelude.{◌≡◌, not, eqb};
 ghost use Rattle.word.specs.Lowest.{each};
 ghost use Rattle.stores.specs.Certificates.{agent_of, key_of, spare_of, certified, agents_once};
 ghost use Rattle.certificates.specs.Answer.{certificate_of};
 
 use numbers::TermRow;
-
-// What the certificates say of an agent: its public key's row, or nothing.
-#[derive(Clone, Copy)]
-pub enum Certificate {
-    Key(TermRow),
-    None,
-}
 
 pub fn agent(word: u64) -> TermRow
     ensures { result.0 ≡ agent_of word }
@@ -34,43 +27,30 @@ pub fn spare(word: u64) -> u64
 }
 
 // The public key row of an agent row.
-pub fn certified(certificates: &[u64], agent: TermRow) -> Certificate
+pub fn certified(certificates: &[u64], agent: TermRow) -> Option<TermRow>
     ensures { result ≡ certificate_of (certified certificates.now agent.0) }
 {
-    let mut i = 0;
-    while i < certificates.len() {
-        let word = certificates[i];
-        if self::agent(word).0 == agent.0 {
-            return Certificate::Key(key(word));
+    for &word in certificates {
+        if self::agent(word) == agent {
+            return Some(key(word));
         }
-        i += 1;
     }
-    Certificate::None
+    None
 }
 
-// An agent stands nowhere among the certificates from a place on.
-fn stands_nowhere(certificates: &[u64], from: usize, agent: TermRow) -> bool
-    ensures { result ≡ each (λ other. not (eqb (agent_of other) agent.0)) (drop from certificates.now) }
+// An agent stands nowhere among certificates.
+fn stands_nowhere(certificates: &[u64], agent: TermRow) -> bool
+    ensures { result ≡ each (λ other. not (eqb (agent_of other) agent.0)) certificates.now }
 {
-    let mut i = from;
-    while i < certificates.len() {
-        if self::agent(certificates[i]).0 == agent.0 {
-            return false;
-        }
-        i += 1;
-    }
-    true
+    certificates.iter().all(|&word| self::agent(word) != agent)
 }
 
-// No agent twice.
+// No agent twice: none stands among the later ones.
 pub fn agents_once(certificates: &[u64]) -> bool
     ensures { result ≡ agents_once certificates.now }
 {
-    let mut i = 0;
-    while i < certificates.len() {
-        let named = agent(certificates[i]);
-        i += 1;
-        if !stands_nowhere(certificates, i, named) {
+    for (i, &word) in certificates.iter().enumerate() {
+        if !stands_nowhere(&certificates[i + 1..], agent(word)) {
             return false;
         }
     }

@@ -9,13 +9,14 @@ ghost use Rattle.chains.specs.Distinct.{distinct_rows};
 
 use finder::equal_row;
 use numbers::limits::MOST_TERM_ROWS;
-use word::Place;
 
 // In fewer rows equal ones are searched for: to clear the arrays of chains takes longer.
 const FEW_ROWS: usize = 32;
 
 // As many chains as there may be rows.
-const CHAINS: u64 = 4096;
+const CHAINS: u64 = MOST_TERM_ROWS as u64;
+// What stands where no row is noted.
+const NO_ROW: u16 = 65535;
 // What the two halves of a row, added, are multiplied by.
 const MIX: u64 = 1327217885;
 
@@ -31,10 +32,10 @@ fn chain_of(word: u64) -> usize
 fn no_rows() -> [u16; MOST_TERM_ROWS]
     ensures { most_term_rows ≡ length result }
 {
-    [65535u16; MOST_TERM_ROWS]
+    [NO_ROW; MOST_TERM_ROWS]
 }
 
-// Whether an earlier row equals a word, by a walk along its chain from the newest row on; it ends where no older row follows.
+// Whether an earlier row equals a word, by a walk along its chain from the newest row on; it ends where no older row follows. A chain is links, no list that could be gone through.
 fn on_chain(rows: &[u64], older: &[u16], newest: u16, row: usize, word: u64) -> bool
     requires row_in_bounds { (row ≤ length rows.now) × (row ≤ length older.now) }
     requires newest { Newest rows.now (chain_of word) row newest × Linked rows.now older.now row }
@@ -59,8 +60,7 @@ fn distinct_by_chains(rows: &[u64], used: usize) -> usize
 {
     let mut newest = no_rows();
     let mut older = no_rows();
-    let mut row: usize = 0;
-    while row < used {
+    for row in 0..used {
         let word = rows[row];
         let chain = chain_of(word);
         let last = newest[chain];
@@ -69,34 +69,27 @@ fn distinct_by_chains(rows: &[u64], used: usize) -> usize
         }
         older[row] = last;
         newest[chain] = row as u16;
-        row += 1;
     }
-    row
+    used
 }
 
 fn earlier_equal(rows: &[u64], row: usize, word: u64) -> bool
     requires { (row ≤ length rows.now) × (length rows.now ≤ most_term_rows) }
     ensures { result ≡ earlier_equal rows.now row word }
 {
-    let place = equal_row(rows, row, word);
-    match place {
-        Place::At(_) => true,
-        Place::Nowhere => false,
-    }
+    equal_row(rows, row, word).is_some()
 }
 
 fn distinct_by_search(rows: &[u64], used: usize) -> usize
     requires { (used ≤ length rows.now) × (length rows.now ≤ most_term_rows) }
     ensures { result ≡ distinct_rows rows.now used }
 {
-    let mut row: usize = 0;
-    while row < used {
+    for row in 0..used {
         if earlier_equal(rows, row, rows[row]) {
             return row;
         }
-        row += 1;
     }
-    row
+    used
 }
 
 // How many of the first rows come before one that equals an earlier row, or else all of them.

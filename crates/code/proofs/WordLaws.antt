@@ -4,7 +4,7 @@ use mathlib.Core.Path.{◌≡◌, refl}
 use mathlib.Core.Logic.Iff
 use mathlib.Core.Logic.{◌↔◌}
 use mathlib.Core.Bool.{not}
-use mathlib.Core.Option.{Option, none, some}
+use Rattle.std.specs.Prelude.{Option, None, Some}
 use mathlib.Core.List.{List, [], ◌∷◌}
 use native.Mathlib.Omega.{arith}
 use borrow.Author.Tests.{eq-eqb}
@@ -38,7 +38,7 @@ apart operation a b n fits-operation fits-a fits-b fits-n =
     rw (is_operation, is_a, is_b, is_n)
 
 -- the instruction of its own word
-pub word_read : (instruction : Instruction) → FieldsFit instruction → instruction_of (word_of instruction) ≡ some instruction
+pub word_read : (instruction : Instruction) → FieldsFit instruction → instruction_of (word_of instruction) ≡ Some instruction
 unfolding word_of
 word_read (Load r) fits = apart 2 r.0 0 0 (omega arith) fits.a fits.b fits.n
 word_read (Store r) fits = apart 3 r.0 0 0 (omega arith) fits.a fits.b fits.n
@@ -62,8 +62,8 @@ unfolding good_word
 good_iff kind word = (is_good (instruction_of word) refl, tests_good)
   where
     is_good : (said : Option Instruction) → instruction_of word ≡ said → T (word_fits kind word said) → GoodWord kind word
-    is_good none e good = absurd good
-    is_good (some instruction) e good =
+    is_good None e good = absurd good
+    is_good (Some instruction) e good =
         let parts = (both (eqb (word_of instruction) word) (operands_fit kind instruction)).0 good in
         record { instruction = instruction; says = e; own = eqb→eq (word_of instruction) word parts.0; operands = parts.1 }
 
@@ -81,10 +81,10 @@ module _ (kind : ℕ → ℕ) (code : List ℕ) where
   not_bad : (place : ℕ) → place < length code → T (not (not (good_word kind (get_or code place 0)))) ↔ GoodWord kind (get_or code place 0)
   not_bad place inside = Iff.trans (twice (good_word kind (get_or code place 0))) (good_iff kind (get_or code place 0))
 
-  pub bad_word_iff : (place : ℕ) → (bad_word kind code ≡ some place) ↔ LowestBadWord kind code place
+  pub bad_word_iff : (place : ℕ) → (bad_word kind code ≡ Some place) ↔ LowestBadWord kind code place
   unfolding bad_word
   bad_word_iff = lowest_bad _ _ code 0 not_bad
 
-  pub no_bad_word_iff : (bad_word kind code ≡ none) ↔ AllGoodWords kind code
+  pub no_bad_word_iff : (bad_word kind code ≡ None) ↔ AllGoodWords kind code
   unfolding bad_word
   no_bad_word_iff = none_bad _ _ code 0 not_bad

@@ -1,6 +1,6 @@
 -- Refusal 9 in the words of document 01.
 use Rattle.std.specs.Prelude.{ℕ, ◌≡◌, List, T, length, get_or}
-use Rattle.std.proofs.Math.Option.{some}
+use Rattle.std.specs.Prelude.{Some}
 use Rattle.word.specs.Lowest.{LowestBad, AllGood}
 use Rattle.code.specs.Instruction.{word_of, instruction_of}
 use Rattle.code.specs.Words.{operands_fit}
@@ -9,7 +9,7 @@ use Rattle.code.specs.declared.Instruction.{Instruction}
 -- a good word: it says an instruction, its unused fields are zero, and its operands are what figure 4 wants
 pub record GoodWord (kind : ℕ → ℕ) (word : ℕ) : Type 0 where
   pub instruction : Instruction
-  pub says : instruction_of word ≡ some instruction
+  pub says : instruction_of word ≡ Some instruction
   pub own : word_of instruction ≡ word
   pub operands : T (operands_fit kind instruction)
 

@@ -1,10 +1,8 @@
 -- An instruction and its word: operation 5, A 8, B 8, n 3, zero 8. Operands go into A, then B.
 use Rattle.std.specs.Prelude.{ℕ, List, [], ◌∷◌, get_or}
-use Rattle.std.proofs.Math.Option.{Option, none, some}
+use Rattle.std.specs.Prelude.{Option, None, Some}
 use Rattle.word.specs.Fields.{split, join, at}
 use Rattle.numbers.specs.Sorts.{as_object, as_raw}
-use Rattle.code.specs.declared.Read.{Read}
-use Rattle.code.specs.declared.Read.TheVariants.{Is, Not}
 use Rattle.code.specs.declared.Instruction.{Instruction}
 use Rattle.code.specs.declared.Instruction.TheVariants.{Load, Store, StoreConst, Decode, Encode, Create, AnalyzeTuple, CreateTuple, Opposite, KeyOf, Match, Encrypt, Decrypt, Sign, Verify, Hash}
 
@@ -37,22 +35,17 @@ word_of instruction = join word_widths (fields_of instruction)
 abbrev pub instruction_by : ℕ → ℕ → ℕ → ℕ → Option Instruction
 instruction_by operation a b n =
     get_or
-    (none ∷ none
-    ∷ some (Load (as_raw a)) ∷ some (Store (as_raw a)) ∷ some (StoreConst (as_object a) b)
-    ∷ some (Decode (as_object a)) ∷ some (Encode (as_object a)) ∷ some (Create (as_object a))
-    ∷ some (AnalyzeTuple (as_object a) (as_raw b) n) ∷ some (CreateTuple (as_object a) (as_raw b) n)
-    ∷ some (Opposite (as_object a) (as_object b)) ∷ some KeyOf ∷ some (Match (as_raw a))
-    ∷ some (Encrypt (as_object a)) ∷ some (Decrypt (as_object a)) ∷ some (Sign (as_object a))
-    ∷ some (Verify (as_object a) (as_raw b)) ∷ some (Hash (as_object a)) ∷ [])
-    operation none
+    (None ∷ None
+    ∷ Some (Load (as_raw a)) ∷ Some (Store (as_raw a)) ∷ Some (StoreConst (as_object a) b)
+    ∷ Some (Decode (as_object a)) ∷ Some (Encode (as_object a)) ∷ Some (Create (as_object a))
+    ∷ Some (AnalyzeTuple (as_object a) (as_raw b) n) ∷ Some (CreateTuple (as_object a) (as_raw b) n)
+    ∷ Some (Opposite (as_object a) (as_object b)) ∷ Some KeyOf ∷ Some (Match (as_raw a))
+    ∷ Some (Encrypt (as_object a)) ∷ Some (Decrypt (as_object a)) ∷ Some (Sign (as_object a))
+    ∷ Some (Verify (as_object a) (as_raw b)) ∷ Some (Hash (as_object a)) ∷ [])
+    operation None
 
 -- what a word says; its unused fields are not looked at
 unfoldable pub instruction_of : ℕ → Option Instruction
 instruction_of word =
     let fields = split word_widths word in
     instruction_by (at 0 fields) (at 1 fields) (at 2 fields) (at 3 fields)
-
--- the code's answer for what a word says
-abbrev pub read_of : Option Instruction → Read
-read_of (some instruction) = Is instruction
-read_of none = Not

@@ -1,6 +1,6 @@
 -- Good code words: refusal 9.
 use Rattle.std.specs.Prelude.{ℕ, ◌+◌, Bool, true, false, not, ◌&&◌, List, [], ◌∷◌, eqb, leb, ltb}
-use Rattle.std.proofs.Math.Option.{Option, none, some}
+use Rattle.std.specs.Prelude.{Option, None, Some}
 use Rattle.word.specs.Lowest.{lowest, one_of}
 use Rattle.code.specs.Instruction.{word_of, instruction_of}
 use Rattle.numbers.specs.declared.Object.{Object}
@@ -37,8 +37,8 @@ operands_fit kind (Hash h) = has_kind kind h (9 ∷ [])
 
 -- its unused fields are zero where the word is the instruction's own
 abbrev pub word_fits : (ℕ → ℕ) → ℕ → Option Instruction → Bool
-word_fits kind word (some instruction) = eqb (word_of instruction) word && operands_fit kind instruction
-word_fits kind word none = false
+word_fits kind word (Some instruction) = eqb (word_of instruction) word && operands_fit kind instruction
+word_fits kind word None = false
 
 unfoldable pub good_word : (ℕ → ℕ) → ℕ → Bool
 good_word kind word = word_fits kind word (instruction_of word)

@@ -7,7 +7,7 @@ pub mod operations;
 pub mod words;
 
 ghost use Rattle.std.specs.Prelude.{◌≡◌};
-ghost use Rattle.code.specs.Instruction.{word_of, instruction_of, read_of};
+ghost use Rattle.code.specs.Instruction.{word_of, instruction_of};
 
 use numbers::{Object, Raw};
 
@@ -30,13 +30,6 @@ pub enum Instruction {
     Sign(Object),
     Verify(Object, Raw),
     Hash(Object),
-}
-
-// What a word says: an instruction, or that there is none of its operation.
-#[derive(Clone, Copy)]
-pub enum Read {
-    Is(Instruction),
-    Not,
 }
 
 // The word of an instruction that is not known beforehand.
@@ -63,30 +56,30 @@ pub fn word_of(instruction: Instruction) -> u32
     }
 }
 
-// Fields that the instruction does not use are not looked at.
-pub fn instruction_of(word: u32) -> Read
-    ensures { result ≡ read_of (instruction_of word) }
+// What a word says: an instruction, or none where there is none of its operation. Fields that the instruction does not use are not looked at.
+pub fn instruction_of(word: u32) -> Option<Instruction>
+    ensures { result ≡ instruction_of word }
 {
     let a = (word / fields::A % fields::OPERANDS) as u8;
     let b = (word / fields::B % fields::OPERANDS) as u8;
     let n = (word / fields::N % fields::COUNTS) as u8;
     match word / fields::OPERATION {
-        operations::LOAD => Read::Is(Instruction::Load(Raw(a))),
-        operations::STORE => Read::Is(Instruction::Store(Raw(a))),
-        operations::STORE_CONST => Read::Is(Instruction::StoreConst(Object(a), b)),
-        operations::DECODE => Read::Is(Instruction::Decode(Object(a))),
-        operations::ENCODE => Read::Is(Instruction::Encode(Object(a))),
-        operations::CREATE => Read::Is(Instruction::Create(Object(a))),
-        operations::ANALYZE_TUPLE => Read::Is(Instruction::AnalyzeTuple(Object(a), Raw(b), n)),
-        operations::CREATE_TUPLE => Read::Is(Instruction::CreateTuple(Object(a), Raw(b), n)),
-        operations::OPPOSITE => Read::Is(Instruction::Opposite(Object(a), Object(b))),
-        operations::KEY_OF => Read::Is(Instruction::KeyOf),
-        operations::MATCH => Read::Is(Instruction::Match(Raw(a))),
-        operations::ENCRYPT => Read::Is(Instruction::Encrypt(Object(a))),
-        operations::DECRYPT => Read::Is(Instruction::Decrypt(Object(a))),
-        operations::SIGN => Read::Is(Instruction::Sign(Object(a))),
-        operations::VERIFY => Read::Is(Instruction::Verify(Object(a), Raw(b))),
-        operations::HASH => Read::Is(Instruction::Hash(Object(a))),
-        _ => Read::Not,
+        operations::LOAD => Some(Instruction::Load(Raw(a))),
+        operations::STORE => Some(Instruction::Store(Raw(a))),
+        operations::STORE_CONST => Some(Instruction::StoreConst(Object(a), b)),
+        operations::DECODE => Some(Instruction::Decode(Object(a))),
+        operations::ENCODE => Some(Instruction::Encode(Object(a))),
+        operations::CREATE => Some(Instruction::Create(Object(a))),
+        operations::ANALYZE_TUPLE => Some(Instruction::AnalyzeTuple(Object(a), Raw(b), n)),
+        operations::CREATE_TUPLE => Some(Instruction::CreateTuple(Object(a), Raw(b), n)),
+        operations::OPPOSITE => Some(Instruction::Opposite(Object(a), Object(b))),
+        operations::KEY_OF => Some(Instruction::KeyOf),
+        operations::MATCH => Some(Instruction::Match(Raw(a))),
+        operations::ENCRYPT => Some(Instruction::Encrypt(Object(a))),
+        operations::DECRYPT => Some(Instruction::Decrypt(Object(a))),
+        operations::SIGN => Some(Instruction::Sign(Object(a))),
+        operations::VERIFY => Some(Instruction::Verify(Object(a), Raw(b))),
+        operations::HASH => Some(Instruction::Hash(Object(a))),
+        _ => None,
     }
 }

@@ -1,4 +1,5 @@
 // The numbers of the operations, in the order of figure 4. 0 and 1 are no instructions: `frame` has them.
+// They stay numbers: an operation is a field of a word that C lends, whose other values are refused one by one, and document 01 speaks of their numbers.
 pub const LOAD: u32 = 2;
 
 pub const STORE: u32 = 3;

@@ -2,7 +2,7 @@
 use Prim.Native.Nat.{ℕ, ◌/◌, ◌%◌, ◌^◌, ◌<◌, ◌≤◌}
 use mathlib.Core.Path.{◌≡◌, refl, ◌∙◌}
 use mathlib.Core.Bool.{Bool, true, false}
-use mathlib.Core.Option.{Option, none, some}
+use Rattle.std.specs.Prelude.{Option, None, Some}
 use mathlib.Core.List.{List, [], ◌∷◌, ◌++◌, append-nil}
 use native.Mathlib.Omega.{arith}
 use borrow.Author.Tests.{eq-eqb, eqb-true}
@@ -21,7 +21,7 @@ short : (place : ℕ) → place < 10 ^ 20 → Short (line_limits place)
 short place below = (below, (omega arith, (omega arith, (omega arith, (omega arith, tt)))))
 
 -- what is printed is read
-pub word_printed : (place : ℕ) (f : CodeFields) (rest : List ℕ) → place < 10 ^ 20 → read_word place (fields_line place f ++ rest) ≡ some (front (fields_word f) rest)
+pub word_printed : (place : ℕ) (f : CodeFields) (rest : List ℕ) → place < 10 ^ 20 → read_word place (fields_line place f ++ rest) ≡ Some (front (fields_word f) rest)
 unfolding read_word
 word_printed place f rest below =
     rw (
@@ -37,7 +37,7 @@ pub record Parsed (place : ℕ) (text : List ℕ) (read : TextFront ℕ) : Type 
   pub word : read.value ≡ fields_word fields
 
 module _ (place : ℕ) (text : List ℕ) {read : TextFront ℕ} where
-  five : (numbers rest : List ℕ) → text ≡ line numbers ++ rest → Within numbers (line_limits place) → numbered_word place numbers rest ≡ some read → Parsed place text read
+  five : (numbers rest : List ℕ) → text ≡ line numbers ++ rest → Within numbers (line_limits place) → numbered_word place numbers rest ≡ Some read → Parsed place text read
   five [] rest bytes within e = absurd within
   five (x ∷ []) rest bytes within e = absurd within.1
   five (x ∷ operation ∷ []) rest bytes within e = absurd within.1.1
@@ -47,7 +47,7 @@ module _ (place : ℕ) (text : List ℕ) {read : TextFront ℕ} where
   five (x ∷ operation ∷ a ∷ b ∷ n ∷ []) rest bytes within e = go (eqb x place) refl e
     where
       go : (same : Bool) → eqb x place ≡ same
-          → when same (front (join word_widths (operation ∷ a ∷ b ∷ n ∷ 0 ∷ [])) rest) ≡ some read
+          → when same (front (join word_widths (operation ∷ a ∷ b ∷ n ∷ 0 ∷ [])) rest) ≡ Some read
           → Parsed place text read
       go true same e =
           let is : front (join word_widths (operation ∷ a ∷ b ∷ n ∷ 0 ∷ [])) rest ≡ read = cc in
@@ -69,24 +69,24 @@ module _ (place : ℕ) (text : List ℕ) {read : TextFront ℕ} where
           })
       go false same e = let clash : ◌≡◌ {A = ℕ} 0 1 = cc in absurd (omega arith)
 
-  pub word_read : place < 10 ^ 20 → read_word place text ≡ some read → Parsed place text read
+  pub word_read : place < 10 ^ 20 → read_word place text ≡ Some read → Parsed place text read
   unfolding read_word
   word_read below e = go (read_line (line_limits place) text) refl e
     where
-      go : (line : Option (TextFront (List ℕ))) → read_line (line_limits place) text ≡ line → word_by place line ≡ some read → Parsed place text read
-      go none is e = let clash : ◌≡◌ {A = ℕ} 0 1 = cc in absurd (omega arith)
-      go (some line) is e = let told = line_read (line_limits place) text (short place below) is in five line.value line.rest told.bytes told.within e
+      go : (line : Option (TextFront (List ℕ))) → read_line (line_limits place) text ≡ line → word_by place line ≡ Some read → Parsed place text read
+      go None is e = let clash : ◌≡◌ {A = ℕ} 0 1 = cc in absurd (omega arith)
+      go (Some line) is e = let told = line_read (line_limits place) text (short place below) is in five line.value line.rest told.bytes told.within e
 
 -- of a whole line
-pub fields_word_lem : (place : ℕ) (f : CodeFields) → place < 10 ^ 20 → line_word place (fields_line place f) ≡ some (fields_word f)
+pub fields_word_lem : (place : ℕ) (f : CodeFields) → place < 10 ^ 20 → line_word place (fields_line place f) ≡ Some (fields_word f)
 unfolding line_word
-fields_word_lem place f below = let e : read_word place (fields_line place f) ≡ some (front (fields_word f) []) = rw append-nil at (word_printed place f [] below) in rw e
+fields_word_lem place f below = let e : read_word place (fields_line place f) ≡ Some (front (fields_word f) []) = rw append-nil at (word_printed place f [] below) in rw e
 
-read_alone : (read : Option (TextFront ℕ)) {word : ℕ} → alone read ≡ some word → read ≡ some (front word [])
-read_alone none e = let clash : ◌≡◌ {A = ℕ} 0 1 = cc in absurd (omega arith)
-read_alone (some read) {word} e = go read.rest refl e
+read_alone : (read : Option (TextFront ℕ)) {word : ℕ} → alone read ≡ Some word → read ≡ Some (front word [])
+read_alone None e = let clash : ◌≡◌ {A = ℕ} 0 1 = cc in absurd (omega arith)
+read_alone (Some read) {word} e = go read.rest refl e
   where
-    go : (rest : List ℕ) → read.rest ≡ rest → elim rest as (λ _. Option ℕ) [ [] ↦ some read.value | byte ∷ rest ↦ none ] ≡ some word → some read ≡ some (front word [])
+    go : (rest : List ℕ) → read.rest ≡ rest → elim rest as (λ _. Option ℕ) [ [] ↦ Some read.value | byte ∷ rest ↦ None ] ≡ Some word → Some read ≡ Some (front word [])
     go [] is e = let same : read.value ≡ word = cc in rw (← same, ← is)
     go (byte ∷ rest) is e = let clash : ◌≡◌ {A = ℕ} 0 1 = cc in absurd (omega arith)
 
@@ -96,7 +96,7 @@ pub record Says (place : ℕ) (bytes : List ℕ) (word : ℕ) : Type 0 where
   pub printed : bytes ≡ fields_line place fields
   pub spells : word ≡ fields_word fields
 
-pub line_says : (place : ℕ) (bytes : List ℕ) {word : ℕ} → place < 10 ^ 20 → line_word place bytes ≡ some word → Says place bytes word
+pub line_says : (place : ℕ) (bytes : List ℕ) {word : ℕ} → place < 10 ^ 20 → line_word place bytes ≡ Some word → Says place bytes word
 unfolding line_word
 line_says place bytes below e =
     let told = word_read place bytes below (read_alone (read_word place bytes) e) in

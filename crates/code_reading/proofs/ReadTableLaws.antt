@@ -3,7 +3,8 @@ use Prim.Native.Nat.{ℕ, suc, ◌^◌, ◌<◌, ◌≤◌}
 use mathlib.Core.Path.{◌≡◌, refl, ◌∙◌, ap}
 use mathlib.Core.Logic.{◌↔◌, ◌≢◌}
 use mathlib.Core.Bool.{Bool, true, false, cond, not, ◌&&◌}
-use mathlib.Core.Option.{Option, none, some, map}
+use Rattle.std.specs.Prelude.{Option, None, Some}
+use Rattle.std.specs.Option.{option_map}
 use mathlib.Core.List.{List, [], ◌∷◌, ◌++◌}
 use native.Mathlib.Omega.{arith}
 use borrow.Author.Tests.{le-leb, lt-leb, leb-true, leb-false}
@@ -41,18 +42,18 @@ pub good_line : (place : ℕ) (bytes : List ℕ) → place < 10 ^ 20 → T (not 
 good_line place bytes below = (λ t. says (line_word place bytes) refl t, λ good. rw (good.printed, fields_word_lem place good.fields below) tt)
   where
     says : (word : Option ℕ) → line_word place bytes ≡ word → T (not (no_word word)) → GoodLine place bytes
-    says none e t = absurd t
-    says (some word) e t = let told = line_says place bytes below e in record { fields = told.fields; printed = told.printed }
+    says None e t = absurd t
+    says (Some word) e t = let told = line_says place bytes below e in record { fields = told.fields; printed = told.printed }
 
 module _ (text : List ℕ) (slice : length text < 2 ^ 63) where
   good_at : (i : ℕ) → i < length (text_lines text) → T (not (no_word (line_word i (get_or (text_lines text) i [])))) ↔ GoodLine i (get_or (text_lines text) i [])
   good_at i inside = good_line i (get_or (text_lines text) i []) (omega (arith, lines_few text))
 
-  pub bad_line_iff : (line : ℕ) → (bad_line text ≡ some line) ↔ LowestBadLine text line
+  pub bad_line_iff : (line : ℕ) → (bad_line text ≡ Some line) ↔ LowestBadLine text line
   unfolding bad_line
   bad_line_iff = lowest_bad _ _ (text_lines text) [] good_at
 
-  pub good_lines_iff : (bad_line text ≡ none) ↔ AllGoodLines text
+  pub good_lines_iff : (bad_line text ≡ None) ↔ AllGoodLines text
   unfolding bad_line
   good_lines_iff = none_bad _ _ (text_lines text) [] good_at
 
@@ -81,13 +82,13 @@ module _ (text kinds code : List ℕ) where
 
   -- neither 15, 1 nor 9
   abbrev pub Passed : Type 0
-  Passed = (bad_line text ≡ none) × T fits × (bad_word (kind_in kinds) words ≡ none)
+  Passed = (bad_line text ≡ None) × T fits × (bad_word (kind_in kinds) words ≡ None)
 
   -- what each answer says
   abbrev pub Gives : ReadBack → Type 0
-  Gives (BadLine line) = bad_line text ≡ some line
-  Gives Limit = (bad_line text ≡ none) × (T fits → ⊥)
-  Gives (BadWord word) = (bad_line text ≡ none) × T fits × (bad_word (kind_in kinds) words ≡ some word)
+  Gives (BadLine line) = bad_line text ≡ Some line
+  Gives Limit = (bad_line text ≡ None) × (T fits → ⊥)
+  Gives (BadWord word) = (bad_line text ≡ None) × T fits × (bad_word (kind_in kinds) words ≡ Some word)
   Gives (CodeTooShort count) = Passed × (count ≡ length words) × (length code < length words)
   Gives (Done count) = Passed × (count ≡ length words) × (length words ≤ length code)
 
@@ -107,12 +108,12 @@ module _ (text kinds code : List ℕ) where
 
   -- one look after another
   by_looks : (found : Option ℕ) (fit : Bool) (word : Option ℕ) → bad_line text ≡ found → fits ≡ fit → bad_word (kind_in kinds) words ≡ word
-      → Leaves (comes_to (first (map BadLine found ∷ when (not fit) Limit ∷ map BadWord word ∷ [])) words code)
+      → Leaves (comes_to (first (option_map BadLine found ∷ when (not fit) Limit ∷ option_map BadWord word ∷ [])) words code)
   unfolding first
-  by_looks (some line) fit word p q r = refused (BadLine line) (λ z. omega arith) p
-  by_looks none false word p q r = refused Limit (λ z. omega arith) (p, rw q λ n. n)
-  by_looks none true (some word) p q r = refused (BadWord word) (λ z. omega arith) (p, rw q tt, r)
-  by_looks none true none p q r = by_room (p, rw q tt, r) (leb (length words) (length code)) refl
+  by_looks (Some line) fit word p q r = refused (BadLine line) (λ z. omega arith) p
+  by_looks None false word p q r = refused Limit (λ z. omega arith) (p, rw q λ n. n)
+  by_looks None true (Some word) p q r = refused (BadWord word) (λ z. omega arith) (p, rw q tt, r)
+  by_looks None true None p q r = by_room (p, rw q tt, r) (leb (length words) (length code)) refl
 
   read_leaves_lem : Leaves (read_code text kinds code)
   unfolding read_code

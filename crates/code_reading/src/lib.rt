@@ -12,17 +12,9 @@ ghost use Rattle.code_reading.specs.LineAnswers.{looked_of};
 
 pub use answer::ReadBack;
 use delivery::copy;
-use lines::{LinesRead, read_words};
+use lines::{BadLine, read_words};
 use numbers::limits::{MOST_CODE_WORDS, VARIABLES};
 use operands::first_bad_word;
-use word::Place;
-
-// What is found before words are delivered: so many of them, or a refusal.
-#[derive(Clone, Copy)]
-pub enum Looked {
-    Words(usize),
-    Refused(ReadBack),
-}
 
 // Of a large array only the length is promised: a goal would spell every zero.
 pub fn no_words() -> [u32; MOST_CODE_WORDS]
@@ -31,25 +23,25 @@ pub fn no_words() -> [u32; MOST_CODE_WORDS]
     [0u32; MOST_CODE_WORDS]
 }
 
-// 1 and 9 of so many good lines, whose first words are given.
-pub fn look_words(lines: usize, words: &[u32], kinds: &[u8]) -> Looked
+// 1 and 9 of so many good lines, whose first words are given; or how many words to deliver.
+pub fn look_words(lines: usize, words: &[u32], kinds: &[u8]) -> Result<usize, ReadBack>
     requires { most_code_words ≤ length words.now }
     ensures { result ≡ looked_of lines (first (word_refusals lines (take lines words.now) kinds.now)) }
 {
     if MOST_CODE_WORDS < lines {
-        return Looked::Refused(ReadBack::Limit);
+        return Err(ReadBack::Limit);
     }
     if kinds.len() != VARIABLES {
-        return Looked::Refused(ReadBack::Limit);
+        return Err(ReadBack::Limit);
     }
     let read = &words[..lines];
-    if let Place::At(word) = first_bad_word(kinds, read) {
-        return Looked::Refused(ReadBack::BadWord(word));
+    if let Some(word) = first_bad_word(kinds, read) {
+        return Err(ReadBack::BadWord(word));
     }
-    Looked::Words(lines)
+    Ok(lines)
 }
 
-// 8 where the words do not fit; words behind them stay.
+// 8 where the words do not fit; words behind them stay. As `delivery::deliver`, but for the type of the answer.
 fn fill(words: &[u32], code: &mut [u32]) -> ReadBack
     requires { length words.now ≤ most_code_words }
     ensures { record { answer = result; code = code.new } ≡ read_into words.now code.old }
@@ -67,13 +59,9 @@ fn deliver_words(lines: usize, words: &[u32], kinds: &[u8], code: &mut [u32]) ->
     ensures { record { answer = result; code = code.new }
         ≡ comes_to (first (word_refusals lines (take lines words.now) kinds.now)) (take lines words.now) code.old }
 {
-    let looked = look_words(lines, words, kinds);
-    match looked {
-        Looked::Words(count) => {
-            let read = &words[..count];
-            fill(read, code)
-        }
-        Looked::Refused(answer) => answer,
+    match look_words(lines, words, kinds) {
+        Ok(count) => fill(&words[..count], code),
+        Err(answer) => answer,
     }
 }
 
@@ -81,9 +69,8 @@ pub fn read_code(text: &[u8], kinds: &[u8], code: &mut [u32]) -> ReadBack
     ensures { record { answer = result; code = code.new } ≡ read_code text.now kinds.now code.old }
 {
     let mut words = no_words();
-    let read = read_words(text, &mut words);
-    match read {
-        LinesRead::Bad(line) => ReadBack::BadLine(line as u64),
-        LinesRead::All(lines) => deliver_words(lines, &words, kinds, code),
+    match read_words(text, &mut words) {
+        Ok(lines) => deliver_words(lines, &words, kinds, code),
+        Err(BadLine(line)) => ReadBack::BadLine(line as u64),
     }
 }

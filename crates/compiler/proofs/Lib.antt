@@ -1,6 +1,5 @@
 -- Laws of compile.
 pub mod LookLaws
 pub mod RowLaws
-pub mod ClearLaws
 pub mod WalkLaws
 pub mod OverCells

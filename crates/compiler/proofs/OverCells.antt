@@ -28,6 +28,22 @@ pub record Compiles (create : Bool) (pattern kinds objects named : List ℕ) (an
   pub few : compiled_number answer ≡ 0 → compiled_place answer ≤ 767
   pub long : compiled_number answer ≡ 0 → length buffer ≡ 768
 
+-- done with so many words
+module _ {create : Bool} {pattern kinds objects named : List ℕ} {answer : Compiled} {buffer : List ℕ} (c : Compiles create pattern kinds objects named answer buffer) {count : ℕ} (is : answer ≡ Done count) where
+  done_number : compiled_number answer ≡ 0
+  done_number = rw is
+
+  pub inside : count ≤ length buffer
+  inside =
+      let few : compiled_place answer ≤ 767 = c.few done_number in
+      let less : count ≤ 767 = rw is at few in
+      omega (arith, c.long done_number)
+
+  pub delivers : (code : List ℕ) → written (take count buffer) code ≡ compile create pattern kinds objects named code
+  delivers code =
+      let all : written (take (compiled_place answer) buffer) code ≡ compile create pattern kinds objects named code = c.delivered code done_number in
+      rw is at all
+
 -- an answer that is not done has another number
 pub not_done : (answer : Compiled) → NotDone answer → compiled_number answer ≡ 0 → ⊥
 not_done (Done words) h = λ e. h words refl

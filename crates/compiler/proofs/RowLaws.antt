@@ -1,8 +1,8 @@
 -- The root of a pattern's rows with zero rows behind them: room for its code.
 use Prim.Native.Nat.{ℕ, ◌-◌, ◌≤◌}
-use mathlib.Core.Path.{◌≡◌, refl, ◌∙◌, ap}
-use mathlib.Core.Option.{none}
-use mathlib.Core.List.{List, [], ◌∷◌, ◌++◌}
+use mathlib.Core.Path.{◌≡◌, ◌∙◌, ap}
+use Rattle.std.specs.Prelude.{None}
+use mathlib.Core.List.{List, ◌++◌}
 use native.Mathlib.Omega.{arith}
 use lib.ListN.{length}
 use Rattle.patterns.specs.Pattern.{size}
@@ -13,17 +13,17 @@ use Rattle.layout.proofs.RowLaws.{behind, root_pattern, root_stands}
 use Rattle.emission.specs.Budget.{most_words, Row}
 
 -- before the first word is written
-module _ (pattern : List ℕ) (some : 1 ≤ length pattern) (few : length pattern ≤ 96) (passed : bad_pattern pattern ≡ none) where
+module _ (pattern : List ℕ) (some : 1 ≤ length pattern) (few : length pattern ≤ 96) (passed : bad_pattern pattern ≡ None) where
   abbrev rows : List ℕ
   rows = pattern ++ behind pattern some few
 
   root_size : size (pattern_in rows (length pattern - 1)) ≡ length pattern
   root_size = ap size (root_pattern pattern some few) ∙ pattern_size pattern passed some
 
-  pub root_row : (objects named : ℕ) → Row rows (length pattern - 1) (objects ∷ named ∷ 0 ∷ 0 ∷ 0 ∷ [])
+  pub root_row : (objects named : ℕ) → Row rows (length pattern - 1) (record { objects = objects; raws = named; next = 0; written = 0; refusal = None })
   root_row objects named = record {
     stands = root_stands pattern some few passed;
-    room = record { long = refl; place = omega (arith, root_size); free = omega (arith, root_size) };
+    room = record { place = omega (arith, root_size); free = omega (arith, root_size) };
   }
 
   -- its words fit the buffer

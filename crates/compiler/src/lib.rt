@@ -1,27 +1,26 @@
 // Compile: its checks in their order, then the walk, then the words into the lent slice.
 #![tactic(auto)]
 
-ghost use Rattle.std.specs.Prelude.{◌≡◌, length};
-ghost use Rattle.numbers.specs.Limits.{most_code_words};
+ghost use Rattle.std.specs.Prelude.{◌≡◌};
 ghost use Rattle.calls.specs.Compile.{compile};
 ghost use Rattle.knowing.specs.Known.{known};
 ghost use Rattle.compiler.specs.CompileKnown.{compile_known};
-ghost use Rattle.compiler.specs.Buffer.{outcome_of};
+ghost use Rattle.compiler.specs.Buffer.{outcome_of, Leaves};
 
 use answers::Compiled;
 use delivery::deliver;
-pub use delivery::used;
+pub use delivery::{no_words, used};
+use knowing::Code;
 pub use knowing::set_cells;
-use knowing::{Code, Finding};
 pub use looking::look;
 use numbers::limits::VARIABLES;
-pub use walking::no_words;
 use walking::{clear, walk};
 
 mod looking;
 mod walking;
 
 // An answer, and which object and named cells are set afterwards: cell 0 at the most significant bit.
+// A struct, as compile_known's promise says the cells after a refusal too.
 #[derive(Clone, Copy)]
 pub struct KnownAnswer {
     pub answer: Compiled,
@@ -29,6 +28,22 @@ pub struct KnownAnswer {
     pub named: u64,
 }
 
+// The checks and then the walk.
+fn emit(
+    create: bool,
+    pattern: &[u64],
+    kinds: &[u8],
+    objects: u64,
+    named: u64,
+    buffer: &mut Code,
+) -> Result<KnownAnswer, Compiled>
+    ensures { Leaves create pattern.now kinds.now (known objects) (known named) buffer.old result buffer.new }
+{
+    look(create, pattern, kinds, objects)?;
+    walk(create, pattern, kinds, objects, named, buffer)
+}
+
+// `create` is the direction, a Bool in each theorem: figure 6 where it is true, else figure 5.
 // Compile from which cells are set, into a buffer that is long enough for every code. A refusal leaves no word in it.
 pub fn compile_known(
     create: bool,
@@ -38,12 +53,11 @@ pub fn compile_known(
     named: u64,
     buffer: &mut Code,
 ) -> KnownAnswer
-    requires { length buffer.old ≡ most_code_words }
     ensures { outcome_of result buffer.new ≡ compile_known create pattern.now kinds.now (known objects) (known named) buffer.old }
 {
-    let found = look(create, pattern, kinds, objects);
-    match found {
-        Finding::Refused(answer) => {
+    match emit(create, pattern, kinds, objects, named, buffer) {
+        Ok(left) => left,
+        Err(answer) => {
             clear(buffer);
             KnownAnswer {
                 answer: answer,
@@ -51,7 +65,6 @@ pub fn compile_known(
                 named: named,
             }
         }
-        Finding::Accepted => walk(create, pattern, kinds, objects, named, buffer),
     }
 }
 
@@ -78,10 +91,8 @@ pub fn compile(
         set_cells(named),
         &mut buffer,
     );
-    let answer = left.answer;
-    if answer.number() != 0 {
-        return answer;
-    }
-    let count = answer.place() as usize;
-    deliver(&buffer[..count], code)
+    let Compiled::Done(count) = left.answer else {
+        return left.answer;
+    };
+    deliver(&buffer[..count as usize], code)
 }

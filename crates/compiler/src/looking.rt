@@ -7,9 +7,8 @@ ghost use Rattle.knowing.specs.Findings.{finding_of};
 ghost use Rattle.calls.specs.Half.{undeclared_unknown, declared_known, known_fit, known_refusals};
 
 use answers::Compiled;
-use knowing::{Finding, is_known};
+use knowing::is_known;
 use numbers::limits::{MOST_PATTERN_ROWS, VARIABLES};
-use word::Place;
 
 // 1.
 fn lengths_fit(pattern: usize, kinds: usize) -> bool
@@ -23,11 +22,10 @@ fn all_declared(kinds: &[u8], objects: u64) -> bool
     requires { length kinds.now ≡ variables }
     ensures { result ≡ undeclared_unknown zero kinds.now (known objects) }
 {
-    let mut declared = true;
-    for v in 0..kinds.len() {
-        declared = declared & ((kinds[v] != 0) | !is_known(objects, v as u8));
-    }
-    declared
+    kinds
+        .iter()
+        .enumerate()
+        .all(|(v, &kind)| (kind != 0) | !is_known(objects, v as u8))
 }
 
 // 3.
@@ -38,22 +36,20 @@ fn declares(kinds: &[u8], objects: u64) -> bool
     stores::cells::kinds_fit(kinds) & all_declared(kinds, objects)
 }
 
-pub fn look(create: bool, pattern: &[u64], kinds: &[u8], objects: u64) -> Finding
+pub fn look(create: bool, pattern: &[u64], kinds: &[u8], objects: u64) -> Result<(), Compiled>
     ensures { result ≡ finding_of (first (known_refusals create pattern.now kinds.now (known objects))) }
 {
     if !lengths_fit(pattern.len(), kinds.len()) {
-        return Finding::Refused(Compiled::Limit);
+        return Err(Compiled::Limit);
     }
     if !declares(kinds, objects) {
-        return Finding::Refused(Compiled::BadStore);
+        return Err(Compiled::BadStore);
     }
-    let bad = grammar::first_bad_pattern(pattern);
-    if let Place::At(row) = bad {
-        return Finding::Refused(Compiled::BadPattern(row));
+    if let Some(row) = grammar::first_bad_pattern(pattern) {
+        return Err(Compiled::BadPattern(row));
     }
-    let wrong = grammar::first_wrong_kind(create, kinds, pattern);
-    match wrong {
-        Place::At(row) => Finding::Refused(Compiled::WrongKind(row)),
-        Place::Nowhere => Finding::Accepted,
+    if let Some(row) = grammar::first_wrong_kind(create, kinds, pattern) {
+        return Err(Compiled::WrongKind(row));
     }
+    Ok(())
 }

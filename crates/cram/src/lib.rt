@@ -6,7 +6,8 @@ ghost use Rattle.lending.specs.Entries.{compile_entry, run_entry};
 
 use answers::{Compiled, Ran};
 use lending::{CompileAnswer, RunAnswer, arrays, compiles, runs};
-use numbers::limits::MOST_CODE_WORDS;
+use numbers::limits::{MOST_CERTIFICATES, MOST_CODE_WORDS, MOST_PATTERN_ROWS, VARIABLES};
+use stores::cells::Cells;
 
 pub mod reading;
 pub mod role_entry;
@@ -35,25 +36,22 @@ pub fn cram_compile(
     ) {
         return compiles::numbers(Compiled::Limit);
     }
-    let rows = arrays::pattern_rows(pattern);
-    let object_cells = arrays::cells(objects);
-    let named_cells = arrays::cells(named);
-    let mut buffer = arrays::no_words();
-    let lent = pattern.len() / 8;
+    let rows = arrays::rows::<MOST_PATTERN_ROWS>(pattern);
+    let object_cells = arrays::cells::<VARIABLES>(objects);
+    let named_cells = arrays::cells::<VARIABLES>(named);
+    let mut buffer = compiler::no_words();
     let left = compiler::compile_known(
         create == 1,
-        &rows[..lent],
+        &rows[..pattern.len() / 8],
         kinds,
         compiler::set_cells(&object_cells),
         compiler::set_cells(&named_cells),
         &mut buffer,
     );
-    let answer = left.answer;
-    if answer.number() != 0 {
-        return compiles::numbers(answer);
-    }
-    let count = answer.place() as usize;
-    compiles::deliver(&buffer[..count], code)
+    let Compiled::Done(count) = left.answer else {
+        return compiles::numbers(left.answer);
+    };
+    compiles::deliver(&buffer[..count as usize], code)
 }
 
 // Code over stores and a table of terms.
@@ -88,26 +86,27 @@ pub fn cram_run(
     ) {
         return runs::numbers(Ran::Limit, 0, counter, accumulator);
     }
-    let certified = certificates.len() / 8;
-    let count = code.len() / 4;
-    let pairs = arrays::certificates(certificates);
-    let words = arrays::code_words(code);
-    let object_cells = arrays::cells(objects);
-    let message_cells = arrays::message_cells(messages);
+    let pairs = arrays::rows::<MOST_CERTIFICATES>(certificates);
+    let words = arrays::code_words::<MOST_CODE_WORDS>(code);
+    let cells = Cells {
+        objects: arrays::cells(objects),
+        messages: arrays::cells(messages),
+    };
     let left = run_tables::over_table(
         kinds,
-        object_cells,
-        message_cells,
-        &pairs[..certified],
+        cells,
+        &pairs[..certificates.len() / 8],
         accumulator,
         terms,
         counter,
-        &words[..count],
+        &words[..code.len() / 4],
     );
-    let left_objects = left.objects;
-    let left_messages = left.messages;
-    word::pack_pairs(&left_objects, objects);
-    word::pack_pairs(&left_messages, messages);
-    let answer = left.answer;
-    runs::numbers(answer, left.used as u32, left.counter, left.accumulator)
+    word::pack_pairs(&left.cells.objects, objects);
+    word::pack_pairs(&left.cells.messages, messages);
+    runs::numbers(
+        left.answer,
+        left.used as u32,
+        left.counter,
+        left.accumulator,
+    )
 }

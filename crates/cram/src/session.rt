@@ -6,7 +6,8 @@ use crate::round_tables;
 use answers::{NONE_WAITS, Ran, Rounded};
 use lending::sessions::RECORD_BYTES;
 use lending::{RoundAnswer, TakeAnswer, arrays, runs, sessions};
-use numbers::limits::MOST_ROUND_WORDS;
+use numbers::limits::{MOST_CERTIFICATES, MOST_ROUND_WORDS};
+use stores::cells::Cells;
 
 // A round's code over a session record, stores and a table of terms.
 pub fn cram_round(
@@ -41,30 +42,25 @@ pub fn cram_round(
     if !sessions::lengths_fit(session.len(), slices) {
         return sessions::numbers(Rounded::Ran(Ran::Limit));
     }
-    let certified = certificates.len() / 8;
-    let count = code.len() / 4;
-    let pairs = arrays::certificates(certificates);
-    let words = arrays::round_words(code);
-    let object_cells = arrays::cells(objects);
-    let message_cells = arrays::message_cells(messages);
+    let pairs = arrays::rows::<MOST_CERTIFICATES>(certificates);
+    let words = arrays::code_words::<MOST_ROUND_WORDS>(code);
+    let cells = Cells {
+        objects: arrays::cells(objects),
+        messages: arrays::cells(messages),
+    };
     let left = round_tables::over_table(
         sessions::unpack(session),
         rounds,
         kinds,
-        object_cells,
-        message_cells,
-        &pairs[..certified],
+        cells,
+        &pairs[..certificates.len() / 8],
         terms,
-        &words[..count],
+        &words[..code.len() / 4],
     );
-    let left_objects = left.objects;
-    let left_messages = left.messages;
-    word::pack_pairs(&left_objects, objects);
-    word::pack_pairs(&left_messages, messages);
-    let left_session = left.session;
-    sessions::pack(left_session, session);
-    let answer = left.answer;
-    sessions::numbers(answer)
+    word::pack_pairs(&left.cells.objects, objects);
+    word::pack_pairs(&left.cells.messages, messages);
+    sessions::pack(left.session, session);
+    sessions::numbers(left.answer)
 }
 
 // The answer that waits; 1 is a record of another length.
@@ -78,8 +74,7 @@ pub fn cram_take(session: &mut [u8]) -> TakeAnswer
         };
     }
     let taken = rounds::take_of(sessions::unpack(session));
-    let left = taken.session;
-    sessions::pack(left, session);
+    sessions::pack(taken.session, session);
     TakeAnswer {
         number: 0,
         answer: taken.answer,

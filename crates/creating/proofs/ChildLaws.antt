@@ -1,5 +1,5 @@
 -- Rows with children of their own: an encryption and a let.
-use Prim.Native.Nat.{ℕ, ◌≤◌}
+use Prim.Native.Nat.{ℕ}
 use mathlib.Core.Path.{◌≡◌, sym, ◌∙◌}
 use mathlib.Core.List.{List}
 use native.Mathlib.Omega.{arith}
@@ -22,26 +22,27 @@ use Rattle.emission.proofs.BudgetLaws.{as_row, room_le, room_then, row_below, en
 use Rattle.patterns.proofs.StandingLaws.{encryption_child, encryption_row, let_children, let_row}
 use Rattle.creating.specs.Creates.{key_code, pattern_code, Creates}
 use Rattle.creating.proofs.KeyLaws.{key_variable}
+use Rattle.knowing.specs.declared.Emission.{Emission}
 
-module _ (rows : List ℕ) (row word : ℕ) {e : List ℕ} (asked : RowAt rows row word e) where
+module _ (rows : List ℕ) (row word : ℕ) {e : Emission} (asked : RowAt rows row word e) where
   -- e : E(key, p)
   module _ (five : (pattern_fields word).tag ≡ 5) (child : ℕ) (first : child ≡ get_or (pattern_fields word).slots 0 0) where
-    module _ {f : Env → Emitted} {code e₁ code₁ : List ℕ} (keyed : Does f 3 0 e code e₁ code₁) where
+    module _ {f : Env → Emitted} {code : List ℕ} {e₁ : Emission} {code₁ : List ℕ} (keyed : Does f 3 0 e code e₁ code₁) where
       pub encryption_inside : Row rows child e₁
       encryption_inside = row_below rows row child asked.standing.stands (encryption_child asked.standing child first five)
           (room_then (omega arith) (omega arith) (encryption_room asked child first five) keyed)
 
-      module _ {g : Env → Emitted} {e₂ code₂ : List ℕ} (made : Does g (most_words (pattern_in rows child)) (most_scratches (pattern_in rows child)) e₁ code₁ e₂ code₂) where
+      module _ {g : Env → Emitted} {e₂ : Emission} {code₂ : List ℕ} (made : Does g (most_words (pattern_in rows child)) (most_scratches (pattern_in rows child)) e₁ code₁ e₂ code₂) where
         after_inside : RoomFor 2 0 e₂
         after_inside = room_then (omega arith) (omega arith) (encryption_room asked child first five) (does_seq keyed made)
 
         pub encrypt_room : RoomFor 1 0 e₂
         encrypt_room = room_le (lit≤ tt) (lit≤ tt) after_inside
 
-        pub seal_room : {h : Env → Emitted} {e₃ code₃ : List ℕ} → Does h 1 0 e₂ code₂ e₃ code₃ → RoomFor 1 0 e₃
+        pub seal_room : {h : Env → Emitted} {e₃ : Emission} {code₃ : List ℕ} → Does h 1 0 e₂ code₂ e₃ code₃ → RoomFor 1 0 e₃
         seal_room encrypted = room_then (lit≤ tt) (lit≤ tt) after_inside encrypted
 
-    pub encryption_done : (kinds : List ℕ) (v x : ℕ) → v ≡ (pattern_fields word).v → x ≡ (pattern_fields word).x → {code e₁ code₁ e₂ code₂ e₃ code₃ e₄ code₄ : List ℕ}
+    pub encryption_done : (kinds : List ℕ) (v x : ℕ) → v ≡ (pattern_fields word).v → x ≡ (pattern_fields word).x → {code : List ℕ} {e₁ : Emission} {code₁ : List ℕ} {e₂ : Emission} {code₂ : List ℕ} {e₃ : Emission} {code₃ : List ℕ} {e₄ : Emission} {code₄ : List ℕ}
         → Does (key_code kinds row (key_by (pattern_fields word))) 3 0 e code e₁ code₁ → Creates rows kinds child e₁ code₁ e₂ code₂
         → Does (emit row (Encrypt (as_object x))) 1 0 e₂ code₂ e₃ code₃ → Does (emit row (Decode (as_object v))) 1 0 e₃ code₃ e₄ code₄ → Creates rows kinds row e code e₄ code₄
     unfolding key_code pattern_code size
@@ -58,15 +59,15 @@ module _ (rows : List ℕ) (row word : ℕ) {e : List ℕ} (asked : RowAt rows r
     let_first = row_below rows row child asked.standing.stands (let_children asked.standing child first other second nine).0
         (room_le (omega arith) (omega arith) (let_room asked child first other second nine))
 
-    module _ {f : Env → Emitted} {code e₁ code₁ : List ℕ} (made : Does f (most_words (pattern_in rows child)) (most_scratches (pattern_in rows child)) e code e₁ code₁) where
+    module _ {f : Env → Emitted} {code : List ℕ} {e₁ : Emission} {code₁ : List ℕ} (made : Does f (most_words (pattern_in rows child)) (most_scratches (pattern_in rows child)) e code e₁ code₁) where
       pub let_store : RoomFor 1 0 e₁
       let_store = room_then (omega arith) (omega arith) (let_room asked child first other second nine) made
 
-      pub let_second : {g : Env → Emitted} {e₂ code₂ : List ℕ} → Does g 1 0 e₁ code₁ e₂ code₂ → Row rows other e₂
+      pub let_second : {g : Env → Emitted} {e₂ : Emission} {code₂ : List ℕ} → Does g 1 0 e₁ code₁ e₂ code₂ → Row rows other e₂
       let_second stored = row_below rows row other asked.standing.stands (let_children asked.standing child first other second nine).1
           (room_then (omega arith) (omega arith) (let_room asked child first other second nine) (does_seq made stored))
 
-    pub let_done : (kinds : List ℕ) (r : ℕ) → r ≡ (pattern_fields word).r → {code e₁ code₁ e₂ code₂ e₃ code₃ : List ℕ} → Creates rows kinds child e code e₁ code₁
+    pub let_done : (kinds : List ℕ) (r : ℕ) → r ≡ (pattern_fields word).r → {code : List ℕ} {e₁ : Emission} {code₁ : List ℕ} {e₂ : Emission} {code₂ : List ℕ} {e₃ : Emission} {code₃ : List ℕ} → Creates rows kinds child e code e₁ code₁
         → Does (emit row (Store (named r))) 1 0 e₁ code₁ e₂ code₂ → Creates rows kinds other e₂ code₂ e₃ code₃ → Creates rows kinds row e code e₃ code₃
     unfolding pattern_code size
     let_done kinds r raw {e₁ = e₁} {code₁ = code₁} {e₂ = e₂} {code₂ = code₂} k l m =

@@ -1,5 +1,5 @@
 -- Rows with no children, by their tags.
-use Prim.Native.Nat.{ℕ, ◌-◌, ◌≤◌}
+use Prim.Native.Nat.{ℕ}
 use mathlib.Core.Path.{◌≡◌, sym, ◌∙◌}
 use mathlib.Core.List.{List}
 use native.Mathlib.Omega.{arith}
@@ -21,8 +21,9 @@ use Rattle.patterns.proofs.StandingLaws.{good_row, object_row, raw_row, constant
 use Rattle.creating.specs.Creates.{key_code, pattern_code, Creates}
 use Rattle.creating.proofs.KeyLaws.{key_variable}
 use Rattle.creating.proofs.FormLaws.{raw_done, key_of_done}
+use Rattle.knowing.specs.declared.Emission.{Emission}
 
-module _ (rows kinds : List ℕ) (row word : ℕ) {e code e' code' : List ℕ} (asked : RowAt rows row word e) where
+module _ (rows kinds : List ℕ) (row word : ℕ) {e : Emission} {code : List ℕ} {e' : Emission} {code' : List ℕ} (asked : RowAt rows row word e) where
   module _ (tag : ℕ) (read : tag ≡ (pattern_fields word).tag) where
     module _ (v : ℕ) (variable : v ≡ (pattern_fields word).v) where
       pub leaf_object : tag ≡ 0 → Does (pattern_code kinds (object row v)) 7 1 e code e' code' → Creates rows kinds row e code e' code'
@@ -52,29 +53,29 @@ module _ (rows kinds : List ℕ) (row word : ℕ) {e code e' code' : List ℕ} (
     leaf_raw r second h k = as_leaf (pattern_code kinds) rows row (raw row r) (raw_row asked.standing (sym read ∙ h) ∙ rw second) (raw_done kinds row r k)
 
 -- s : S(key, r)
-module _ (rows : List ℕ) (row word : ℕ) {e : List ℕ} (asked : RowAt rows row word e) where
+module _ (rows : List ℕ) (row word : ℕ) {e : Emission} (asked : RowAt rows row word e) where
   pub load_room : RoomFor 1 0 e
   load_room = room_le (lit≤ tt) (lit≤ tt) (leaf_room rows row word e asked)
 
   pub key_room : RoomFor 3 0 e
   key_room = room_le (lit≤ tt) (lit≤ tt) (leaf_room rows row word e asked)
 
-  module _ {f : Env → Emitted} {code e₁ code₁ : List ℕ} (keyed : Does f 3 0 e code e₁ code₁) where
+  module _ {f : Env → Emitted} {code : List ℕ} {e₁ : Emission} {code₁ : List ℕ} (keyed : Does f 3 0 e code e₁ code₁) where
     left : RoomFor 4 1 e₁
     left = room_then (lit≤ tt) (lit≤ tt) (leaf_room rows row word e asked) keyed
 
     pub body_room : RoomFor 1 0 e₁
     body_room = room_le (lit≤ tt) (lit≤ tt) left
 
-    module _ {g : Env → Emitted} {e₂ code₂ : List ℕ} (loaded : Does g 1 0 e₁ code₁ e₂ code₂) where
+    module _ {g : Env → Emitted} {e₂ : Emission} {code₂ : List ℕ} (loaded : Does g 1 0 e₁ code₁ e₂ code₂) where
       pub sign_room : RoomFor 1 0 e₂
       sign_room = room_then (lit≤ tt) (lit≤ tt) left loaded
 
-      pub decode_room : {h : Env → Emitted} {e₃ code₃ : List ℕ} → Does h 1 0 e₂ code₂ e₃ code₃ → RoomFor 1 0 e₃
+      pub decode_room : {h : Env → Emitted} {e₃ : Emission} {code₃ : List ℕ} → Does h 1 0 e₂ code₂ e₃ code₃ → RoomFor 1 0 e₃
       decode_room signed = room_then (lit≤ tt) (lit≤ tt) left (does_seq loaded signed)
 
   pub signed : (kinds : List ℕ) → (pattern_fields word).tag ≡ 6 → (v x r : ℕ) → v ≡ (pattern_fields word).v → x ≡ (pattern_fields word).x → r ≡
-      (pattern_fields word).r → {code e₁ code₁ e₂ code₂ e₃ code₃ e₄ code₄ : List ℕ}
+      (pattern_fields word).r → {code : List ℕ} {e₁ : Emission} {code₁ : List ℕ} {e₂ : Emission} {code₂ : List ℕ} {e₃ : Emission} {code₃ : List ℕ} {e₄ : Emission} {code₄ : List ℕ}
       → Does (key_code kinds row (key_by (pattern_fields word))) 3 0 e code e₁ code₁ → Does (emit row (Load (named r))) 1 0 e₁ code₁ e₂ code₂
       → Does (emit row (Sign (as_object x))) 1 0 e₂ code₂ e₃ code₃ → Does (emit row (Decode (as_object v))) 1 0 e₃ code₃ e₄ code₄ → Creates rows kinds row e code e₄ code₄
   unfolding key_code pattern_code

@@ -6,6 +6,7 @@ use Rattle.numbers.specs.Kinds.{kind_in}
 use Rattle.theory.specs.Compilers.{creating, compile↑K, compile↑, compile↑parts}
 use Rattle.emission.specs.declared.Part.{Part}
 use Rattle.knowing.specs.Meets.{Does}
+use Rattle.knowing.specs.declared.Emission.{Emission}
 use Rattle.patterns.specs.Standing.{pattern_in}
 use Rattle.emission.specs.Budget.{most_words, most_scratches}
 use Rattle.emission.specs.Parts.{DoesParts}
@@ -22,9 +23,9 @@ pattern_code kinds p = compile↑ (kind_in kinds) p
 unfoldable pub parts_code : List ℕ → Parts → ℕ → ℕ → Env → Emitted
 parts_code kinds ps row first = compile↑parts (kind_in kinds) ps row first
 
-abbrev pub Creates : List ℕ → List ℕ → ℕ → List ℕ → List ℕ → List ℕ → List ℕ → Type 0
+abbrev pub Creates : List ℕ → List ℕ → ℕ → Emission → List ℕ → Emission → List ℕ → Type 0
 Creates rows kinds row e code e' code' =
     Does (pattern_code kinds (pattern_in rows row)) (most_words (pattern_in rows row)) (most_scratches (pattern_in rows row)) e code e' code'
 
-abbrev pub CreatesParts : List ℕ → List ℕ → ℕ → List Part → ℕ → List ℕ → List ℕ → List ℕ → List ℕ → Type 0
-CreatesParts rows kinds row parts n e code e' code' = DoesParts (parts_code kinds) rows row parts n e code e' code'
+abbrev pub CreatesParts : List ℕ → List ℕ → ℕ → List Part → Emission → List ℕ → Emission → List ℕ → Type 0
+CreatesParts rows kinds row parts e code e' code' = DoesParts (parts_code kinds) rows row parts e code e' code'

@@ -7,6 +7,7 @@ ghost use Rattle.patterns.specs.Tree.{key_by};
 ghost use Rattle.knowing.specs.Meets.{Does, RoomFor};
 ghost use Rattle.creating.specs.Creates.{variable_code, key_code};
 
+use answers::Compiled;
 use emission::instructions;
 use knowing::{Code, Emission, object_known, refuse};
 use layout::{Kinds, creatable};
@@ -19,11 +20,11 @@ pub fn get_variable(kinds: &Kinds, code: &mut Code, emission: &mut Emission, row
     requires room_for { RoomFor 1 0 emission.old }
     ensures { Does (variable_code kinds.now row v.0) 1 0 emission.old code.old emission.new code.new }
 {
-    if object_known(emission, v) {} else {
+    if !object_known(emission, v) {
         if creatable(kinds, v) {
             instructions::create(code, emission, row, v);
         } else {
-            refuse(emission, 7, row);
+            refuse(emission, Compiled::ReadWhileUnset(row as u32));
         }
     }
 }

@@ -15,7 +15,6 @@ ghost use Rattle.creating.specs.Creates.{Creates, CreatesParts};
 use emission::{Part, instructions, parts_of, scratch};
 use knowing::{Code, Emission, take};
 use layout::{Kinds, Rows};
-use numbers::limits::MOST_PARTS;
 use patterns::forms as form;
 
 // s : S(key, r)
@@ -122,15 +121,8 @@ fn create_tuple(
     let t = patterns::variable(word);
     let n = patterns::count(word);
     let first = take(emission, n);
-    create_parts(
-        rows,
-        kinds,
-        code,
-        emission,
-        row,
-        parts_of(patterns::slots(word), first),
-        n,
-    );
+    let parts = parts_of(patterns::slots(word), first);
+    create_parts(rows, kinds, code, emission, row, &parts[..n as usize]);
     let cell = scratch(first);
     instructions::create_tuple(code, emission, row, t, cell, n);
     instructions::encode(code, emission, row, t);
@@ -144,18 +136,14 @@ fn create_parts(
     code: &mut Code,
     emission: &mut Emission,
     row: u8,
-    parts: [Part; MOST_PARTS],
-    n: u8,
+    parts: &[Part],
 )
-    requires { PartsAt rows.now row parts n emission.old }
-    ensures { CreatesParts rows.now kinds.now row parts n emission.old code.old emission.new code.new }
+    requires { PartsAt rows.now row parts.now emission.old }
+    ensures { CreatesParts rows.now kinds.now row parts.now emission.old code.old emission.new code.new }
 {
-    let mut k: usize = 0;
-    while k < n as usize {
-        let part = parts[k];
+    for part in parts {
         create_row(rows, kinds, code, emission, part.child);
         instructions::store(code, emission, row, scratch(part.scratch));
-        k += 1;
     }
 }
 

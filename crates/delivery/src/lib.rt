@@ -6,14 +6,21 @@ ghost use Rattle.numbers.specs.Limits.{most_code_words};
 ghost use Rattle.calls.specs.Compile.{written, used_part};
 
 use answers::Compiled;
+use numbers::limits::MOST_CODE_WORDS;
 
+// Of a large array only the length is promised: a goal would spell every zero.
+pub fn no_words() -> [u32; MOST_CODE_WORDS]
+    ensures { length result ≡ most_code_words }
+{
+    [0u32; MOST_CODE_WORDS]
+}
+
+// The words in front; what stands behind them stays.
 pub fn copy(words: &[u32], code: &mut [u32])
     requires { length words.now ≤ length code.old }
     ensures { code.new ≡ words.now ++ drop (length words.now) code.old }
 {
-    for place in 0..words.len() {
-        code[place] = words[place];
-    }
+    code[..words.len()].copy_from_slice(words);
 }
 
 // 8 where the words do not fit; words past them stay.

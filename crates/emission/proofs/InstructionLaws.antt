@@ -13,17 +13,17 @@ use Rattle.theory.specs.Emission.{Env, Emitted, ok, and_then, ◌then◌, reads,
 use Rattle.knowing.specs.Steps.{read_object, looks}
 use Rattle.knowing.specs.Meets.{Does, Quiet}
 use Rattle.knowing.proofs.MeetsLaws.{after_nil, does_as, does_seq, does_none}
+use Rattle.knowing.specs.declared.Emission.{Emission}
 
-nothing : {e : List ℕ} → Quiet (ok []) 0 e e
-nothing = record { does = λ code. does_none; place = omega arith; free = omega arith; long = refl }
+nothing : {e : Emission} → Quiet (ok []) 0 e e
+nothing = record { does = λ code. does_none; place = omega arith; free = omega arith }
 
-quiet_seq : {f g : Env → Emitted} {e e₁ e₂ : List ℕ} → Quiet f 0 e e₁ → Quiet g 0 e₁ e₂ → Quiet (f then g) 0 e e₂
+quiet_seq : {f g : Env → Emitted} {e e₁ e₂ : Emission} → Quiet f 0 e e₁ → Quiet g 0 e₁ e₂ → Quiet (f then g) 0 e e₂
 quiet_seq k l =
     record {
       does = λ code. does_seq (k.does code) (l.does code);
       place = omega (arith, k.place, l.place);
       free = omega (arith, k.free, l.free);
-      long = l.long ∙ k.long;
     }
 
 -- one look, and then
@@ -56,20 +56,20 @@ emit_looks : (row : ℕ) (i : Instruction) (env : Env) → emit row i env ≡ an
 unfolding emit
 emit_looks row i env = then_reading row (one row i) (uses_of i).reads (uses_of i).writes env
 
-module _ (row : ℕ) (i : Instruction) (word : ℕ) {e₁ e₂ code code₂ : List ℕ} (spells : word ≡ join word_widths (fields_of i))
+module _ (row : ℕ) (i : Instruction) (word : ℕ) {e₁ e₂ : Emission} {code code₂ : List ℕ} (spells : word ≡ join word_widths (fields_of i))
     (writes_it : (l : Line) → word ≡ word_of l.instruction → Does (ok (l ∷ [])) 1 0 e₁ code e₂ code₂) where
   -- so it is emitted by what it does before its word
-  emitted_as : {f : Env → Emitted} {e : List ℕ} → Quiet f 0 e e₁ → ((env : Env) → looks row i env ≡ f env) → Does (emit row i) 1 0 e code e₂ code₂
+  emitted_as : {f : Env → Emitted} {e : Emission} → Quiet f 0 e e₁ → ((env : Env) → looks row i env ≡ f env) → Does (emit row i) 1 0 e code e₂ code₂
   unfolding word_of
   emitted_as k same =
       does_as (λ env. emit_looks row i env ∙ ap (λ (x : Emitted). and_then x (one row i)) (same env))
       (does_seq (k.does code) (writes_it (line_at row i) spells))
 
-  pub emitted : {f : Env → Emitted} {e : List ℕ} → Quiet f 0 e e₁ → looks row i ≡ f → Does (emit row i) 1 0 e code e₂ code₂
+  pub emitted : {f : Env → Emitted} {e : Emission} → Quiet f 0 e e₁ → looks row i ≡ f → Does (emit row i) 1 0 e code e₂ code₂
   emitted k same = emitted_as k λ env. ap (λ (g : Env → Emitted). g env) same
 
   -- by an object variable that it reads, and then
-  pub emitted_twice : {v : ℕ} {g : Env → Emitted} {e e₀ : List ℕ} → Quiet (read_object row v) 0 e e₀ → Quiet g 0 e₀ e₁
+  pub emitted_twice : {v : ℕ} {g : Env → Emitted} {e e₀ : Emission} → Quiet (read_object row v) 0 e e₀ → Quiet g 0 e₀ e₁
       → looks row i ≡ (λ env. reads row (env.objects v) (g env)) → Does (emit row i) 1 0 e code e₂ code₂
   unfolding and_then
   emitted_twice {v} {g} k l same =

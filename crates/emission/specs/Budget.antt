@@ -1,9 +1,10 @@
 -- The rows of a pattern, and the room that a pattern asks.
-use Rattle.std.specs.Prelude.{ℕ, ◌+◌, ◌-◌, ◌*◌, ◌≤◌, ◌≡◌, List, length}
+use Rattle.std.specs.Prelude.{ℕ, ◌+◌, ◌-◌, ◌*◌, ◌≤◌, List}
 use Rattle.numbers.specs.Limits.{most_code_words}
 use Rattle.patterns.specs.Pattern.{Pattern, Parts, count, size, sizes}
 use Rattle.patterns.specs.Standing.{pattern_in, Stands, StandsAt}
-use Rattle.knowing.specs.Meets.{next_in, written_in, RoomFor}
+use Rattle.knowing.specs.Meets.{RoomFor}
+use Rattle.knowing.specs.declared.Emission.{Emission}
 
 -- what a pattern of so many rows emits and takes at most
 abbrev pub most_words : Pattern → ℕ
@@ -20,17 +21,16 @@ abbrev pub scratches_of : Parts → ℕ
 scratches_of ps = 2 * sizes ps - count ps
 
 -- a row of the pattern, and room for its pattern
-pub record Row (rows : List ℕ) (row : ℕ) (e : List ℕ) : Type 0 where
+pub record Row (rows : List ℕ) (row : ℕ) (e : Emission) : Type 0 where
   pub stands : Stands rows row
   pub room : RoomFor (most_words (pattern_in rows row)) (most_scratches (pattern_in rows row)) e
 
 -- the same, with the row's word
-pub record RowAt (rows : List ℕ) (row word : ℕ) (e : List ℕ) : Type 0 where
+pub record RowAt (rows : List ℕ) (row word : ℕ) (e : Emission) : Type 0 where
   pub standing : StandsAt rows row word
   pub room : RoomFor (most_words (pattern_in rows row)) (most_scratches (pattern_in rows row)) e
 
 -- room for the parts of a tuple, whose own scratch numbers are taken already
-pub record RoomParts (ps : Parts) (e : List ℕ) : Type 0 where
-  pub long : length e ≡ 5
-  pub place : written_in e + words_of ps ≤ most_code_words
-  pub free : next_in e + 2 * sizes ps ≤ 191 + count ps
+pub record RoomParts (ps : Parts) (e : Emission) : Type 0 where
+  pub place : e.written + words_of ps ≤ most_code_words
+  pub free : e.next + 2 * sizes ps ≤ 191 + count ps

@@ -1,6 +1,6 @@
 -- The parts of a tuple, each with the scratch number that holds it.
-use Rattle.std.specs.Prelude.{ℕ, ◌+◌, ◌≤◌, ◌<◌, ◌≡◌, List, [], ◌∷◌, map, get_or, take, drop}
-use Rattle.numbers.specs.Limits.{scratch_cells, most_parts}
+use Rattle.std.specs.Prelude.{ℕ, ◌+◌, ◌≤◌, ◌<◌, ◌≡◌, List, [], ◌∷◌, map, length, get_or, drop}
+use Rattle.numbers.specs.Limits.{scratch_cells}
 use Rattle.patterns.specs.Pattern.{Parts}
 use Rattle.patterns.specs.Standing.{pattern_in, Stands}
 use Rattle.patterns.specs.Tree.{parts_by}
@@ -8,6 +8,7 @@ use Rattle.theory.specs.Emission.{Env, Emitted}
 use Rattle.emission.specs.declared.Part.{Part}
 use Rattle.knowing.specs.Meets.{Does}
 use Rattle.emission.specs.Budget.{words_of, scratches_of, RoomParts}
+use Rattle.knowing.specs.declared.Emission.{Emission}
 
 -- the four slots, with scratch numbers from the first on
 abbrev pub parts_from : List ℕ → ℕ → List Part
@@ -22,20 +23,19 @@ abbrev pub part_at : List Part → ℕ → Part
 part_at parts k = get_or parts k (record { child = 0; scratch = 0 })
 
 -- the patterns of the parts from the kth on
-abbrev pub parts_in : List ℕ → List Part → ℕ → ℕ → Parts
-parts_in rows parts n k = parts_by (pattern_in rows) (map (λ p. p.child) (drop k (take n parts)))
+abbrev pub parts_in : List ℕ → List Part → ℕ → Parts
+parts_in rows parts k = parts_by (pattern_in rows) (map (λ p. p.child) (drop k parts))
 
 -- parts below their row, with scratch numbers that follow each other, and room for them
-pub record PartsAt (rows : List ℕ) (row : ℕ) (parts : List Part) (n : ℕ) (e : List ℕ) : Type 0 where
+pub record PartsAt (rows : List ℕ) (row : ℕ) (parts : List Part) (e : Emission) : Type 0 where
   pub stands : Stands rows row
-  pub few : n ≤ most_parts
-  pub below : (k : ℕ) → k < n → (part_at parts k).child < row
-  pub laid : (k : ℕ) → k < n → (part_at parts k).scratch ≡ (part_at parts 0).scratch + k
-  pub cells : (part_at parts 0).scratch + n ≤ scratch_cells
-  pub room : RoomParts (parts_in rows parts n 0) e
+  pub below : (k : ℕ) → k < length parts → (part_at parts k).child < row
+  pub laid : (k : ℕ) → k < length parts → (part_at parts k).scratch ≡ (part_at parts 0).scratch + k
+  pub cells : (part_at parts 0).scratch + length parts ≤ scratch_cells
+  pub room : RoomParts (parts_in rows parts 0) e
 
 -- what is emitted for the parts, given for their patterns, the tuple's row and the first scratch number
-abbrev pub DoesParts : (Parts → ℕ → ℕ → Env → Emitted) → List ℕ → ℕ → List Part → ℕ → List ℕ → List ℕ → List ℕ → List ℕ → Type 0
-DoesParts all rows row parts n e code e' code' =
-    let ps = parts_in rows parts n 0 in
+abbrev pub DoesParts : (Parts → ℕ → ℕ → Env → Emitted) → List ℕ → ℕ → List Part → Emission → List ℕ → Emission → List ℕ → Type 0
+DoesParts all rows row parts e code e' code' =
+    let ps = parts_in rows parts 0 in
     Does (all ps row (part_at parts 0).scratch) (words_of ps) (scratches_of ps) e code e' code'

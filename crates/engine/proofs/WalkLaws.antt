@@ -3,7 +3,7 @@ use Prim.Native.Nat.{ℕ, ◌<◌, ◌≤◌}
 use mathlib.Core.Path.{◌≡◌, refl, sym, ◌∙◌, ap, subst}
 use mathlib.Core.Logic.{⊎_elim}
 use mathlib.Core.Bool.{Bool, true, false, not}
-use mathlib.Core.Option.{Option, none, some}
+use Rattle.std.specs.Prelude.{Option, None, Some, Err, Ok}
 use mathlib.Core.List.{List, ◌++◌}
 use native.Mathlib.Decide.{dec_lt}
 use native.Mathlib.Omega.{arith}
@@ -11,7 +11,6 @@ use lib.ListN.{length, get_or}
 use lib.Seq.{ext_get_or, get_or-take, take_all}
 use Rattle.word.proofs.TestLaws.{both, twice, at_most}
 use Rattle.answers.specs.First.{first}
-use Rattle.answers.specs.declared.Reason.{Reason}
 use Rattle.answers.specs.declared.direct.Direct.TheVariants as Direct
 use Rattle.numbers.specs.Kinds.{kind_in}
 use Rattle.numbers.specs.Sorts.{as_term_row}
@@ -23,7 +22,6 @@ use Rattle.stores.specs.Cells.{held}
 use Rattle.terms.specs.Rules.{used_rows, bad_term}
 use Rattle.terms.proofs.TableLaws.{used_rows_lem, valid_table}
 use Rattle.theory.specs.Outcome.{Outcome, done, bind}
-use Rattle.theory.specs.Outcome as Outcome
 use Rattle.theory.specs.RowModel.{row_world}
 use Rattle.theory.specs.Machine.{Stores}
 use Rattle.theory.specs.Rules.{match}
@@ -39,25 +37,24 @@ use Rattle.execution.proofs.CellLaws.{cells_back}
 use Rattle.machine.specs.Machine.{Slices, slices, Within}
 use Rattle.leaf_matching.specs.Matched.{meets}
 use Rattle.walk_leaves.specs.Creation.{creation, CreatesBy}
-use Rattle.walks.specs.Walks.{stores_at, Kept, Comes, goes, sticks, fills, stores_alone}
+use Rattle.walks.specs.Walks.{Walked, stores_at, Kept, Comes, goes, sticks, fills, stores_alone}
 use Rattle.walks.specs.declared.Walk.{Walk}
-use Rattle.walks.specs.declared.Walked.{Walked}
-use Rattle.walks.specs.declared.Walked.TheVariants.{Next, Stuck, NoRoom}
-use Rattle.engine.specs.Walking.{handed, walk_rule, Walkable}
+use Rattle.walks.specs.declared.Ended.{Ended}
+use Rattle.engine.specs.Walking.{handed, walk_rule, ended_as, Walkable}
 
 -- checks of which the first ones refuse nothing
-first_front : {A : Type 0} (checks more : List (Option A)) → first (checks ++ more) ≡ none → first checks ≡ none
+first_front : {A : Type 0} (checks more : List (Option A)) → first (checks ++ more) ≡ None → first checks ≡ None
 first_front {A} checks more e = go (first checks) refl
   where
-    go : (o : Option A) → first checks ≡ o → first checks ≡ none
-    go none q = q
-    go (some answer) q = let r = first_before checks more answer q in absurd (let z : ◌≡◌ {A = ℕ} 0 1 = cc in omega arith)
+    go : (o : Option A) → first checks ≡ o → first checks ≡ None
+    go None q = q
+    go (Some answer) q = let r = first_before checks more answer q in absurd (let z : ◌≡◌ {A = ℕ} 0 1 = cc in omega arith)
 
 -- what the checks leave true
 pub record Given (pattern : List ℕ) (x : Lent) : Type 0 where
   pub least : 1 ≤ length pattern
   pub most : length pattern ≤ most_pattern_rows
-  pub rows_good : bad_pattern pattern ≡ none
+  pub rows_good : bad_pattern pattern ≡ None
   pub objects_length : length x.objects ≡ variables
   pub named_length : length x.messages ≡ named_cells
   pub few_rows : length x.terms ≤ most_term_rows
@@ -149,7 +146,7 @@ module _ {create : Bool} {pattern : List ℕ} {x : Lent} {used : ℕ} (w : Walka
       go row l (no from) = cleared.zeros row (omega (arith, from)) l ∙ sym (given.zeros row (omega (arith, from, w.counted)))
 
   module _ {after : Slices} where
-    ended_next : {next : Walk} (o : Outcome (ℕ × Stores row_world)) → Comes (handed create x.accumulator) used lent o (Next next) after
+    ended_next : {next : Walk} (o : Outcome (ℕ × Stores row_world)) → Comes (handed create x.accumulator) used lent o (Ok next) after
         → done_with next after
         ≡ direct_ends x o
     unfolding state_over
@@ -158,15 +155,11 @@ module _ {create : Bool} {pattern : List ℕ} {x : Lent} {used : ℕ} (w : Walka
         let named : length after.messages ≡ 64 = kept.lengths.messages_length ∙ given.named_length in
         rw (← e, take_all 64 after.messages (omega (arith, named)), cells_back after.objects 64 few, cells_back after.messages 64 named)
 
-    ended_stuck : {row : ℕ} {reason : Reason} {rows : List ℕ} (o : Outcome (ℕ × Stores row_world)) → Comes (handed create x.accumulator) used lent o (Stuck row reason) after
+    ended_back : {ended : Ended} {rows : List ℕ} (o : Outcome (ℕ × Stores row_world)) → Comes (handed create x.accumulator) used lent o (Err ended) after
         → Cleared after.rows used (length after.rows) rows
-        → record { answer = Direct.Stuck row reason; objects = x.objects; named = x.messages; accumulator = x.accumulator; terms = rows; counter = x.counter } ≡ direct_ends x o
-    ended_stuck o (sticks e kept) cleared = rw (undone kept cleared, ← e)
-
-    ended_room : {row : ℕ} {rows : List ℕ} (o : Outcome (ℕ × Stores row_world)) → Comes (handed create x.accumulator) used lent o (NoRoom row) after
-        → Cleared after.rows used (length after.rows) rows
-        → record { answer = Direct.NoRoom row; objects = x.objects; named = x.messages; accumulator = x.accumulator; terms = rows; counter = x.counter } ≡ direct_ends x o
-    ended_room o (fills kept) cleared = rw (undone kept cleared)
+        → record { answer = ended_as ended; objects = x.objects; named = x.messages; accumulator = x.accumulator; terms = rows; counter = x.counter } ≡ direct_ends x o
+    ended_back o (sticks e kept) cleared = rw (undone kept cleared, ← e)
+    ended_back o (fills kept) cleared = rw (undone kept cleared)
 
   -- each way out of the walk
   module _ {p : Pattern} (same : p ≡ pattern_of pattern) {answer : Walked} {after : Slices}
@@ -182,17 +175,12 @@ module _ {create : Bool} {pattern : List ℕ} {x : Lent} {used : ℕ} (w : Walka
     pub walk_span : used ≤ length after.rows
     walk_span = rw (comes_kept comes).lengths.rows_length within.used_rows_lem
 
-    pub walk_done : {next : Walk} → answer ≡ Next next
+    pub walk_done : {next : Walk} → answer ≡ Ok next
         → done_with next after
         ≡ direct_ends x (ruled create pattern x create)
     walk_done e = ended_next _ (rw e at comes)
 
-    pub walk_stuck : {place : ℕ} {reason : Reason} {left : List ℕ} → answer ≡ Stuck place reason → Cleared after.rows used (length after.rows) left
-        → record { answer = Direct.Stuck place reason; objects = x.objects; named = x.messages; accumulator = x.accumulator; terms = left; counter = x.counter }
+    pub walk_ended : {ended : Ended} {left : List ℕ} → answer ≡ Err ended → Cleared after.rows used (length after.rows) left
+        → record { answer = ended_as ended; objects = x.objects; named = x.messages; accumulator = x.accumulator; terms = left; counter = x.counter }
         ≡ direct_ends x (ruled create pattern x create)
-    walk_stuck e cleared = ended_stuck _ (rw e at comes) cleared
-
-    pub walk_full : {place : ℕ} {left : List ℕ} → answer ≡ NoRoom place → Cleared after.rows used (length after.rows) left
-        → record { answer = Direct.NoRoom place; objects = x.objects; named = x.messages; accumulator = x.accumulator; terms = left; counter = x.counter }
-        ≡ direct_ends x (ruled create pattern x create)
-    walk_full e cleared = ended_room _ (rw e at comes) cleared
+    walk_ended e cleared = ended_back _ (rw e at comes) cleared

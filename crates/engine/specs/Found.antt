@@ -1,6 +1,7 @@
 -- What the engine finds before it walks: a refusal, or the number of used rows.
 use Rattle.std.specs.Prelude.{ℕ, Bool, List, [], ◌∷◌, ◌++◌}
-use Rattle.std.proofs.Math.Option.{Option, none, some, map}
+use Rattle.std.specs.Prelude.{Option, None, Some, Result, Ok, Err}
+use Rattle.std.specs.Option.{option_map}
 use Rattle.answers.specs.First.{first}
 use Rattle.answers.specs.declared.Compiled.{Compiled}
 use Rattle.answers.specs.declared.direct.Direct.{Direct}
@@ -8,12 +9,10 @@ use Rattle.terms.specs.Rules.{used_rows}
 use Rattle.calls.specs.Run.{Lent}
 use Rattle.calls.specs.Half.{known_refusals, known_emitted}
 use Rattle.calls.specs.Direct.{refused_as, refused_by, pattern_refusals, store_refusals}
-use Rattle.engine.specs.declared.checks.Finding.{Finding}
-use Rattle.engine.specs.declared.checks.Finding.TheVariants.{Refused, Accepted}
 
-abbrev pub found_before : Option Direct → List ℕ → Finding
-found_before (some answer) rows = Refused answer
-found_before none rows = Accepted (used_rows rows)
+abbrev pub found_before : Option Direct → List ℕ → Result ℕ Direct
+found_before (Some answer) rows = Err answer
+found_before None rows = Ok (used_rows rows)
 
 -- 1, 3, 4, 5 of compile, then 6 and 7, from which cells are set
 abbrev pub known_looks : Bool → List ℕ → List ℕ → (ℕ → Bool) → (ℕ → Bool) → List (Option Compiled)
@@ -22,4 +21,4 @@ known_looks create rows kinds objects named =
 
 -- every refusal in its order
 abbrev pub direct_refusals : Bool → List ℕ → Lent → List (Option Direct)
-direct_refusals creates pattern x = map refused_as (first (pattern_refusals creates pattern x)) ∷ store_refusals x
+direct_refusals creates pattern x = option_map refused_as (first (pattern_refusals creates pattern x)) ∷ store_refusals x

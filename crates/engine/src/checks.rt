@@ -10,14 +10,6 @@ ghost use Rattle.engine.specs.Found.{known_looks, found_before, direct_refusals}
 use answers::{Compiled, Direct};
 use knowing::set_cells;
 use numbers::limits::{MOST_CERTIFICATES, MOST_NAMES, MOST_TERM_ROWS};
-use terms::Checked;
-
-// What is found before the walk: a refusal, or the number of used rows.
-#[derive(Clone, Copy)]
-pub enum Finding {
-    Refused(Direct),
-    Accepted(u16),
-}
 
 // Compile's refusal, in the engine's words.
 fn refused_as(answer: Compiled) -> Direct
@@ -42,17 +34,14 @@ fn look_at_pattern(
     kinds: &[u8],
     objects: u64,
     named: u64,
-) -> knowing::Finding
+) -> Result<(), Compiled>
     ensures { result ≡ finding_of (first (known_looks create pattern.now kinds.now (known objects) (known named))) }
 {
-    let found = compiler::look(create, pattern, kinds, objects);
-    match found {
-        knowing::Finding::Refused(answer) => knowing::Finding::Refused(answer),
-        knowing::Finding::Accepted => surveys::survey(create, pattern, kinds, objects, named),
-    }
+    compiler::look(create, pattern, kinds, objects)?;
+    surveys::survey(create, pattern, kinds, objects, named)
 }
 
-// Run's 1, 2 and 3.
+// Run's 1, 2 and 3: a refusal, or the number of used rows.
 fn look_at_stores(
     kinds: &[u8],
     objects: &[u16],
@@ -61,7 +50,7 @@ fn look_at_stores(
     accumulator: u32,
     terms: &[u64],
     counter: u32,
-) -> Finding
+) -> Result<u16, Direct>
     ensures { result ≡ found_before (first (store_refusals (record {
       kinds = kinds.now;
       objects = objects.now;
@@ -76,31 +65,26 @@ fn look_at_stores(
         & (terms.len() <= MOST_TERM_ROWS)
         & (counter <= MOST_NAMES);
     if !fits {
-        return Finding::Refused(Direct::Limit);
+        return Err(Direct::Limit);
     }
-    let checked = tables::first_bad_row(terms, counter);
-    match checked {
-        Checked::Bad(row) => Finding::Refused(Direct::BadTerm(row)),
-        Checked::Used(count) => {
-            let used = count as u16;
-            let good = validity::valid(
-                terms,
-                used,
-                kinds,
-                objects,
-                named,
-                certificates,
-                accumulator,
-            );
-            if good {
-                Finding::Accepted(used)
-            } else {
-                Finding::Refused(Direct::BadStore)
-            }
-        }
+    let count = tables::first_bad_row(terms, counter).map_err(Direct::BadTerm)?;
+    let used = count as u16;
+    if validity::valid(
+        terms,
+        used,
+        kinds,
+        objects,
+        named,
+        certificates,
+        accumulator,
+    ) {
+        Ok(used)
+    } else {
+        Err(Direct::BadStore)
     }
 }
 
+// Every refusal in its order, or the number of used rows.
 pub fn look(
     create: bool,
     pattern: &[u64],
@@ -111,7 +95,7 @@ pub fn look(
     accumulator: u32,
     terms: &[u64],
     counter: u32,
-) -> Finding
+) -> Result<u16, Direct>
     requires { (length objects.now ≡ variables) × (length named.now ≡ named_cells) }
     ensures { result ≡ found_before (first (direct_refusals create pattern.now (record {
       kinds = kinds.now;
@@ -125,17 +109,14 @@ pub fn look(
 {
     let set_objects = set_cells(objects);
     let set_named = set_cells(named);
-    let found = look_at_pattern(create, pattern, kinds, set_objects, set_named);
-    match found {
-        knowing::Finding::Refused(answer) => Finding::Refused(refused_as(answer)),
-        knowing::Finding::Accepted => look_at_stores(
-            kinds,
-            objects,
-            named,
-            certificates,
-            accumulator,
-            terms,
-            counter,
-        ),
-    }
+    look_at_pattern(create, pattern, kinds, set_objects, set_named).map_err(refused_as)?;
+    look_at_stores(
+        kinds,
+        objects,
+        named,
+        certificates,
+        accumulator,
+        terms,
+        counter,
+    )
 }

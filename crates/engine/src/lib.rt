@@ -5,7 +5,7 @@ ghost use Rattle.std.specs.Prelude.{◌≡◌};
 ghost use Rattle.calls.specs.Direct.{direct};
 
 use answers::Direct;
-use checks::{Finding, look};
+use checks::look;
 use numbers::limits::VARIABLES;
 use running::cells::{copy, object_cells};
 use walking::walk;
@@ -54,7 +54,7 @@ pub fn direct_cells(
           counter = counter;
         }) }
 {
-    let found = look(
+    let looked = look(
         create,
         pattern,
         kinds,
@@ -65,15 +65,15 @@ pub fn direct_cells(
         terms,
         counter,
     );
-    match found {
-        Finding::Refused(answer) => Outcome {
-            answer: answer,
-            objects: objects,
-            named: named,
-            accumulator: accumulator,
-            counter: counter,
+    match looked {
+        Err(answer) => Outcome {
+            answer,
+            objects,
+            named,
+            accumulator,
+            counter,
         },
-        Finding::Accepted(used) => walk(
+        Ok(used) => walk(
             create,
             pattern,
             kinds,
@@ -110,12 +110,11 @@ pub fn direct(
           counter = counter;
         }) }
 {
-    let whole = (objects.len() == VARIABLES) & (named.len() == VARIABLES);
-    if !whole {
+    if objects.len() != VARIABLES || named.len() != VARIABLES {
         return Tried {
             answer: Direct::Limit,
-            accumulator: accumulator,
-            counter: counter,
+            accumulator,
+            counter,
         };
     }
     let left = direct_cells(
@@ -129,13 +128,10 @@ pub fn direct(
         terms,
         counter,
     );
-    let left_objects = left.objects;
-    let left_named = left.named;
-    copy(&left_objects, objects);
-    copy(&left_named, named);
-    let answer = left.answer;
+    copy(&left.objects, objects);
+    copy(&left.named, named);
     Tried {
-        answer: answer,
+        answer: left.answer,
         accumulator: left.accumulator,
         counter: left.counter,
     }

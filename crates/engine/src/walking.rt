@@ -1,42 +1,37 @@
 // The walk from the pattern's root, on copies of the cells.
-ghost use Rattle.std.specs.Prelude.{◌≡◌, length};
-ghost use Rattle.numbers.specs.Limits.{variables, named_cells};
+ghost use Rattle.std.specs.Prelude.{◌≡◌};
 ghost use Rattle.patterns.specs.Standing.{Stands};
 ghost use Rattle.machine.specs.Machine.{slices, Within};
 ghost use Rattle.calls.specs.CompileThenRun.{handed_back};
-ghost use Rattle.engine.specs.Walking.{WalksRow, Walkable, walked_from};
+ghost use Rattle.engine.specs.Walking.{ended_as, WalksRow, Walkable, walked_from};
 
 use super::Outcome;
 use answers::Direct;
 use execution::clear;
-use layout::{Rows, lay_rows, no_rows};
+use layout::{lay_rows, no_rows};
 use numbers::TermRow;
 use numbers::limits::VARIABLES;
-use walks::{Walk, Walked};
+use walks::{Cells, Ended, Ground, Walk, Walked};
 
 // A creation makes its message, a match has the message in hand.
 fn walk_row(
     create: bool,
-    rows: &Rows,
-    kinds: &[u8],
-    certificates: &[u64],
+    ground: &Ground<'_>,
     terms: &mut [u64],
-    objects: &mut [u16],
-    named: &mut [u16],
+    cells: &mut Cells,
     start: Walk,
     row: u8,
 ) -> Walked
-    requires stands { Stands rows.now row }
+    requires stands { Stands ground.now.rows.now row }
     requires within { Within terms.old start.used }
-    requires objects_len { (length objects.old ≡ variables) × (length named.old ≡ named_cells) }
-    ensures { WalksRow create rows.now kinds.now row start
-        (slices objects.old named.old terms.old certificates.now) result
-        (slices objects.new named.new terms.new certificates.now) }
+    ensures { WalksRow create ground.now.rows.now ground.now.kinds.now row start
+        (slices cells.old.objects cells.old.named terms.old ground.now.certificates.now) result
+        (slices cells.new.objects cells.new.named terms.new ground.now.certificates.now) }
 {
     if create {
-        walk_creating::create_row(rows, kinds, certificates, terms, objects, named, start, row)
+        walk_creating::create_row(ground, terms, cells, start, row)
     } else {
-        walk_matching::match_row(rows, kinds, certificates, terms, objects, named, start, row)
+        walk_matching::match_row(ground, terms, cells, start, row)
     }
 }
 
@@ -45,6 +40,16 @@ fn handed_back(create: bool, given: u32, message: TermRow) -> u32
     ensures { result ≡ handed_back create given message.0 }
 {
     if create { message.0 as u32 } else { given }
+}
+
+// How a walk has ended, as the engine answers it.
+fn ended_as(ended: Ended) -> Direct
+    ensures { result ≡ ended_as ended }
+{
+    match ended {
+        Ended::Stuck(row, reason) => Direct::Stuck(row as u32, reason),
+        Ended::NoRoom(row) => Direct::NoRoom(row as u32),
+    }
 }
 
 // What does not end gives its rows back, and the cells on entry.
@@ -85,54 +90,33 @@ pub fn walk(
     let root = (pattern.len() - 1) as u8;
     let start = Walk {
         message: TermRow(accumulator as u16),
-        used: used,
-        counter: counter,
+        used,
+        counter,
     };
     let from = used as usize;
-    let mut new_objects = objects;
-    let mut new_named = named;
-    let walked = walk_row(
-        create,
-        &rows,
+    let ground = Ground {
+        rows: &rows,
         kinds,
         certificates,
-        terms,
-        &mut new_objects,
-        &mut new_named,
-        start,
-        root,
-    );
-    match walked {
-        Walked::Next(after) => {
-            let message = after.message;
-            Outcome {
-                answer: Direct::Done,
-                objects: new_objects,
-                named: new_named,
-                accumulator: handed_back(create, accumulator, message),
-                counter: after.counter,
-            }
-        }
-        Walked::Stuck(row, reason) => {
+    };
+    let mut cells = Cells { objects, named };
+    match walk_row(create, &ground, terms, &mut cells, start, root) {
+        Ok(after) => Outcome {
+            answer: Direct::Done,
+            objects: cells.objects,
+            named: cells.named,
+            accumulator: handed_back(create, accumulator, after.message),
+            counter: after.counter,
+        },
+        Err(ended) => {
             let to = terms.len();
             clear(terms, from, to);
             Outcome {
-                answer: Direct::Stuck(row as u32, reason),
-                objects: objects,
-                named: named,
-                accumulator: accumulator,
-                counter: counter,
-            }
-        }
-        Walked::NoRoom(place) => {
-            let upto = terms.len();
-            clear(terms, from, upto);
-            Outcome {
-                answer: Direct::NoRoom(place as u32),
-                objects: objects,
-                named: named,
-                accumulator: accumulator,
-                counter: counter,
+                answer: ended_as(ended),
+                objects,
+                named,
+                accumulator,
+                counter,
             }
         }
     }

@@ -1,31 +1,14 @@
--- Rows that are cleared one after another; what a run appended and cleared is as it was.
-use Prim.Native.Nat.{ℕ, ◌+◌, ◌<◌, ◌≤◌}
-use mathlib.Core.Path.{◌≡◌, refl, sym, ◌∙◌}
+-- What a run appended and cleared is as it was.
+use Prim.Native.Nat.{ℕ, ◌<◌, ◌≤◌}
+use mathlib.Core.Path.{◌≡◌, sym, ◌∙◌}
 use mathlib.Core.List.{List}
 use native.Mathlib.Decide.{dec_lt}
 use native.Mathlib.Omega.{arith}
-use native.Mathlib.Decide.{ℕ_discrete}
-use lib.ListN.{length, get_or, set, length-set}
-use lib.Seq.{ext_get_or, get_or-set_same, get_or-set_other}
+use lib.ListN.{get_or}
+use lib.Seq.{ext_get_or}
 use Rattle.theory.specs.RowModel.{Table}
 use Rattle.theory.proofs.RowsKept.{Appended}
 use Rattle.execution.specs.Steps.{Cleared}
-
-module _ (rows : List ℕ) (from : ℕ) where
-  pub cleared_none : Cleared rows from from rows
-  cleared_none = record { long = refl; below = λ row l. refl; zeros = λ row l h. absurd (omega arith); above = λ row l. refl }
-
-  pub cleared_more : (rows' : List ℕ) (to : ℕ) → from ≤ to → to < length rows → Cleared rows from to rows' → Cleared rows from (to + 1) (set rows' to 0)
-  cleared_more rows' to up inside c = record {
-    long = length-set rows' to 0 ∙ c.long;
-    below = λ row l. get_or-set_other rows' to row 0 0 (λ e. omega arith) ∙ c.below row l;
-    zeros = λ row l h. go row l h (ℕ_discrete row to);
-    above = λ row l. get_or-set_other rows' to row 0 0 (λ e. omega arith) ∙ c.above row (omega arith);
-  }
-    where
-      go : (row : ℕ) → from ≤ row → row < to + 1 → Dec (row ≡ to) → get_or (set rows' to 0) row 0 ≡ 0
-      go row l h (yes e) = rw e (get_or-set_same rows' to 0 0 (omega (arith, c.long)))
-      go row l h (no n) = get_or-set_other rows' to row 0 0 n ∙ c.zeros row l (omega (arith, n))
 
 -- what was appended to a table whose unused rows are zero, and is cleared again
 pub appended_cleared : {x y : Table} {rows : List ℕ} → Appended x y → ((row : ℕ) → x.used ≤ row → get_or x.rows row 0 ≡ 0)

@@ -1,7 +1,7 @@
 -- A run that has come to a word: the rows only grew, and what is left of the code gives the outcome of the whole.
 use Prim.Native.Nat.{ℕ, suc, ◌+◌, ◌<◌, ◌≤◌}
 use mathlib.Core.Path.{◌≡◌, refl, sym, ◌∙◌, ap}
-use mathlib.Core.Option.{none}
+use Rattle.std.specs.Prelude.{None, Ok, Err}
 use mathlib.Core.List.{List, [], ◌∷◌}
 use native.Mathlib.Numerals.{add-one}
 use native.Mathlib.Omega.{arith}
@@ -10,51 +10,48 @@ use lib.ListN.{length, get_or, drop, drop_of_length-le}
 use lib.Seq.{drop-cons}
 use Rattle.answers.specs.Numbers.{reason_number}
 use Rattle.answers.proofs.NumberLaws.{reason_known}
-use Rattle.answers.specs.declared.Reason.{Reason}
 use Rattle.answers.specs.declared.Ran.{Ran}
-use Rattle.answers.specs.declared.Ran.TheVariants as Ran
 use Rattle.code.specs.Words.{good_word}
 use Rattle.code.specs.declared.Instruction.{Instruction}
 use Rattle.code.proofs.WordLaws.{GoodWord, good_iff, no_bad_word_iff}
 use Rattle.terms.specs.Rules.{used_rows}
 use Rattle.terms.proofs.TableLaws.{used_rows_lem}
 use Rattle.theory.specs.Outcome.{Outcome, done, bind}
-use Rattle.theory.specs.Outcome as Outcome
 use Rattle.theory.specs.RowModel.{Table, row_world}
 use Rattle.theory.specs.Machine.{line_at, State, step, exec}
 use Rattle.numbers.specs.Kinds.{kind_in}
 use Rattle.calls.specs.Run.{Lent, RunOutcome, state_over, state_of, lines_from, lines_of, run_by}
 use Rattle.theory.proofs.Places.{moved_to, moved_step}
 use Rattle.theory.proofs.RowsKept.{Appended, appended_none, exec_appends}
-use Rattle.machine.specs.Machine.{Slices, slices, state_at, Within, SameLengths, Agrees, next, stuck, no_room}
+use Rattle.machine.specs.Machine.{Slices, Answered, slices, state_at, Within, SameLengths, Agrees, next, stuck, no_room}
 use Rattle.machine.specs.declared.Registers.{Registers}
-use Rattle.machine.specs.declared.Step.{Step}
-use Rattle.machine.specs.declared.Step.TheVariants.{Next, Stuck, NoRoom}
-use Rattle.execution.specs.Steps.{Cleared, lent_from, left_with, Ready, DoesWord}
+use Rattle.machine.specs.declared.Halt.{Halt}
+use Rattle.machine.specs.declared.Halt.TheVariants.{Stuck, NoRoom}
+use Rattle.execution.specs.Steps.{Cleared, halted, cells_after, lent_from, left_with, Ready, DoesWord}
 use Rattle.execution.proofs.ClearLaws.{appended_cleared, appended_more}
 use Rattle.execution.proofs.CellLaws.{left_back}
 use Rattle.calls.proofs.FinishLaws.{state_valid}
 
 -- what an answer of a step says of its outcome
-goes_on : {before after : Slices} {outcome : Outcome (State row_world)} {g : Registers} → Agrees before outcome (Next g) after
+goes_on : {before after : Slices} {outcome : Outcome (State row_world)} {g : Registers} → Agrees before outcome (Ok g) after
     → (outcome ≡ done (state_at g after)) × SameLengths before after
 goes_on (next e lengths) = (ap done (sym e), lengths)
 
-sticks : {before after : Slices} {outcome : Outcome (State row_world)} {reason : Reason} → Agrees before outcome (Stuck reason) after
-    → ((place : ℕ) × (outcome ≡ Outcome.stuck place (reason_number reason))) × (after ≡ before)
-sticks (stuck {place} e same) = ((place, ap (Outcome.stuck place) (sym e)), same)
+-- the outcome at a step that stops
+abbrev stopped : Halt → ℕ → Outcome (State row_world)
+stopped (Stuck reason) place = Outcome.stuck place (reason_number reason)
+stopped NoRoom place = Outcome.room place
 
-fills : {before after : Slices} {outcome : Outcome (State row_world)} → Agrees before outcome NoRoom after
-    → ((place : ℕ) × (outcome ≡ Outcome.room place)) × (after ≡ before)
-fills (no_room {place} same) = ((place, refl), same)
+stops : {before after : Slices} {outcome : Outcome (State row_world)} {halt : Halt} → Agrees before outcome (Err halt) after
+    → ((place : ℕ) × (outcome ≡ stopped halt place)) × (after ≡ before)
+stops (stuck {place} e same) = ((place, ap (Outcome.stuck place) (sym e)), same)
+stops (no_room {place} same) = ((place, refl), same)
 
 -- a step that does not go on says its own place
-module _ (kind : ℕ → ℕ) (place : ℕ) (i : Instruction) (s : State row_world) {other : ℕ} where
-  stuck_here : {why : ℕ} → step row_world kind place i s ≡ Outcome.stuck other why → step row_world kind place i s ≡ Outcome.stuck place why
-  stuck_here e = sym (moved_step row_world kind place place i s) ∙ ap (moved_to place) e
-
-  room_here : step row_world kind place i s ≡ Outcome.room other → step row_world kind place i s ≡ Outcome.room place
-  room_here e = sym (moved_step row_world kind place place i s) ∙ ap (moved_to place) e
+stopped_here : (kind : ℕ → ℕ) (place : ℕ) (i : Instruction) (s : State row_world) (halt : Halt) (other : ℕ) → step row_world kind place i s ≡ stopped halt other
+    → step row_world kind place i s ≡ stopped halt place
+stopped_here kind place i s (Stuck reason) other e = sym (moved_step row_world kind place place i s) ∙ ap (moved_to place) e
+stopped_here kind place i s NoRoom other e = sym (moved_step row_world kind place place i s) ∙ ap (moved_to place) e
 
 module _ (x : Lent) where
   abbrev lent_table : Table
@@ -101,7 +98,7 @@ module _ (x : Lent) (code : List ℕ) {g : Registers} {objects messages rows : L
     unfolding state_over
     going_counted ready = (state_valid x code ready.valid ready.good_words _ at_end).table.counted
 
-    pub going_end : left_with (Ran.Done (length code)) g objects messages rows ≡ run_by x code none
+    pub going_end : left_with (Ran.Done (length code)) g objects messages rows ≡ run_by x code None
     going_end =
         rw at_end (sym (left_back (Ran.Done (length code)) g.accumulator.0 objects messages (table_at x g rows) w.objects_length w.messages_length))
 
@@ -126,13 +123,13 @@ module _ (x : Lent) (code : List ℕ) {g : Registers} {objects messages rows : L
         ≡ exec row_world kind (lines_of code) (state_of x)
     now = rw here at w.rest
 
-    module _ {objects' messages' rows' : List ℕ} {answer : Step}
+    module _ {objects' messages' rows' : List ℕ} {answer : Answered}
         (does : DoesWord kind i (get_or code i 0) g (slices objects messages rows x.certificates) answer (slices objects' messages' rows' x.certificates)) where
       agrees : Agrees (slices objects messages rows x.certificates) (step row_world kind i good.instruction (stands x g objects messages rows)) answer
           (slices objects' messages' rows' x.certificates)
       agrees = does good.instruction good.says
 
-      pub going_next : {g' : Registers} → answer ≡ Next g' → Going x code g' objects' messages' rows' (i + 1)
+      pub going_next : {g' : Registers} → answer ≡ Ok g' → Going x code g' objects' messages' rows' (i + 1)
       going_next {g'} q =
           let (goes, lengths) = goes_on (rw q at agrees) in
           record {
@@ -142,36 +139,35 @@ module _ (x : Lent) (code : List ℕ) {g : Registers} {objects messages rows : L
             rest = rw (add-one i) (rw goes at now);
           }
 
-      -- a step that does not go on left_with the rows, so that what was appended can be cleared
+      -- a step that does not go on left the rows, so that what was appended can be cleared
       module _ (same : slices objects' messages' rows' x.certificates ≡ slices objects messages rows x.certificates) where
-        spans : (used ≤ g.used) × (g.used ≤ length rows')
-        spans =
-            let e : rows' ≡ rows = ap (λ s. s.rows) same in
-            (omega (arith, w.grown.more, ready.counted), rw e (going_within ready).used_rows_lem)
-
         undone : {rows'' : List ℕ} → Cleared rows' used g.used rows'' → rows'' ≡ x.terms
         undone {rows''} cleared =
             let e : rows' ≡ rows = ap (λ s. s.rows) same in
             appended_cleared w.grown ready.valid.table.zeros (rw (e, ready.counted) at cleared)
 
-      pub stuck_spans : {reason : Reason} → answer ≡ Stuck reason → (used ≤ g.used) × (g.used ≤ length rows')
-      stuck_spans q = spans (sticks (rw q at agrees)).1
-
-      pub room_spans : answer ≡ NoRoom → (used ≤ g.used) × (g.used ≤ length rows')
-      room_spans q = spans (fills (rw q at agrees)).1
-
+      -- such a run keeps the cells and the registers of its start
       abbrev left : Ran → List ℕ → RunOutcome
-      left ran rows'' = record { answer = ran; objects = x.objects; messages = x.messages; accumulator = x.accumulator; terms = rows''; counter = x.counter }
+      left ran rows'' = record {
+        answer = ran;
+        objects = cells_after ran x.objects objects';
+        messages = cells_after ran x.messages messages';
+        accumulator = x.accumulator;
+        terms = rows'';
+        counter = x.counter;
+      }
 
-      pub stuck_ends : {reason : Reason} {rows'' : List ℕ} → answer ≡ Stuck reason → Cleared rows' used g.used rows''
-          → (left (Ran.Stuck i reason) rows'' ≡ run_by x code none) × (used ≡ used_rows rows'')
-      stuck_ends {reason} {rows''} q cleared =
-          let ((place, goes), same) = sticks (rw q at agrees) in
-          let e : exec row_world kind (lines_of code) (state_of x) ≡ Outcome.stuck i (reason_number reason) = sym (rw (stuck_here kind i good.instruction _ goes) at now) in
-          (rw (e, undone same cleared, reason_known reason), rw (undone same cleared) ready.counted)
+      module _ {rows'' : List ℕ} (cleared : Cleared rows' used g.used rows'') where
+        halt_left : (halt : Halt) → answer ≡ Err halt → left (halted halt i) rows'' ≡ run_by x code None
+        halt_left (Stuck reason) q =
+            let ((place, goes), same) = stops (rw q at agrees) in
+            let e : exec row_world kind (lines_of code) (state_of x) ≡ Outcome.stuck i (reason_number reason) =
+            sym (rw (stopped_here kind i good.instruction _ (Stuck reason) place goes) at now) in
+            rw (e, undone same cleared, reason_known reason)
+        halt_left NoRoom q =
+            let ((place, goes), same) = stops (rw q at agrees) in
+            let e : exec row_world kind (lines_of code) (state_of x) ≡ Outcome.room i = sym (rw (stopped_here kind i good.instruction _ NoRoom place goes) at now) in
+            rw (e, undone same cleared)
 
-      pub room_ends : {rows'' : List ℕ} → answer ≡ NoRoom → Cleared rows' used g.used rows'' → (left (Ran.NoRoom i) rows'' ≡ run_by x code none) × (used ≡ used_rows rows'')
-      room_ends {rows''} q cleared =
-          let ((place, goes), same) = fills (rw q at agrees) in
-          let e : exec row_world kind (lines_of code) (state_of x) ≡ Outcome.room i = sym (rw (room_here kind i good.instruction _ goes) at now) in
-          (rw (e, undone same cleared), rw (undone same cleared) ready.counted)
+        pub halt_ends : (ran : Ran) (halt : Halt) → ran ≡ halted halt i → answer ≡ Err halt → (left ran rows'' ≡ run_by x code None) × (used ≡ used_rows rows'')
+        halt_ends ran halt is q = (rw is (halt_left halt q), rw (undone (stops (rw q at agrees)).1 cleared) ready.counted)

@@ -1,6 +1,6 @@
 -- What run's steps start from and leave, and rows that are unused again.
 use Rattle.std.specs.Prelude.{ℕ, ◌<◌, ◌≤◌, ◌≡◌, cond, List, eqb, length, get_or}
-use Rattle.std.proofs.Math.Option.{none, some}
+use Rattle.std.specs.Prelude.{None, Some}
 use Rattle.answers.specs.Numbers.{ran_number}
 use Rattle.answers.specs.declared.Ran.{Ran}
 use Rattle.code.specs.Instruction.{instruction_of}
@@ -13,9 +13,10 @@ use Rattle.numbers.specs.Kinds.{kind_in}
 use Rattle.calls.specs.Run.{Lent, RunOutcome}
 use Rattle.calls.specs.Valid.{Valid}
 use Rattle.numbers.specs.Limits.{most_round_words}
-use Rattle.machine.specs.Machine.{Slices, state_at, Agrees}
+use Rattle.machine.specs.Machine.{Slices, Answered, state_at, Agrees}
 use Rattle.machine.specs.declared.Registers.{Registers}
-use Rattle.machine.specs.declared.Step.{Step}
+use Rattle.machine.specs.declared.Halt.{Halt}
+use Rattle.machine.specs.declared.Halt.TheVariants.{Stuck, NoRoom}
 
 -- rows that are zero from one on to another, and as they were elsewhere
 pub record Cleared (rows : List ℕ) (from to : ℕ) (rows' : List ℕ) : Type 0 where
@@ -27,6 +28,11 @@ pub record Cleared (rows : List ℕ) (from to : ℕ) (rows' : List ℕ) : Type 0
 -- the registers at a word
 abbrev pub at_word : Registers → ℕ → Registers
 at_word g place = record { place = place; accumulator = g.accumulator; used = g.used; counter = g.counter }
+
+-- what a run answers that a step stopped
+abbrev pub halted : Halt → ℕ → Ran
+halted (Stuck reason) place = Ran.Stuck place reason
+halted NoRoom place = Ran.NoRoom place
 
 -- what is lent, with the registers' accumulator and counter
 abbrev pub lent_from : Registers → List ℕ → List ℕ → List ℕ → List ℕ → List ℕ → Lent
@@ -53,11 +59,11 @@ cells_after answer before after = cond (eqb (ran_number answer) 0) after before
 pub record Ready (x : Lent) (used : ℕ) (code : List ℕ) : Type 0 where
   pub valid : Valid x
   pub counted : used ≡ used_rows x.terms
-  pub good_words : bad_word (kind_in x.kinds) code ≡ none
+  pub good_words : bad_word (kind_in x.kinds) code ≡ None
   pub few_words : length code ≤ most_round_words
 
 -- a word is done as the step of its instruction
-abbrev pub DoesWord : (ℕ → ℕ) → ℕ → ℕ → Registers → Slices → Step → Slices → Type 0
+abbrev pub DoesWord : (ℕ → ℕ) → ℕ → ℕ → Registers → Slices → Answered → Slices → Type 0
 DoesWord kind place word g before answer after =
-    (instruction : Instruction) → instruction_of word ≡ some instruction
+    (instruction : Instruction) → instruction_of word ≡ Some instruction
     → Agrees before (step row_world kind place instruction (state_at g before)) answer after

@@ -1,43 +1,33 @@
 -- Rows that are passed a block at a time.
 use Prim.Native.Nat.{ℕ, zero, suc, ◌+◌, ◌-◌, ◌<◌, ◌≤◌}
 use mathlib.Core.Path.{◌≡◌, refl, sym, ◌∙◌, ap, subst}
-use mathlib.Core.Bool.{Bool, true, false, not, ◌&&◌, ◌||◌, or_assoc, or-false, and_assoc, and-true}
-use mathlib.Core.Option.{Option, none, some}
+use mathlib.Core.Bool.{Bool, true, false, not, ◌||◌, or_assoc, or-false}
+use Rattle.std.specs.Prelude.{Option, None, Some}
 use mathlib.Core.List.{List, [], ◌∷◌}
 use native.Mathlib.Nat.{add-zero, add-suc, suc-add}
 use native.Mathlib.Decide.{dec_lt}
+use native.Mathlib.Numerals.{add-one}
 use native.Mathlib.Omega.{arith}
-use lib.ListN.{length, get_or, take, drop, length-drop}
-use lib.Seq.{length-take-le, get_or-take, get_or-drop, take_all, drop-drop}
+use lib.ListN.{length, get_or, take, drop, length-drop, drop_of_length-le}
+use lib.Seq.{drop-cons, length-take-le, get_or-take, get_or-drop, drop-drop}
 use lib.Dec.{T, eqb}
 use borrow.Author.Tests.{eq-eqb, ne_eqb}
 use Rattle.word.specs.Lowest.{lowest_from, each, one_of}
 use Rattle.word.proofs.LowestLaws.{one_of_lem}
-use Rattle.word.proofs.ScanLaws.{scan_hit, scan_miss, scan_end, each_none, each_more}
+use Rattle.word.proofs.ScanLaws.{scan_hit, scan_miss, scan_end}
 use Rattle.terms.specs.Rules.{nonzero_row}
 use Rattle.terms.specs.Finder.{equal_row}
 use Rattle.terms.proofs.FinderLaws.{Absent, equal_end, equal_here, equal_lower}
 
--- one of the first so many, as the code compares them
-abbrev pub one_of_first : ℕ → List ℕ → ℕ → Bool
-one_of_first zero block word = false
-one_of_first (suc n) block word = one_of_first n block word || eqb (get_or block n 0) word
+-- a loop that does not stop: what is found so far and what is left give the answer
+module _ (found : Bool) (block : List ℕ) (word i : ℕ) (left : one_of block word ≡ (found || one_of (drop i block) word)) where
+  pub one_gather : i < length block → one_of block word ≡ ((found || eqb (get_or block i 0) word) || one_of (drop (i + 1) block) word)
+  unfolding one_of
+  one_gather inside = left ∙ rw (drop-cons block i 0, add-one) (sym (or_assoc found (eqb (get_or block i 0) word) (one_of (drop (suc i) block) word)))
 
-one_more : (n : ℕ) (block : List ℕ) (word : ℕ) → n < length block
-    → one_of (take (suc n) block) word ≡ one_of (take n block) word || eqb (get_or block n 0) word
-unfolding one_of
-one_more n [] word h = absurd (omega arith)
-one_more zero (row ∷ block) word h = or-false (eqb row word)
-one_more (suc n) (row ∷ block) word h = rw (one_more n block word (omega arith), or_assoc)
-
-one_of_first_lem : (n : ℕ) (block : List ℕ) (word : ℕ) → n ≤ length block → one_of_first n block word ≡ one_of (take n block) word
-unfolding one_of
-one_of_first_lem zero block word h = refl
-one_of_first_lem (suc n) block word h = rw (one_of_first_lem n block word (omega arith), one_more n block word h)
-
-pub one_of_block : (n : ℕ) (block : List ℕ) (word : ℕ) → length block ≡ n → one_of_first n block word ≡ one_of block word
-one_of_block n block word long =
-    one_of_first_lem n block word (omega arith) ∙ ap (λ (all : List ℕ). one_of all word) (take_all n block (omega arith))
+  pub one_gathered : length block ≤ i → found ≡ one_of block word
+  unfolding one_of
+  one_gathered past = sym (left ∙ rw (drop_of_length-le block {i = i} past) (or-false found))
 
 -- a block is the rows from a place up to another
 length_block : (rows : List ℕ) (i end : ℕ) → end ≤ length rows → length (take (end - i) (drop i rows)) ≡ end - i
@@ -95,7 +85,7 @@ module _ (rows : List ℕ) (word : ℕ) where
 
 -- a row at a time
 module _ (rows : List ℕ) (word : ℕ) {left : ℕ} {answer : Option ℕ} (is : answer ≡ equal_row rows left word) where
-  pub left_here : 0 < left → get_or rows (left - 1) 0 ≡ word → answer ≡ some (left - 1)
+  pub left_here : 0 < left → get_or rows (left - 1) 0 ≡ word → answer ≡ Some (left - 1)
   left_here some_left e =
       let newest : suc (left - 1) ≡ left = omega arith in
       is ∙ (rw newest at (equal_here rows word (left - 1) e))
@@ -105,29 +95,10 @@ module _ (rows : List ℕ) (word : ℕ) {left : ℕ} {answer : Option ℕ} (is :
       let newest : suc (left - 1) ≡ left = omega arith in
       is ∙ (rw newest at (equal_lower rows word (left - 1) other))
 
-  pub left_none : left ≤ 0 → answer ≡ none
+  pub left_none : left ≤ 0 → answer ≡ None
   left_none past =
       let all : left ≡ 0 = omega arith in
       is ∙ rw all (equal_end rows word)
-
--- each of the first so many, as the code looks at them
-abbrev pub each_first : (ℕ → Bool) → ℕ → List ℕ → Bool
-each_first test zero block = true
-each_first test (suc n) block = each_first test n block && test (get_or block n 0)
-
-module _ (test : ℕ → Bool) where
-  each_one_more : (n : ℕ) (block : List ℕ) → n < length block → each test (take (suc n) block) ≡ each test (take n block) && test (get_or block n 0)
-  each_one_more n [] h = absurd (omega arith)
-  each_one_more zero (row ∷ block) h = rw (each_more test row [], each_none test, and-true)
-  each_one_more (suc n) (row ∷ block) h =
-      rw (each_more test row (take (suc n) block), each_more test row (take n block), each_one_more n block (omega arith), and_assoc)
-
-  each_of_first : (n : ℕ) (block : List ℕ) → n ≤ length block → each_first test n block ≡ each test (take n block)
-  each_of_first zero block h = sym (each_none test)
-  each_of_first (suc n) block h = rw (each_of_first n block (omega arith), each_one_more n block h)
-
-  pub each_of_block : (n : ℕ) (block : List ℕ) → length block ≡ n → each_first test n block ≡ each test block
-  each_of_block n block long = each_of_first n block (omega arith) ∙ ap (λ (all : List ℕ). each test all) (take_all n block (omega arith))
 
 -- zero rows that were passed leave the same answer
 abbrev nonzero : ℕ → ℕ → Bool
@@ -143,7 +114,7 @@ zeros_left (suc n) i (word ∷ rest) h = rw (add-suc, ← suc-add) (go (eqb word
     zeros = each (λ word. eqb word 0) (take n rest)
 
     go : (b : Bool) {later : Option ℕ} → (zeros ≡ true → lowest_from (suc i) nonzero rest ≡ later) → elim b [ true ↦ zeros | false ↦ false ] ≡ true
-        → elim (not b) [ true ↦ some i | false ↦ lowest_from (suc i) nonzero rest ] ≡ later
+        → elim (not b) [ true ↦ Some i | false ↦ lowest_from (suc i) nonzero rest ] ≡ later
     go true more h = more h
     go false more h = absurd (subst T (sym h) tt)
 
@@ -154,7 +125,7 @@ nonzero_block rows i end h zeros =
     rw (drop-drop, there) at (zeros_left (end - i) i (drop i rows) zeros)
 
 module _ (rows : List ℕ) (i : ℕ) {answer : Option ℕ} (left : answer ≡ nonzero_row rows i) where
-  pub nonzero_here : i < length rows → (get_or rows i 0 ≡ 0 → ⊥) → answer ≡ some i
+  pub nonzero_here : i < length rows → (get_or rows i 0 ≡ 0 → ⊥) → answer ≡ Some i
   unfolding nonzero_row
   nonzero_here inside differs = scan_hit nonzero rows 0 i left inside (ap not (ne_eqb (get_or rows i 0) 0 differs))
 
@@ -162,6 +133,6 @@ module _ (rows : List ℕ) (i : ℕ) {answer : Option ℕ} (left : answer ≡ no
   unfolding nonzero_row
   nonzero_next inside is = scan_miss nonzero rows 0 i left inside (ap not (eq-eqb (get_or rows i 0) 0 is))
 
-  pub nonzero_none : length rows ≤ i → answer ≡ none
+  pub nonzero_none : length rows ≤ i → answer ≡ None
   unfolding nonzero_row
   nonzero_none past = scan_end nonzero rows 0 i left past

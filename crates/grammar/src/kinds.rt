@@ -2,29 +2,20 @@
 ghost use Rattle.std.specs.Prelude.{◌≡◌, ◌≤◌, length};
 ghost use Rattle.numbers.specs.Kinds.{kind_in};
 ghost use Rattle.numbers.specs.Limits.{most_pattern_rows};
-ghost use Rattle.word.specs.Lowest.{place_of};
 ghost use Rattle.patterns.specs.Row.{pattern_fields};
 ghost use Rattle.patterns.specs.Tree.{key_by};
 ghost use Rattle.patterns.specs.Kinds.{private_side, public_side, encryption_key, wrong_kind};
 ghost use Rattle.patterns.specs.RowKinds.{row_kinds};
 
-use numbers::{Object, kinds as kind};
+use numbers::kinds as kind;
 use patterns::{forms, row};
-use word::Place;
-
-// The kind of a variable; one past the list is undeclared.
-fn kind_of(kinds: &[u8], v: Object) -> u8
-    ensures { result ≡ kind_in kinds.now v.0 }
-{
-    let place = v.0 as usize;
-    if place < kinds.len() { kinds[place] } else { 0 }
-}
+use stores::cells::kind_at;
 
 // What opens or signs is private or shared.
 fn private_side(kinds: &[u8], word: u64) -> bool
     ensures { result ≡ private_side (kind_in kinds.now) (key_by (pattern_fields word)) }
 {
-    let key = kind_of(kinds, row::key(word));
+    let key = kind_at(kinds, row::key(word));
     let form = row::key_form(word);
     match form {
         forms::OPPOSITE_KEY => false,
@@ -37,8 +28,8 @@ fn private_side(kinds: &[u8], word: u64) -> bool
 fn public_side(kinds: &[u8], word: u64) -> bool
     ensures { result ≡ public_side (kind_in kinds.now) (key_by (pattern_fields word)) }
 {
-    let key = kind_of(kinds, row::key(word));
-    let other = kind_of(kinds, row::y(word));
+    let key = kind_at(kinds, row::key(word));
+    let other = kind_at(kinds, row::y(word));
     let form = row::key_form(word);
     match form {
         forms::OPPOSITE_KEY => (key == kind::PUBLIC_KEY) & (other == kind::PRIVATE_KEY),
@@ -61,8 +52,8 @@ fn key_fits(create: bool, kinds: &[u8], word: u64) -> bool
 fn row_kinds(create: bool, kinds: &[u8], word: u64) -> bool
     ensures { result ≡ row_kinds create (kind_in kinds.now) (pattern_fields word) }
 {
-    let own = kind_of(kinds, row::variable(word));
-    let other = kind_of(kinds, row::y(word));
+    let own = kind_at(kinds, row::variable(word));
+    let other = kind_at(kinds, row::y(word));
     let bare = (kind::BYTE <= own) & (own <= kind::HASH);
     let form = row::tag(word);
     match form {
@@ -81,16 +72,14 @@ fn row_kinds(create: bool, kinds: &[u8], word: u64) -> bool
 }
 
 // 5: the lowest row with a wrong kind.
-pub fn first_wrong_kind(create: bool, kinds: &[u8], rows: &[u64]) -> Place
+pub fn first_wrong_kind(create: bool, kinds: &[u8], rows: &[u64]) -> Option<u32>
     requires { length rows.now ≤ most_pattern_rows }
-    ensures { result ≡ place_of (wrong_kind create (kind_in kinds.now) rows.now) }
+    ensures { result ≡ wrong_kind create (kind_in kinds.now) rows.now }
 {
-    let mut place = 0;
-    while place < rows.len() {
-        if !row_kinds(create, kinds, rows[place]) {
-            return Place::At(place as u32);
+    for (place, &word) in rows.iter().enumerate() {
+        if !row_kinds(create, kinds, word) {
+            return Some(place as u32);
         }
-        place += 1;
     }
-    Place::Nowhere
+    None
 }

@@ -8,15 +8,14 @@ mod player;
 mod written;
 
 use lines::rows;
-use player::{Player, Turn, compile, left, play};
+use player::{Player, Sent, compile, left, play};
 use std::io;
 
 fn initiator(rt: &impl Print) -> io::Result<Player> {
-    let halves = written::initiator_halves();
     compile(
         rt,
-        b"a",
-        &halves,
+        "a",
+        &written::initiator_halves(),
         &[1, 4, 4, 2, 1, 1],
         written::initiator(),
         written::initiator_cells(),
@@ -24,11 +23,10 @@ fn initiator(rt: &impl Print) -> io::Result<Player> {
 }
 
 fn responder(rt: &impl Print) -> io::Result<Player> {
-    let halves = written::responder_halves();
     compile(
         rt,
-        b"b",
-        &halves,
+        "b",
+        &written::responder_halves(),
         &[4, 4, 2, 1, 1, 1],
         written::responder(),
         written::responder_cells(),
@@ -36,24 +34,23 @@ fn responder(rt: &impl Print) -> io::Result<Player> {
 }
 
 // A greets B with A and a nonce, B answers with that nonce and its own, and A with B's.
-fn greet(rt: &impl Print) -> io::Result<Turn> {
-    let a = initiator(rt)?;
-    let b = responder(rt)?;
-    let first = play(rt, b"a greets", a, written::start())?;
-    let second = play(rt, b"b answers", b, first.sent)?;
-    let third = play(rt, b"a answers", first.player, second.sent)?;
-    let fourth = play(rt, b"b is greeted", second.player, third.sent)?;
-    let fifth = play(rt, b"a ends", third.player, fourth.sent)?;
-    left(rt, &fifth.player)?;
-    play(rt, b"b ends", fourth.player, fifth.sent)
+fn greet(rt: &impl Print, a: &mut Player, b: &mut Player, sent: &mut Sent) -> io::Result<()> {
+    play(rt, "a greets", a, sent)?;
+    play(rt, "b answers", b, sent)?;
+    play(rt, "a answers", a, sent)?;
+    play(rt, "b is greeted", b, sent)?;
+    play(rt, "a ends", a, sent)?;
+    left(rt, a)?;
+    play(rt, "b ends", b, sent)?;
+    left(rt, b)
 }
 
 // A round that there is not has no code, and that is 1.
 fn main(rt: HostRuntime) -> io::Result<()> {
-    let last = greet(&rt)?;
-    left(&rt, &last.player)?;
-    let over = play(&rt, b"no round left", last.player, last.sent)?;
-    let sent = over.sent;
-    let table = sent.rows;
-    rows(&rt, &table)
+    let mut a = initiator(&rt)?;
+    let mut b = responder(&rt)?;
+    let mut sent = written::start();
+    greet(&rt, &mut a, &mut b, &mut sent)?;
+    play(&rt, "no round left", &mut b, &mut sent)?;
+    rows(&rt, &sent.rows)
 }

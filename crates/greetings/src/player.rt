@@ -1,9 +1,8 @@
 // A role that is compiled, and its rounds, each with its line.
-use crate::lines::{cells, end, number};
-use crate::written::{ROOM, certificates};
-use answers::{Rounded, Session};
+use crate::lines::cells;
+use crate::written::{ROOM, UNSET, certificates};
+use answers::{NONE_WAITS, Session};
 use numbers::limits::{MESSAGE_CELLS, VARIABLES};
-use role_counting::RoleCompiled;
 use std::io;
 
 // Each of the two roles has so many rounds, and so many words.
@@ -31,158 +30,83 @@ pub struct Sent {
     pub message: u32,
 }
 
-#[derive(Drop)]
-pub struct Turn {
-    pub player: Player,
-    pub sent: Sent,
-}
+// No message waits yet.
+const FIRST_SESSION: Session = Session {
+    used: 0,
+    counter: 0,
+    round: 0,
+    message: NONE_WAITS,
+    answer: NONE_WAITS,
+};
 
-// What a round leaves.
-#[derive(Drop)]
-struct Ended {
-    answer: Rounded,
-    session: Session,
-    objects: [u16; VARIABLES],
-    messages: [u16; MESSAGE_CELLS],
-    rows: [u64; ROOM],
-}
-
-fn compiled_line(rt: &impl Print, name: &[u8], compiled: RoleCompiled) -> io::Result<()> {
-    let answer = compiled.answer;
-    rt.write_all(name)?;
-    number(rt, answer.number())?;
-    number(rt, answer.place())?;
-    number(rt, compiled.half)?;
-    end(rt)
-}
-
-// The halves with the rows of each; no message cell is set, and no message waits yet.
+// The halves with the rows of each; no message cell is set.
 pub fn compile(
     rt: &impl Print,
-    name: &[u8],
+    name: &str,
     halves: &[u64],
     counts: &[u8],
     kinds: [u8; VARIABLES],
     objects: [u16; VARIABLES],
 ) -> io::Result<Player> {
-    let named = [65535u16; VARIABLES];
-    let mut ends = [0u16; ROUNDS];
-    let mut code = [0u32; WORDS];
+    let named = [UNSET; VARIABLES];
+    let mut ends = [0; ROUNDS];
+    let mut code = [0; WORDS];
     let compiled = roles::compile_role(
         halves, counts, &kinds, &objects, &named, &mut ends, &mut code,
     );
-    compiled_line(rt, name, compiled)?;
-    let messages = [65535u16; MESSAGE_CELLS];
+    let answer = compiled.answer;
+    println!(rt;
+        "{name} {} {} {}",
+        answer.number(),
+        answer.place(),
+        compiled.half
+    )?;
     Ok(Player {
-        ends: ends,
-        code: code,
-        session: no_session(),
-        kinds: kinds,
-        objects: objects,
-        messages: messages,
+        ends,
+        code,
+        session: FIRST_SESSION,
+        kinds,
+        objects,
+        messages: [UNSET; MESSAGE_CELLS],
     })
 }
 
-fn no_session() -> Session {
-    Session {
-        used: 0,
-        counter: 0,
-        round: 0,
-        message: 65535,
-        answer: 65535,
-    }
-}
-
-// A record with a message, up to date with the table.
-fn told(session: Session, sent: &Sent) -> Session {
-    Session {
+// The player's next round, on a record that is up to date with the table and has the message, and the answer taken from it.
+pub fn play(rt: &impl Print, name: &str, player: &mut Player, sent: &mut Sent) -> io::Result<()> {
+    let session = Session {
         used: sent.used,
         counter: sent.counter,
-        round: session.round,
         message: sent.message,
-        answer: session.answer,
-    }
-}
-
-fn line(rt: &impl Print, name: &[u8], answer: Rounded, sent: &Sent) -> io::Result<()> {
-    rt.write_all(name)?;
-    number(rt, answer.number())?;
-    number(rt, answer.place())?;
-    number(rt, answer.reason())?;
-    number(rt, sent.used)?;
-    number(rt, sent.counter)?;
-    number(rt, sent.message)?;
-    end(rt)
-}
-
-// The round that comes next, of some code, on a record that is up to date.
-fn round(player: Player, sent: Sent, session: Session, code: &[u32]) -> Ended {
-    let kinds = player.kinds;
-    let mut objects = player.objects;
-    let mut messages = player.messages;
-    let mut rows = sent.rows;
-    let pairs = certificates();
+        ..player.session
+    };
+    let code = roles::round_part(&player.code, &player.ends, session.round as usize);
     let ended = rounds::round_of(
         session,
         ROUNDS as u32,
-        &kinds,
-        &mut objects,
-        &mut messages,
-        &pairs,
-        &mut rows,
+        &player.kinds,
+        &mut player.objects,
+        &mut player.messages,
+        &certificates(),
+        &mut sent.rows,
         code,
     );
+    let taken = rounds::take_of(ended.session);
+    player.session = taken.session;
+    sent.used = ended.session.used;
+    sent.counter = ended.session.counter;
+    sent.message = taken.answer;
     let answer = ended.answer;
-    let after = ended.session;
-    Ended {
-        answer: answer,
-        session: after,
-        objects: objects,
-        messages: messages,
-        rows: rows,
-    }
-}
-
-// The player's next round, and the answer taken from it.
-pub fn play(rt: &impl Print, name: &[u8], player: Player, sent: Sent) -> io::Result<Turn> {
-    let ends = player.ends;
-    let code = player.code;
-    let kinds = player.kinds;
-    let session = told(player.session, &sent);
-    let part = roles::round_part(&code, &ends, session.round as usize);
-    let ended = round(player, sent, session, part);
-    let after = ended.session;
-    let waited = rounds::take_of(after);
-    let rows = ended.rows;
-    let next = Sent {
-        rows: rows,
-        used: after.used,
-        counter: after.counter,
-        message: waited.answer,
-    };
-    let answer = ended.answer;
-    line(rt, name, answer, &next)?;
-    let waiting = waited.session;
-    let objects = ended.objects;
-    let messages = ended.messages;
-    let ready = Player {
-        ends: ends,
-        code: code,
-        session: waiting,
-        kinds: kinds,
-        objects: objects,
-        messages: messages,
-    };
-    Ok(Turn {
-        player: ready,
-        sent: next,
-    })
+    print!(rt;
+        "{name} {} {} {}",
+        answer.number(),
+        answer.place(),
+        answer.reason()
+    )?;
+    println!(rt; " {} {} {}", sent.used, sent.counter, sent.message)
 }
 
 // The cells that are set in the end, scratch too.
 pub fn left(rt: &impl Print, player: &Player) -> io::Result<()> {
-    let objects = player.objects;
-    let messages = player.messages;
-    cells(rt, b"o ", &objects)?;
-    cells(rt, b"m ", &messages)
+    cells(rt, "o", &player.objects)?;
+    cells(rt, "m", &player.messages)
 }

@@ -6,6 +6,9 @@ use numbers::limits::VARIABLES;
 // The table's rows.
 pub const ROOM: usize = 14;
 
+// A cell with no row.
+pub const UNSET: u16 = 65535;
+
 // Agents 1 and 2, and the keys of each, private and public; room for eight more.
 fn terms() -> [u64; ROOM] {
     [
@@ -94,25 +97,27 @@ pub fn responder_halves() -> [u64; HALF_ROWS] {
 
 // The initiator has a0, K1, a2, n3, k4, e5, t6, e7, t8, n9, e10, c11.
 pub fn initiator() -> [u8; VARIABLES] {
-    let mut kinds = [0u8; VARIABLES];
-    kinds[0] = AGENT;
-    kinds[1] = PRIVATE_KEY;
-    kinds[2] = AGENT;
-    kinds[3] = NONCE;
-    kinds[4] = PUBLIC_KEY;
-    kinds[5] = ENCRYPTION;
-    kinds[6] = TUPLE;
-    kinds[7] = ENCRYPTION;
-    kinds[8] = TUPLE;
-    kinds[9] = NONCE;
-    kinds[10] = ENCRYPTION;
-    kinds[11] = BYTE;
+    let mut kinds = [0; VARIABLES];
+    kinds[..12].copy_from_slice(&[
+        AGENT,
+        PRIVATE_KEY,
+        AGENT,
+        NONCE,
+        PUBLIC_KEY,
+        ENCRYPTION,
+        TUPLE,
+        ENCRYPTION,
+        TUPLE,
+        NONCE,
+        ENCRYPTION,
+        BYTE,
+    ]);
     kinds
 }
 
 // It knows its name and its private key.
 pub fn initiator_cells() -> [u16; VARIABLES] {
-    let mut cells = [65535u16; VARIABLES];
+    let mut cells = [UNSET; VARIABLES];
     cells[0] = 0;
     cells[1] = 2;
     cells
@@ -120,24 +125,26 @@ pub fn initiator_cells() -> [u16; VARIABLES] {
 
 // The responder has e0, K1, t2, a3, n4, e5, k6, t7, n8, e9, c10.
 pub fn responder() -> [u8; VARIABLES] {
-    let mut kinds = [0u8; VARIABLES];
-    kinds[0] = ENCRYPTION;
-    kinds[1] = PRIVATE_KEY;
-    kinds[2] = TUPLE;
-    kinds[3] = AGENT;
-    kinds[4] = NONCE;
-    kinds[5] = ENCRYPTION;
-    kinds[6] = PUBLIC_KEY;
-    kinds[7] = TUPLE;
-    kinds[8] = NONCE;
-    kinds[9] = ENCRYPTION;
-    kinds[10] = BYTE;
+    let mut kinds = [0; VARIABLES];
+    kinds[..11].copy_from_slice(&[
+        ENCRYPTION,
+        PRIVATE_KEY,
+        TUPLE,
+        AGENT,
+        NONCE,
+        ENCRYPTION,
+        PUBLIC_KEY,
+        TUPLE,
+        NONCE,
+        ENCRYPTION,
+        BYTE,
+    ]);
     kinds
 }
 
 // It knows its private key.
 pub fn responder_cells() -> [u16; VARIABLES] {
-    let mut cells = [65535u16; VARIABLES];
+    let mut cells = [UNSET; VARIABLES];
     cells[1] = 4;
     cells
 }

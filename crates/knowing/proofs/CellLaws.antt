@@ -54,8 +54,8 @@ module _ {cells : List ℕ} {mask cell : ℕ} (before : KnownBelow cells mask ce
 
       by : (v : ℕ) → v < suc cell → Dec (cell ≡ v) → eqb (more / 2 ^ (suc cell - 1 - v) % 2) 1 ≡ is_set (get_or cells v unset)
       by v below (yes same) =
-          let none : suc cell - 1 - v ≡ 0 = omega arith in
-          rw (none, ← same, e, div-one) (last mask (is_set (get_or cells cell unset)))
+          let zero_left : suc cell - 1 - v ≡ 0 = omega arith in
+          rw (zero_left, ← same, e, div-one) (last mask (is_set (get_or cells cell unset)))
       by v below (no other) =
           let up : suc cell - 1 - v ≡ 1 + (cell - 1 - v) = omega (arith, other) in
           rw (up, ← shr-shr more 1 (cell - 1 - v), e, half mask (is_set (get_or cells cell unset))) (before.at v (omega (arith, other)))

@@ -1,9 +1,7 @@
 -- What is found of a pattern: a refusal, or nothing.
-use Rattle.std.proofs.Math.Option.{Option, none, some}
+use Rattle.std.specs.Prelude.{Option, None, Some, Result, Ok, Err}
 use Rattle.answers.specs.declared.Compiled.{Compiled}
-use Rattle.knowing.specs.declared.Finding.{Finding}
-use Rattle.knowing.specs.declared.Finding.TheVariants.{Refused, Accepted}
 
-abbrev pub finding_of : Option Compiled → Finding
-finding_of (some answer) = Refused answer
-finding_of none = Accepted
+abbrev pub finding_of : Option Compiled → Result Unit Compiled
+finding_of (Some answer) = Err answer
+finding_of None = Ok tt

@@ -22,8 +22,8 @@ pub fn set_cells(cells: &[u16]) -> u64
     ensures { known result ≡ (λ v. is_set (get_or cells.now v unset)) }
 {
     let mut mask: u64 = 0;
-    for cell in 0..cells.len() {
-        mask = with_cell(mask, cells[cell]);
+    for &cell in cells {
+        mask = with_cell(mask, cell);
     }
     mask
 }

@@ -1,7 +1,7 @@
 -- A pattern's rows with zero rows behind them: the same pattern, whose root a walk may stand at.
 use Prim.Native.Nat.{ℕ, zero, suc, ◌-◌, ◌<◌, ◌≤◌}
 use mathlib.Core.Path.{◌≡◌, sym, ◌∙◌, fun_ext}
-use mathlib.Core.Option.{none}
+use Rattle.std.specs.Prelude.{None}
 use mathlib.Core.List.{List, ◌++◌}
 use native.Mathlib.Decide.{dec_lt}
 use native.Mathlib.Omega.{arith}
@@ -46,7 +46,7 @@ module _ (pattern : List ℕ) (some : 1 ≤ length pattern) (few : length patter
   unfolding pattern_of
   root_pattern = same_pattern pattern behind (length pattern - 1) (omega arith)
 
-  pub root_stands : bad_pattern pattern ≡ none → Stands (pattern ++ behind) (length pattern - 1)
+  pub root_stands : bad_pattern pattern ≡ None → Stands (pattern ++ behind) (length pattern - 1)
   root_stands passed = record {
     good = λ place least. good place (omega arith);
     inside = rw (length-append pattern behind) (omega arith);

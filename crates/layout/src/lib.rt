@@ -24,13 +24,10 @@ pub fn no_rows() -> Rows
 
 // The pattern's rows in front, where they are walked: returned, they would stand on the stack twice.
 pub fn lay_rows(pattern: &[u64], rows: &mut Rows)
-    requires pattern_len_bound { length pattern.now ≤ most_pattern_rows }
-    requires rows_len { length rows.old ≡ most_pattern_rows }
+    requires { length pattern.now ≤ most_pattern_rows }
     ensures { rows.new ≡ pattern.now ++ drop (length pattern.now) rows.old }
 {
-    for row in 0..pattern.len() {
-        rows[row] = pattern[row];
-    }
+    rows[..pattern.len()].copy_from_slice(pattern);
 }
 
 // The kinds as an array: each step of the walk then hands on one word for them.
@@ -39,17 +36,21 @@ pub fn all_kinds(kinds: &[u8]) -> Kinds
     ensures { result ≡ kinds.now }
 {
     let mut all = [0u8; VARIABLES];
-    for v in 0..kinds.len() {
-        all[v] = kinds[v];
-    }
+    all.copy_from_slice(kinds);
     all
 }
 
-// Whether a variable's kind is one that CREATE makes a new object of.
+// Whether a kind is one that CREATE makes a new object of.
+pub fn creatable_kind(own: u8) -> bool
+    ensures { result ≡ creatable own }
+{
+    (own == kind::NONCE) | (own == kind::PRIVATE_KEY) | (own == kind::SHARED_KEY)
+}
+
+// Whether a variable's kind is.
 pub fn creatable(kinds: &Kinds, v: Object) -> bool
     requires { v.0 < variables }
     ensures { result ≡ creatable (kind_in kinds.now v.0) }
 {
-    let own = kinds[v.0 as usize];
-    (own == kind::NONCE) | (own == kind::PRIVATE_KEY) | (own == kind::SHARED_KEY)
+    creatable_kind(kinds[v.0 as usize])
 }

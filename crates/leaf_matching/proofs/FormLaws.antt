@@ -1,7 +1,7 @@
 -- The forms with no part, a way out at a time.
 use Prim.Native.Nat.{ℕ, ◌<◌}
 use mathlib.Core.Path.{◌≡◌, refl, ap, subst, ◌∙◌}
-use mathlib.Core.Option.{Option}
+use Rattle.std.specs.Prelude.{Option, Err, Ok}
 use mathlib.Core.List.{List, []}
 use native.Mathlib.Decide.{ℕ_discrete}
 use native.Mathlib.Nat.{le_refl}
@@ -28,10 +28,9 @@ use Rattle.machine.specs.Machine.{Slices, slices, with_objects, with_messages, w
 use Rattle.machine.proofs.AskLaws.{makes}
 use Rattle.machine.proofs.AgreeLaws.{messages_lengths}
 use Rattle.machine.proofs.StateLaws.{held_unset, held_set, object_unset, object_row}
-use Rattle.walks.specs.Walks.{meeting, stores_at, Comes, goes, sticks, fills, stores_alone, message_and_stores, WalksBy, keeps}
+use Rattle.walks.specs.Walks.{Walked, meeting, stores_at, Comes, goes, sticks, fills, stores_alone, message_and_stores, WalksBy, keeps}
 use Rattle.walks.specs.declared.Walk.{Walk}
-use Rattle.walks.specs.declared.Walked.{Walked}
-use Rattle.walks.specs.declared.Walked.TheVariants.{Next, Stuck}
+use Rattle.walks.specs.declared.Ended.TheVariants.{Stuck}
 use Rattle.walks.proofs.ComesLaws.{kept_same, reads, frees, answers_as, unset_sticks, set_sticks, comes_as}
 use Rattle.walks.proofs.StoreLaws.{named_unset, named_row, stores_any, stores_named}
 use Rattle.leaf_matching.specs.Stages.{WalksInside, GoesOnBy, Inside, asked, opposed, keyed, verifies}
@@ -73,14 +72,14 @@ module _ (w : Walk) (kinds rows objects : List ℕ) (row : ℕ) (v : Object) (kn
       (forgets (decoded x))
 
   module _ (is_row : known.0 ≡ unset → ⊥) where
-    pub object_no_message : w.message.0 ≡ unset → MatchesObject (Stuck row Unset) objects
+    pub object_no_message : w.message.0 ≡ unset → MatchesObject (Err (Stuck row Unset)) objects
     object_no_message e x = comes_as (by_variable x (object_row _ _ _ _ v.0 read is_row)) (unset_sticks row _ (held_unset _ e))
 
-    pub object_same : (w.message.0 ≡ unset → ⊥) → Within rows w.used → (w' : Walk) → w' ≡ meeting w known → {answer : Walked} → ComparesTo row w.message.0 (Next w') answer
+    pub object_same : (w.message.0 ≡ unset → ⊥) → Within rows w.used → (w' : Walk) → w' ≡ meeting w known → {answer : Walked} → ComparesTo row w.message.0 (Ok w') answer
         → MatchesObject answer objects
     object_same is_message within w' met same x =
         let n = stores_at w (over objects rows x) in
-        let start : Comes message_and_stores w.used (over objects rows x) (done (known.0, n)) (Next w') (over objects rows x) =
+        let start : Comes message_and_stores w.used (over objects rows x) (done (known.0, n)) (Ok w') (over objects rows x) =
         rw met (goes (ap (message_and_stores known.0) (stores_any _ _ _ _ _)) (record { message = is_row; more = le_refl w.used; inside = within.used_rows_lem }) kept_same) in
         comes_as (by_variable x (object_row _ _ _ _ v.0 read is_row))
         (reads row _ (held_set _ is_message) ((same (kind_in kinds)).walks (over objects rows x) (over objects rows x) w.used (done (known.0, n)) start))
@@ -96,17 +95,17 @@ module _ (w : Walk) (named : List ℕ) (row : ℕ) (r : Raw) (below : r.0 < name
       → meets kind (raw row r.0) w (stores_at w (with_messages x named)) ≡ match_raw row_world kind row r.0 o (held w.message.0) (stores_at w (with_messages x named))
   by_cell x e = ap (λ (o : Option ℕ). match_raw row_world kind row r.0 o (held w.message.0) (stores_at w (with_messages x named))) e
 
-  pub raw_no_message : w.message.0 ≡ unset → MatchesRaw (Stuck row Unset) named
+  pub raw_no_message : w.message.0 ≡ unset → MatchesRaw (Err (Stuck row Unset)) named
   raw_no_message e = record { walks = λ x l. by x (ℕ_discrete known.0 unset) }
     where
       by : (x : Slices) → Dec (known.0 ≡ unset) → Comes stores_alone w.used (with_messages x named) (meets kind (raw row r.0) w (stores_at w (with_messages x named)))
-          (Stuck row Unset) (with_messages x named)
+          (Err (Stuck row Unset)) (with_messages x named)
       by x (yes none) =
           comes_as (by_cell x (named_unset _ _ _ _ r.0 below read none)) (frees row _ (named_unset _ _ _ _ r.0 below read none) (unset_sticks row _ (held_unset _ e)))
       by x (no is_row) = comes_as (by_cell x (named_row _ _ _ _ r.0 below read is_row)) (unset_sticks row _ (held_unset _ e))
 
   module _ (is_message : w.message.0 ≡ unset → ⊥) where
-    pub raw_stored : known.0 ≡ unset → r.0 < length named → {named' : List ℕ} → named' ≡ set named r.0 w.message.0 → MatchesRaw (Next w) named'
+    pub raw_stored : known.0 ≡ unset → r.0 < length named → {named' : List ℕ} → named' ≡ set named r.0 w.message.0 → MatchesRaw (Ok w) named'
     raw_stored none inside put =
         rw put (record {
           walks = λ x l. comes_as (by_cell x (named_unset _ _ _ _ r.0 below read none))
@@ -117,7 +116,7 @@ module _ (w : Walk) (named : List ℕ) (row : ℕ) (r : Raw) (below : r.0 < name
               (record { lengths = messages_lengths (with_messages x named) r.0 w.message.0; rows = refl }))));
         })
 
-    pub raw_same : (known.0 ≡ unset → ⊥) → {answer : Walked} → ComparesTo row known.0 (Next w) answer → MatchesRaw answer named
+    pub raw_same : (known.0 ≡ unset → ⊥) → {answer : Walked} → ComparesTo row known.0 (Ok w) answer → MatchesRaw answer named
     raw_same is_row same =
         record {
           walks = λ x l. comes_as (by_cell x (named_row _ _ _ _ r.0 below read is_row))
@@ -133,11 +132,11 @@ module _ (w : Walk) (rows objects : List ℕ) (row : ℕ) (c : Object) (byte : �
   abbrev MatchesConstant : Walked → List ℕ → List ℕ → Type 0
   MatchesConstant answer objects' rows' = WalksBy stores_alone (meets kind (constant row c.0 byte) w) w (λ x. over objects rows x) answer (λ x. over objects' rows' x)
 
-  pub constant_no_message : w.message.0 ≡ unset → MatchesConstant (Stuck row Unset) objects rows
+  pub constant_no_message : w.message.0 ≡ unset → MatchesConstant (Err (Stuck row Unset)) objects rows
   constant_no_message e x = unset_sticks row _ (held_unset _ e)
 
   module _ (is_message : w.message.0 ≡ unset → ⊥) (known : ℕ) (read : known ≡ get_or objects c.0 unset) where
-    pub constant_set : (known ≡ unset → ⊥) → MatchesConstant (Stuck row Unset) objects rows
+    pub constant_set : (known ≡ unset → ⊥) → MatchesConstant (Err (Stuck row Unset)) objects rows
     constant_set is_row x = reads row _ (held_set _ is_message) (set_sticks row _ (object_row _ _ _ _ c.0 read is_row))
 
     pub constant_same : known ≡ unset → {word : ℕ} {kept answer : Walked} {objects' rows' : List ℕ} → MakesWord (World.byte byte) word
@@ -157,7 +156,7 @@ module _ (w : Walk) (rows objects : List ℕ) (row : ℕ) (public private : Obje
   abbrev MatchesOpposite : Walked → List ℕ → List ℕ → Type 0
   MatchesOpposite answer objects' rows' = WalksBy stores_alone (meets kind (opposite row public.0 private.0) w) w (λ x. over objects rows x) answer (λ x. over objects' rows' x)
 
-  pub opposite_no_message : w.message.0 ≡ unset → MatchesOpposite (Stuck row Unset) objects rows
+  pub opposite_no_message : w.message.0 ≡ unset → MatchesOpposite (Err (Stuck row Unset)) objects rows
   opposite_no_message e x = unset_sticks row _ (held_unset _ e)
 
   pub opposite_same : (w.message.0 ≡ unset → ⊥) → {kept answer : Walked} {objects' rows' : List ℕ}
@@ -212,13 +211,6 @@ module _ (w : Walk) (kind : ℕ → ℕ) (rows objects : List ℕ) (row v : ℕ)
       comes_as (compared_stages kind row v (λ n. n.ρ r.0) (λ b. World.hash b) w.message.0 (stores_at w before))
       ((same kind).walks (with_term_rows (with_messages (with_objects x objects') named) rows') before w.used _
       (hashed.walks (with_objects x objects') before w.used _ (decoded (with_messages x named))))
-
-  -- e : E(key, p)
-  pub open_done : (key : Object) {answer : Walked}
-      → GoesOnBy message_and_stores (λ m. asked row (λ n. n.σ key.0) (λ k. World.decrypt k m.0) m.1) came (λ x. over objects' rows x) answer (λ x. over objects' rows x)
-      → WalksBy message_and_stores (λ n. bind (decodes row_world kind row v (held w.message.0) n (made row_world kind))
-      (λ m. asked row (λ n. n.σ key.0) (λ k. World.decrypt k m.0) m.1)) w (λ x. over objects rows x) answer (λ x. over objects' rows x)
-  open_done key opened x = opened.walks x (over objects rows x) w.used _ (decoded x)
 
   -- s : S(key, r)
   pub signature_verified : (word : ℕ) → v ≡ (pattern_fields word).v → (r : Raw) → r.0 ≡ (pattern_fields word).r → (named certificates : List ℕ) {objects'' rows' : List ℕ} {found answer : Walked}

@@ -1,4 +1,5 @@
 -- The key of a matched signature, a way out at a time.
+use Rattle.std.specs.Prelude.{Err, Ok}
 use Prim.Native.Nat.{ℕ, ◌<◌}
 use mathlib.Core.Path.{◌≡◌, sym, ap, ◌∙◌}
 use mathlib.Core.List.{List}
@@ -17,31 +18,28 @@ use Rattle.theory.specs.RowModel.{row_world}
 use Rattle.theory.specs.Rules.{makes, made, create_key}
 use Rattle.machine.specs.Machine.{Slices, with_objects, with_term_rows, with_certificates}
 use Rattle.machine.proofs.StateLaws.{object_unset, object_row}
-use Rattle.walks.specs.Walks.{meeting, stores_at, goes, message_and_stores, WalksBy}
+use Rattle.walks.specs.Walks.{Walked, meeting, stores_at, goes, message_and_stores, WalksBy}
 use Rattle.walks.specs.declared.Walk.{Walk}
-use Rattle.walks.specs.declared.Walked.{Walked}
-use Rattle.walks.specs.declared.Walked.TheVariants.{Next, Stuck}
+use Rattle.walks.specs.declared.Ended.TheVariants.{Stuck}
 use Rattle.walks.proofs.ComesLaws.{kept_same, reads, unset_sticks, comes_as}
 use Rattle.walks.proofs.StoreLaws.{stores_any}
 use Rattle.leaf_matching.specs.Stages.{WalksInside, GoesOnBy, opposed, keyed}
-use Rattle.leaf_matching.proofs.StageLaws.{stage_stuck, stage_full, stage_next, inside_next}
+use Rattle.leaf_matching.proofs.StageLaws.{stage_next}
 
 -- a key that a variable holds
 module _ (objects : List ℕ) (w : Walk) (row : ℕ) (key : Object) (known : TermRow) (read : known.0 ≡ get_or objects key.0 unset) (kind : ℕ → ℕ) where
   abbrev Holds : Walked → Type 0
   Holds answer = WalksInside message_and_stores (keyed kind row (plain_key key.0)) w (λ x. with_objects x objects) answer (λ x. with_objects x objects)
 
-  pub held_key_unset : known.0 ≡ unset → Holds (Stuck row Unset)
+  pub held_key_unset : known.0 ≡ unset → Holds (Err (Stuck row Unset))
   held_key_unset e = record { walks = λ x l. unset_sticks row _ (object_unset _ _ _ _ key.0 read e) }
 
-  pub held_key_row : (known.0 ≡ unset → ⊥) → (w' : Walk) → w' ≡ meeting w known → Holds (Next w')
+  pub held_key_row : (known.0 ≡ unset → ⊥) → (w' : Walk) → w' ≡ meeting w known → Holds (Ok w')
   held_key_row is_row w' met =
       rw met (record {
         walks = λ x l. reads row _ (object_row _ _ _ _ key.0 read is_row)
             (goes (ap (message_and_stores known.0) (stores_any _ _ _ _ _)) (record { message = is_row; more = le_refl w.used; inside = l }) kept_same);
       })
-
-pub ruleset held-key-ways = (held_key_unset, held_key_row)
 
 -- k : op(K)
 module _ (rows objects : List ℕ) (w : Walk) (row : ℕ) (public private : Object) (key : TermRow) (read : key.0 ≡ get_or objects private.0 unset) (kind : ℕ → ℕ) where
@@ -50,7 +48,7 @@ module _ (rows objects : List ℕ) (w : Walk) (row : ℕ) (public private : Obje
       WalksBy message_and_stores (opposed kind row public.0 private.0) w
       (λ x. with_term_rows (with_objects x objects) rows) answer (λ x. with_term_rows (with_objects x objects') rows')
 
-  pub opposed_unset : key.0 ≡ unset → Opposes (Stuck row Unset) objects rows
+  pub opposed_unset : key.0 ≡ unset → Opposes (Err (Stuck row Unset)) objects rows
   opposed_unset e x = unset_sticks row _ (object_unset _ _ _ _ private.0 read e)
 
   pub opposed_made : (key.0 ≡ unset → ⊥) → {answer : Walked} {objects' rows' : List ℕ}
@@ -62,7 +60,7 @@ module _ (rows objects : List ℕ) (w : Walk) (row : ℕ) (public private : Obje
 pub ruleset opposed-ways = (opposed_unset, opposed_made)
 
 -- the key of s : S(key, r)
-module _ {came : Walked} (kind : ℕ → ℕ) (certificates rows objects : List ℕ) (row word : ℕ) (few : (pattern_fields word).f < 3) (w : Walk) (next : came ≡ Next w) (key second : Object)
+module _ {came : Walked} (kind : ℕ → ℕ) (certificates rows objects : List ℕ) (row word : ℕ) (few : (pattern_fields word).f < 3) (w : Walk) (next : came ≡ Ok w) (key second : Object)
     (first : key.0 ≡ (pattern_fields word).x) (other : second.0 ≡ (pattern_fields word).y) (form : ℕ) (by : form ≡ (pattern_fields word).f) where
   abbrev over : List ℕ → List ℕ → Slices → Slices
   over objects' rows' x = with_certificates (with_term_rows (with_objects x objects') rows') certificates
@@ -94,11 +92,3 @@ module _ {came : Walked} (kind : ℕ → ℕ) (certificates rows objects : List 
       let two : (pattern_fields word).f ≡ 2 = omega (arith, few, n₀, n₁, by) in
       let is : key_by (pattern_fields word) ≡ certified_key key.0 second.0 = rw (two, first, other) in
       stage_next w next (λ x on. comes_as (ap (λ (k : Key). keyed kind row k (stores_at w (over objects rows x))) is) (certifies x))
-
-pub ruleset signing-ways = (stage_stuck, stage_full, signing_held, signing_opposite, signing_certified)
-
--- the variable of a key is one of those lent
-pub key_low : (word : ℕ) {many : ℕ} (key : Object) → key.0 ≡ (pattern_fields word).x → (pattern_fields word).x < many → key.0 < many
-key_low word key e l = rw e l
-
-pub ruleset signing-asks = (inside_next, key_low)

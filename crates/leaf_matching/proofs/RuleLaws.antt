@@ -1,7 +1,7 @@
 -- The rules of a match as stages: a message decoded, a term asked for, a key, and what follows.
 use Prim.Native.Nat.{ℕ}
 use mathlib.Core.Path.{◌≡◌, refl, sym, ap, ◌∙◌, fun_ext}
-use mathlib.Core.Option.{Option, none, some}
+use Rattle.std.specs.Prelude.{Option, None, Some}
 use native.Mathlib.Decide.{ℕ_discrete}
 use native.Mathlib.Omega.{arith}
 use Rattle.patterns.specs.Pattern.{Key, plain_key, op_key, certified_key}
@@ -18,25 +18,25 @@ use Rattle.walks.specs.Walks.{keeps}
 use Rattle.leaf_matching.specs.Stages.{asked, opposed, keyed, verifies}
 
 -- a message in hand is the one that is held
-none_some : {A : Type 0} {m : ℕ} → none ≡ some m → A
+none_some : {A : Type 0} {m : ℕ} → None ≡ Some m → A
 none_some e = let z : ◌≡◌ {A = ℕ} 0 1 = cc in absurd (omega arith)
 
-held_some : (m m' : ℕ) → held m ≡ some m' → m ≡ m'
+held_some : (m m' : ℕ) → held m ≡ Some m' → m ≡ m'
 held_some m m' e = by (ℕ_discrete m unset)
   where
     by : Dec (m ≡ unset) → m ≡ m'
     by (yes h) = none_some (sym (held_unset m h) ∙ e)
-    by (no n) = let same : some m ≡ some m' = sym (held_set m n) ∙ e in cc
+    by (no n) = let same : Some m ≡ Some m' = sym (held_set m n) ∙ e in cc
 
 module _ {D : Type 0} (row : ℕ) where
   -- v.decode(m), and what follows
   decoded_by : (cell a : Option ℕ) (test : ℕ → Answer (Unit {0})) (g : ℕ → Stores row_world) (f : ℕ → Stores row_world → Outcome D) (h : ℕ × Stores row_world → Outcome D)
-      → ((m : ℕ) → a ≡ some m → f m (g m) ≡ h (m, g m))
+      → ((m : ℕ) → a ≡ Some m → f m (g m) ≡ h (m, g m))
       → bind (free row cell) (λ _. bind (need row a) λ m. bind (at row (test m)) λ _. f m (g m))
       ≡ bind (bind (free row cell) λ _. bind (need row a) λ m. bind (at row (test m)) λ _. done (m, g m)) h
-  decoded_by (some c) a test g f h same = refl
-  decoded_by none none test g f h same = refl
-  decoded_by none (some m) test g f h same = by (test m)
+  decoded_by (Some c) a test g f h same = refl
+  decoded_by None None test g f h same = refl
+  decoded_by None (Some m) test g f h same = by (test m)
     where
       by : (t : Answer (Unit {0})) → bind (at row t) (λ _. f m (g m)) ≡ bind (bind (at row t) λ _. done (m, g m)) h
       by (got u) = same m refl
@@ -46,8 +46,8 @@ module _ {D : Type 0} (row : ℕ) where
   -- a term made of another, and what follows
   asked_by : (cell : Option ℕ) (o : ℕ → Answer (ℕ × Table)) (g : ℕ × Table → ℕ × Stores row_world) (h : ℕ × Stores row_world → Outcome D)
       → bind (need row cell) (λ a. bind (at row (o a)) λ r. h (g r)) ≡ bind (bind (need row cell) λ a. bind (at row (o a)) λ r. done (g r)) h
-  asked_by none o g h = refl
-  asked_by (some a) o g h = by (o a)
+  asked_by None o g h = refl
+  asked_by (Some a) o g h = by (o a)
     where
       by : (t : Answer (ℕ × Table)) → bind (at row t) (λ r. h (g r)) ≡ bind (bind (at row t) λ r. done (g r)) h
       by (got r) = refl
@@ -56,10 +56,10 @@ module _ {D : Type 0} (row : ℕ) where
 
   made_by : (cell : Option ℕ) (t : Answer (ℕ × Table)) (g : ℕ × Table → ℕ × Stores row_world) (h : ℕ × Stores row_world → Outcome D)
       → bind (free row cell) (λ _. bind (at row t) λ r. h (g r)) ≡ bind (bind (free row cell) λ _. bind (at row t) λ r. done (g r)) h
-  made_by (some c) t g h = refl
-  made_by none (got r) g h = refl
-  made_by none (not why) g h = refl
-  made_by none full g h = refl
+  made_by (Some c) t g h = refl
+  made_by None (got r) g h = refl
+  made_by None (not why) g h = refl
+  made_by None full g h = refl
 
 abbrev Decoded : (ℕ → ℕ) → ℕ → ℕ → Option ℕ → Stores row_world → Outcome (ℕ × Stores row_world)
 Decoded kind row v a n = decodes row_world kind row v a n (made row_world kind)
@@ -122,9 +122,9 @@ module _ (kind : ℕ → ℕ) (row : ℕ) where
   keyed_then (op_key k K) n f = opposed_then k K n f
   keyed_then (certified_key k a) n f =
       ap (bind (need row (n.σ a)))
-      (fun_ext λ x. ap (bind (at row (row_world.apply (key_of x) n.memory))) (fun_ext λ r. decodes_then kind row k (some r.0) (set_memory row_world n r.1) f)
-      ∙ sym (bind_assoc (at row (row_world.apply (key_of x) n.memory)) (λ r. Decoded kind row k (some r.0) (set_memory row_world n r.1)) (λ r. f r.0 r.1)))
-      ∙ sym (bind_assoc (need row (n.σ a)) (λ x. bind (at row (row_world.apply (key_of x) n.memory)) λ r. Decoded kind row k (some r.0) (set_memory row_world n r.1)) (λ r. f
+      (fun_ext λ x. ap (bind (at row (row_world.apply (key_of x) n.memory))) (fun_ext λ r. decodes_then kind row k (Some r.0) (set_memory row_world n r.1) f)
+      ∙ sym (bind_assoc (at row (row_world.apply (key_of x) n.memory)) (λ r. Decoded kind row k (Some r.0) (set_memory row_world n r.1)) (λ r. f r.0 r.1)))
+      ∙ sym (bind_assoc (need row (n.σ a)) (λ x. bind (at row (row_world.apply (key_of x) n.memory)) λ r. Decoded kind row k (Some r.0) (set_memory row_world n r.1)) (λ r. f
       r.0 r.1))
 
   -- what is decoded, with the key that follows, is verified

@@ -9,9 +9,8 @@ use Rattle.theory.specs.RowModel.{row_world}
 use Rattle.theory.specs.Machine.{Stores}
 use Rattle.theory.specs.Rules.{match}
 use Rattle.machine.specs.Machine.{Slices, Within}
-use Rattle.walks.specs.Walks.{stores_at, Comes, stores_alone}
+use Rattle.walks.specs.Walks.{Walked, stores_at, Comes, stores_alone}
 use Rattle.walks.specs.declared.Walk.{Walk}
-use Rattle.walks.specs.declared.Walked.{Walked}
 
 -- a cell for every variable, and the used rows within the table
 pub record WalkReady (used : ℕ) (x : Slices) : Type 0 where

@@ -1,6 +1,6 @@
 -- The rules of a match, a stage at a time.
-use Rattle.std.specs.Prelude.{ℕ, ◌≤◌, ◌≡◌, List, length}
-use Rattle.std.proofs.Math.Option.{Option}
+use Rattle.std.specs.Prelude.{ℕ, ◌≤◌, ◌≡◌, List, length, Ok}
+use Rattle.std.specs.Prelude.{Option}
 use Rattle.patterns.specs.Pattern.{Key, plain_key, op_key, certified_key}
 use Rattle.theory.specs.Outcome.{Outcome, done, bind, at, need}
 use Rattle.theory.specs.World.{Op, op, verify}
@@ -8,10 +8,8 @@ use Rattle.theory.specs.RowModel.{row_world}
 use Rattle.theory.specs.Machine.{Stores, set_memory}
 use Rattle.theory.specs.Rules.{makes, made, create_key}
 use Rattle.machine.specs.Machine.{Slices, Within}
-use Rattle.walks.specs.Walks.{stores_at, Comes, message_and_stores}
+use Rattle.walks.specs.Walks.{Walked, stores_at, Comes, message_and_stores}
 use Rattle.walks.specs.declared.Walk.{Walk}
-use Rattle.walks.specs.declared.Walked.{Walked}
-use Rattle.walks.specs.declared.Walked.TheVariants.{Next}
 
 -- a function that sees no rows walks by a rule where the used rows are within the table
 pub record WalksInside {A : Type 0} (seen : ℕ → Stores row_world → A) (rule : Stores row_world → Outcome A) (w : Walk) (before : Slices → Slices) (answer : Walked) (after : Slices
@@ -25,7 +23,7 @@ pub record GoesOnBy {B : Type 0} (later : ℕ → Stores row_world → B) (rule 
 
 -- a walk that goes on has its used rows within the table
 pub record Inside (rows : List ℕ) (came : Walked) : Type 0 where
-  pub within : (w : Walk) → came ≡ Next w → Within rows w.used
+  pub within : (w : Walk) → came ≡ Ok w → Within rows w.used
 
 -- what is made of a cell's term comes into hand
 abbrev pub asked : ℕ → (Stores row_world → Option ℕ) → (ℕ → Op ℕ) → Stores row_world → Outcome (ℕ × Stores row_world)

@@ -18,11 +18,11 @@ ghost use Rattle.leaf_matching.specs.Matched.{meets};
 use super::keys::{opposite_of, signing_key};
 use super::stages::{agent_key, hashed, opened_by, same_as, verified};
 use answers::Reason;
-use machine::cells::{message_at, object_at, set_message};
+use machine::cells::{message_at, object_at, set_message, set_row};
 use numbers::{Object, Raw};
 use stores::cells::UNSET;
 use walks::making::{decode, keep};
-use walks::{Walk, Walked};
+use walks::{Ended, Walk, Walked, asked_at};
 
 // v
 pub fn match_object(
@@ -43,11 +43,8 @@ pub fn match_object(
     if known.0 == UNSET {
         return decode(kinds, terms, objects, walk, row, v);
     }
-    let message = walk.message;
-    if message.0 == UNSET {
-        return Walked::Stuck(row, Reason::Unset);
-    }
-    same_as(Walked::Next(walk.meeting(known)), row, message)
+    let message = asked_at(row, set_row(walk.message))?;
+    same_as(Ok(walk.meeting(known)), row, message)
 }
 
 // r
@@ -59,15 +56,12 @@ pub fn match_raw(named: &mut [u16], walk: Walk, row: u8, r: Raw) -> Walked
         (λ x. with_messages x named.new) }
 {
     let known = message_at(named, r);
-    let message = walk.message;
-    if message.0 == UNSET {
-        return Walked::Stuck(row, Reason::Unset);
-    }
+    let message = asked_at(row, set_row(walk.message))?;
     if known.0 == UNSET {
         set_message(named, r, message);
-        return Walked::Next(walk);
+        return Ok(walk);
     }
-    same_as(Walked::Next(walk), row, known)
+    same_as(Ok(walk), row, known)
 }
 
 // c : C
@@ -85,13 +79,10 @@ pub fn match_constant(
         (λ x. with_term_rows (with_objects x objects.old) terms.old) result
         (λ x. with_term_rows (with_objects x objects.new) terms.new) }
 {
-    let message = walk.message;
-    if message.0 == UNSET {
-        return Walked::Stuck(row, Reason::Unset);
-    }
+    let message = asked_at(row, set_row(walk.message))?;
     let known = object_at(objects, c);
     if known.0 != UNSET {
-        return Walked::Stuck(row, Reason::Unset);
+        return Err(Ended::Stuck(row, Reason::Unset));
     }
     let kept = keep(terms, objects, walk, row, c, world::byte(byte));
     same_as(kept, row, message)
@@ -112,10 +103,7 @@ pub fn match_opposite(
         (λ x. with_term_rows (with_objects x objects.old) terms.old) result
         (λ x. with_term_rows (with_objects x objects.new) terms.new) }
 {
-    let message = walk.message;
-    if message.0 == UNSET {
-        return Walked::Stuck(row, Reason::Unset);
-    }
+    let message = asked_at(row, set_row(walk.message))?;
     let kept = opposite_of(terms, objects, walk, row, public, private);
     same_as(kept, row, message)
 }

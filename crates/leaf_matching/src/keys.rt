@@ -8,13 +8,11 @@ ghost use Rattle.machine.specs.Machine.{with_objects, with_term_rows, with_certi
 ghost use Rattle.walks.specs.Walks.{message_and_stores, WalksBy};
 ghost use Rattle.leaf_matching.specs.Stages.{WalksInside, GoesOnBy, Inside, opposed, keyed};
 
-use answers::Reason;
-use machine::cells::object_at;
+use machine::cells::{object_at, set_row};
 use numbers::Object;
 use patterns::forms as form;
-use stores::cells::UNSET;
 use walks::keys::{certified_key, opposite_key};
-use walks::{Walk, Walked};
+use walks::{Walk, Walked, asked_at};
 
 // A key that a variable holds.
 fn held_key(objects: &[u16], walk: Walk, row: u8, key: Object) -> Walked
@@ -22,11 +20,8 @@ fn held_key(objects: &[u16], walk: Walk, row: u8, key: Object) -> Walked
         (λ x. with_objects x objects.now) result
         (λ x. with_objects x objects.now) }
 {
-    let known = object_at(objects, key);
-    if known.0 == UNSET {
-        return Walked::Stuck(row, Reason::Unset);
-    }
-    Walked::Next(walk.meeting(known))
+    let known = asked_at(row, set_row(object_at(objects, key)))?;
+    Ok(walk.meeting(known))
 }
 
 // k : op(K)
@@ -44,10 +39,7 @@ pub fn opposite_of(
         (λ x. with_term_rows (with_objects x objects.old) terms.old) result
         (λ x. with_term_rows (with_objects x objects.new) terms.new) }
 {
-    let key = object_at(objects, private);
-    if key.0 == UNSET {
-        return Walked::Stuck(row, Reason::Unset);
-    }
+    let key = asked_at(row, set_row(object_at(objects, private)))?;
     opposite_key(terms, objects, walk, row, public, key)
 }
 
@@ -68,18 +60,12 @@ pub fn signing_key(
         (λ x. with_certificates (with_term_rows (with_objects x objects.old) terms.old) certificates.now) result
         (λ x. with_certificates (with_term_rows (with_objects x objects.new) terms.new) certificates.now) }
 {
-    match came {
-        Walked::Stuck(place, reason) => Walked::Stuck(place, reason),
-        Walked::NoRoom(place) => Walked::NoRoom(place),
-        Walked::Next(walk) => {
-            let key = patterns::key(word);
-            let second = patterns::y(word);
-            let by = patterns::key_form(word);
-            match by {
-                form::PLAIN_KEY => held_key(objects, walk, row, key),
-                form::OPPOSITE_KEY => opposite_of(terms, objects, walk, row, key, second),
-                _ => certified_key(kinds, certificates, terms, objects, walk, row, key, second),
-            }
-        }
+    let walk = came?;
+    let key = patterns::key(word);
+    let second = patterns::y(word);
+    match patterns::key_form(word) {
+        form::PLAIN_KEY => held_key(objects, walk, row, key),
+        form::OPPOSITE_KEY => opposite_of(terms, objects, walk, row, key, second),
+        _ => certified_key(kinds, certificates, terms, objects, walk, row, key, second),
     }
 }

@@ -8,29 +8,18 @@ ghost use Rattle.machine.specs.Machine.{with_objects, with_messages, with_term_r
 ghost use Rattle.walks.specs.Walks.{stores_alone, message_and_stores};
 ghost use Rattle.leaf_matching.specs.Stages.{GoesOnBy, Inside, asked, verifies};
 
-use answers::Reason;
-use machine::cells::{message_at, object_at};
+use machine::cells::{message_at, object_at, set_row};
 use numbers::{Object, Raw, TermRow};
-use stores::cells::UNSET;
-use walks::Walked;
 use walks::making::make;
-use world::{Opened, Tested};
+use walks::{Walked, asked_at};
 
 // What came into hand has to be the message.
 pub fn same_as(came: Walked, row: u8, message: TermRow) -> Walked
     ensures { (kind : ℕ → ℕ) → GoesOnBy stores_alone (λ m. equals row_world kind row m.0 message.0 m.1) came (λ x. x) result (λ x. x) }
 {
-    match came {
-        Walked::Stuck(place, reason) => Walked::Stuck(place, reason),
-        Walked::NoRoom(place) => Walked::NoRoom(place),
-        Walked::Next(walk) => {
-            let tested = world::same(walk.message, message);
-            match tested {
-                Tested::Not(reason) => Walked::Stuck(row, reason),
-                Tested::Holds => Walked::Next(walk),
-            }
-        }
-    }
+    let walk = came?;
+    asked_at(row, world::same(walk.message, message))?;
+    Ok(walk)
 }
 
 // What came into hand has to verify a signature of r.
@@ -48,21 +37,10 @@ pub fn verified(
         (λ x. with_term_rows (with_messages x named.now) terms.now) result
         (λ x. with_term_rows (with_messages x named.now) terms.now) }
 {
-    match came {
-        Walked::Stuck(place, reason) => Walked::Stuck(place, reason),
-        Walked::NoRoom(place) => Walked::NoRoom(place),
-        Walked::Next(walk) => {
-            let body = message_at(named, r);
-            if body.0 == UNSET {
-                return Walked::Stuck(row, Reason::Unset);
-            }
-            let tested = world::verify(terms, walk.message, body, signature);
-            match tested {
-                Tested::Not(reason) => Walked::Stuck(row, reason),
-                Tested::Holds => Walked::Next(walk),
-            }
-        }
-    }
+    let walk = came?;
+    let body = asked_at(row, set_row(message_at(named, r)))?;
+    asked_at(row, world::verify(terms, walk.message, body, signature))?;
+    Ok(walk)
 }
 
 // The key of an agent's certificate comes into hand.
@@ -78,21 +56,10 @@ pub fn agent_key(
         (λ x. with_certificates (with_objects x objects.now) certificates.now) result
         (λ x. with_certificates (with_objects x objects.now) certificates.now) }
 {
-    match came {
-        Walked::Stuck(place, reason) => Walked::Stuck(place, reason),
-        Walked::NoRoom(place) => Walked::NoRoom(place),
-        Walked::Next(walk) => {
-            let whose = object_at(objects, agent);
-            if whose.0 == UNSET {
-                return Walked::Stuck(row, Reason::Unset);
-            }
-            let opened = world::key_of(certificates, whose);
-            match opened {
-                Opened::Not(reason) => Walked::Stuck(row, reason),
-                Opened::Row(key) => Walked::Next(walk.meeting(key)),
-            }
-        }
-    }
+    let walk = came?;
+    let whose = asked_at(row, set_row(object_at(objects, agent)))?;
+    let key = asked_at(row, world::key_of(certificates, whose))?;
+    Ok(walk.meeting(key))
 }
 
 // The body of the encryption in hand comes into hand, where the key opens it.
@@ -102,21 +69,10 @@ pub fn opened_by(terms: &[u64], objects: &[u16], came: Walked, row: u8, key: Obj
         (λ x. with_term_rows (with_objects x objects.now) terms.now) result
         (λ x. with_term_rows (with_objects x objects.now) terms.now) }
 {
-    match came {
-        Walked::Stuck(place, reason) => Walked::Stuck(place, reason),
-        Walked::NoRoom(place) => Walked::NoRoom(place),
-        Walked::Next(walk) => {
-            let known = object_at(objects, key);
-            if known.0 == UNSET {
-                return Walked::Stuck(row, Reason::Unset);
-            }
-            let opened = world::decrypt(terms, known, walk.message);
-            match opened {
-                Opened::Not(reason) => Walked::Stuck(row, reason),
-                Opened::Row(body) => Walked::Next(walk.meeting(body)),
-            }
-        }
-    }
+    let walk = came?;
+    let known = asked_at(row, set_row(object_at(objects, key)))?;
+    let body = asked_at(row, world::decrypt(terms, known, walk.message))?;
+    Ok(walk.meeting(body))
 }
 
 // The hash of what r holds comes into hand.
@@ -128,15 +84,7 @@ pub fn hashed(terms: &mut [u64], named: &[u16], came: Walked, row: u8, r: Raw) -
         (λ x. with_term_rows (with_messages x named.now) terms.old) result
         (λ x. with_term_rows (with_messages x named.now) terms.new) }
 {
-    match came {
-        Walked::Stuck(place, reason) => Walked::Stuck(place, reason),
-        Walked::NoRoom(place) => Walked::NoRoom(place),
-        Walked::Next(walk) => {
-            let body = message_at(named, r);
-            if body.0 == UNSET {
-                return Walked::Stuck(row, Reason::Unset);
-            }
-            make(terms, walk, row, world::hash(body))
-        }
-    }
+    let walk = came?;
+    let body = asked_at(row, set_row(message_at(named, r)))?;
+    make(terms, walk, row, world::hash(body))
 }

@@ -1,22 +1,25 @@
 -- Compile over lent bytes: what fits or is refused, and words that come to the code's bytes.
 use Prim.Native.Nat.{ℕ, ◌*◌, ◌/◌, ◌%◌, ◌<◌, ◌≤◌}
-use mathlib.Core.Path.{◌≡◌, refl, ◌∙◌, ap}
+use mathlib.Core.Path.{◌≡◌, refl, sym, ◌∙◌, ap}
 use mathlib.Core.Bool.{Bool, true, false, ◌&&◌}
 use mathlib.Core.List.{List, ◌++◌}
 use native.Mathlib.Omega.{arith}
 use lib.Dec.{T, eqb, leb}
-use lib.ListN.{length, take, drop}
+use lib.ListN.{length, get_or, take, drop}
 use Rattle.word.specs.Bytes.{elements, spelled}
 use Rattle.word.proofs.ByteLaws.{Below, length_words, spelled_append, spelled_elements}
 use Rattle.word.proofs.TestLaws.{both, equals, at_most, is_false}
 use Rattle.answers.specs.Numbers.{compiled_number, compiled_place}
 use Rattle.answers.specs.declared.Compiled.{Compiled}
 use Rattle.answers.specs.declared.Compiled.TheVariants.{Done, Limit, CodeTooShort}
-use Rattle.numbers.specs.Limits.{variables, named_cells, most_pattern_rows}
+use Rattle.numbers.specs.Limits.{variables, named_cells, most_pattern_rows, most_code_words}
 use Rattle.calls.specs.Compile.{CompileOutcome, leaves, written, lengths_fit, compile}
 use Rattle.answers.specs.First.{first}
 use Rattle.delivery.proofs.DeliveryLaws.{too_short, all_fit}
-use Rattle.compiler.proofs.OverCells.{Compiles}
+use Rattle.knowing.specs.Known.{known}
+use Rattle.stores.specs.Cells.{is_set, unset}
+use Rattle.compiler.specs.CompileKnown.{compile_known}
+use Rattle.compiler.proofs.OverCells.{Compiles, known_compiles, not_done}
 use Rattle.looking.proofs.LookLaws.{true_holds}
 use Rattle.lending.specs.Entries.{CompileLeft, compiled_numbers, compile_spelled, compile_refused, compile_whole, compile_entry}
 use Rattle.lending.proofs.ChoiceLaws.{where_true, either_way}
@@ -112,3 +115,32 @@ module _ (create : ℕ) (pattern kinds objects named code : List ℕ) where
     pub entry_done : {left : CompileLeft} → compiled_number answer ≡ 0 → left ≡ compile_spelled (written (take (compiled_place answer) buffer) (elements 4 code))
         → left ≡ compile_entry create pattern kinds objects named code
     entry_done zero e = e ∙ ap compile_spelled (compiles.delivered (elements 4 code) zero) ∙ fits
+
+  -- as the code has it
+  module _ {fit : Bool} (said : fit ≡ bytes_fit) (holds : fit ≡ true) {rows object_cells named_cells : List ℕ}
+      (r : rows ≡ elements 8 pattern) (o : object_cells ≡ elements 2 objects) (n : named_cells ≡ elements 2 named) (seen heard : ℕ)
+      (sees : known seen ≡ (λ v. is_set (get_or object_cells v unset))) (hears : known heard ≡ (λ v. is_set (get_or named_cells v unset)))
+      (blank : List ℕ) (long : length blank ≡ most_code_words) {answer : Compiled} {buffer : List ℕ} {set_objects set_named : ℕ → Bool}
+      (left : record { answer = answer; words = buffer; objects = set_objects; named = set_named } ≡ compile_known (eqb create 1) rows kinds (known seen) (known heard) blank) where
+    bytes_fitting : Fitting
+    bytes_fitting = fitting (sym said ∙ holds)
+
+    compiles : Compiles (eqb create 1) (elements 8 pattern) kinds (elements 2 objects) (elements 2 named) answer buffer
+    compiles =
+        known_compiles _ _ _ _ _ seen heard (object_count bytes_fitting) (named_count bytes_fitting) (rw o at sees) (rw n at hears) blank long (rw r at left)
+
+    pub words_long : {words : ℕ} → answer ≡ Done words → words ≤ length buffer
+    words_long e =
+        let zero : compiled_number answer ≡ 0 = rw e in
+        omega (arith, rw e at (compiles.few zero), compiles.long zero)
+
+    pub words_few : {words : ℕ} → answer ≡ Done words → words ≤ most_code_words
+    words_few e = let zero : compiled_number answer ≡ 0 = rw e in omega (arith, rw e at (compiles.few zero))
+
+    pub bytes_refused : ((words : ℕ) → answer ≡ Done words → ⊥) → Below 256 code
+        → record { answer = compiled_numbers answer; code = code } ≡ compile_entry create pattern kinds objects named code
+    bytes_refused other below = entry_refused bytes_fitting compiles below (not_done answer other)
+
+    pub bytes_done : {words : ℕ} → answer ≡ Done words → {after : CompileLeft} → after ≡ compile_spelled (written (take words buffer) (elements 4 code))
+        → after ≡ compile_entry create pattern kinds objects named code
+    bytes_done e same = entry_done bytes_fitting compiles (rw e) (rw e same)

@@ -108,6 +108,17 @@ module _ (x : RoundBytes) (code : List ℕ) where
         spelled_elements 8 x.terms slices.0.1 terms,
       )
 
+  -- as the code finds it, in two parts
+  module _ {slices fit : Bool} (fitting_slices : slices ≡ are_fitting) (all : fit ≡ (is_record && slices)) where
+    all_fit : fit ≡ bytes_fit
+    all_fit = all ∙ rw fitting_slices
+
+    pub bytes_fitting : fit ≡ true → RoundFitting
+    bytes_fitting fits = round_fitting (sym all_fit ∙ fits)
+
+    pub bytes_limit : fit ≡ false → Below 256 x.session → Below 256 x.objects → Below 256 x.messages → Below 256 x.terms → round_refused x ≡ round_entry x code
+    bytes_limit unfit session objects messages terms = round_limit session objects messages terms (sym all_fit ∙ unfit)
+
   spells : T (round_whole x code) → round_spelled outcome ≡ round_entry x code
   unfolding round_entry
   spells w = where_true (round_whole x code) (round_spelled outcome) (round_refused x) w

@@ -1,6 +1,6 @@
 -- Run over lent bytes: lengths that fit or are refused, and what is packed back.
 use Prim.Native.Nat.{ℕ}
-use mathlib.Core.Path.{◌≡◌, sym, ◌∙◌, ap}
+use mathlib.Core.Path.{◌≡◌, refl, sym, ◌∙◌, ap}
 use mathlib.Core.Bool.{Bool, true, false}
 use mathlib.Core.List.{List}
 use lib.Dec.{T}
@@ -35,7 +35,7 @@ module _ (x : Lent) (code : List ℕ) where
   refused_by_run : bytes_fit ≡ false → T (run_whole x code) → run (lent_elements x) (elements 4 code) ≡ unchanged Limit (lent_elements x)
   refused_by_run e w =
       let unfit = is_false (lengths_fit (lent_elements x) (elements 4 code)) λ t. rw e at (lengths_fit_lem w t) in
-      sym (run_refused_lem (lent_elements x) (elements 4 code) (found_some (elements 8 x.terms) _ (found_limit (lent_elements x) (elements 4 code) unfit)).0)
+      sym (run_refused_lem (lent_elements x) (elements 4 code) (found_some (elements 8 x.terms) _ (found_limit (lent_elements x) (elements 4 code) refl unfit)).0)
 
   -- 1, of whole elements or not
   pub run_limit : Below 256 x.objects → Below 256 x.messages → Below 256 x.terms → bytes_fit ≡ false → run_refused x ≡ run_entry x code
@@ -53,12 +53,13 @@ module _ (x : Lent) (code : List ℕ) where
   unfolding run_entry
   spells w = where_true (run_whole x code) (run_spelled (run (lent_elements x) (elements 4 code))) (run_refused x) w
 
-  pub run_packed : {o left : RunOutcome} {answer : RunAnswer} {used : ℕ} {objects messages : List ℕ} → T (run_whole x code) → o ≡ run (lent_elements x) (elements 4 code)
+  pub run_packed : {o left : RunOutcome} {answer : RunAnswer} {used : ℕ} {objects messages : List ℕ} {fit : Bool} → fit ≡ bytes_fit → fit ≡ true
+      → o ≡ run (lent_elements x) (elements 4 code)
       → left ≡ rows_spelled o → used ≡ used_with o.answer o.terms → objects ≡ spelled 2 left.objects → messages ≡ spelled 2 left.messages
       → answer ≡ ran_numbers left.answer used left.counter left.accumulator
       → record { answer = answer; objects = objects; messages = messages; terms = left.terms } ≡ run_entry x code
-  run_packed {o} {left} {answer} {used} w same e u o' m' n =
-      rw (n, o', m') (ap (packed used) e ∙ ap (λ (count : ℕ). packed count (rows_spelled o)) u ∙ ap run_spelled same ∙ spells w)
+  run_packed {o} {left} {answer} {used} said holds same e u o' m' n =
+      rw (n, o', m') (ap (packed used) e ∙ ap (λ (count : ℕ). packed count (rows_spelled o)) u ∙ ap run_spelled same ∙ spells (run_fitting (sym said ∙ holds)).all_whole)
 
 -- what is unpacked
 pub lent_elements_lem : (x : Lent) (code : List ℕ) {objects messages pairs words : List ℕ} → objects ≡ elements 2 x.objects → messages ≡ elements 2 x.messages

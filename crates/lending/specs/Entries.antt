@@ -3,9 +3,7 @@ use Rattle.std.specs.Prelude.{ℕ, Bool, cond, ◌&&◌, List, eqb, leb}
 use Rattle.word.specs.Bytes.{whole, elements, spelled}
 use Rattle.answers.specs.Numbers.{compiled_number, compiled_place, ran_number, ran_place, ran_reason}
 use Rattle.answers.specs.declared.Compiled.{Compiled}
-use Rattle.answers.specs.declared.Compiled.TheVariants as Compiled
 use Rattle.answers.specs.declared.Ran.{Ran}
-use Rattle.answers.specs.declared.Ran.TheVariants as Ran
 use Rattle.calls.specs.Compile.{CompileOutcome, compile}
 use Rattle.calls.specs.Run.{Lent, RunOutcome, run}
 use Rattle.looking.specs.Found.{used_with}

@@ -1,5 +1,5 @@
 // Compile over lent bytes: what fits, and words that come to the code's bytes.
-ghost use Rattle.std.specs.Prelude.{◌≡◌, ◌&&◌, ◌*◌, ◌%◌, ◌≤◌, eqb, leb, length};
+ghost use Rattle.std.specs.Prelude.{◌≡◌, ◌&&◌, ◌*◌, ◌/◌, ◌%◌, ◌≤◌, true, eqb, leb, length};
 ghost use Rattle.word.specs.Bytes.{elements};
 ghost use Rattle.numbers.specs.Limits.{variables, named_cells, most_pattern_rows, most_code_words};
 ghost use Rattle.calls.specs.Compile.{written};
@@ -11,7 +11,8 @@ use numbers::limits::{MOST_PATTERN_ROWS, VARIABLES};
 
 // A direction, whole elements, and no more of them than there is room for.
 pub fn lengths_fit(create: u8, pattern: usize, objects: usize, named: usize, code: usize) -> bool
-    ensures { result ≡ (leb create 1 && eqb (pattern % 8) 0 && leb pattern (8 * most_pattern_rows) && eqb objects (2 * variables) && eqb named (2 * named_cells) && eqb (code % 4) 0) }
+    ensures fits { result ≡ (leb create 1 && eqb (pattern % 8) 0 && leb pattern (8 * most_pattern_rows) && eqb objects (2 * variables) && eqb named (2 * named_cells) && eqb (code % 4) 0) }
+    ensures room { result ≡ true → (pattern / 8 ≤ most_pattern_rows) × (objects ≡ 2 * variables) × (named ≡ 2 * named_cells) × (code % 4 ≡ 0) }
 {
     (create <= 1)
         & (pattern % 8 == 0)
@@ -21,14 +22,13 @@ pub fn lengths_fit(create: u8, pattern: usize, objects: usize, named: usize, cod
         & (code % 4 == 0)
 }
 
+// Not a From, as for a round: the numbers of a run and of a role take more than the answer, and all four read alike.
 pub fn numbers(answer: Compiled) -> CompileAnswer
     ensures { result ≡ compiled_numbers answer }
 {
-    let number = answer.number();
-    let place = answer.place();
     CompileAnswer {
-        number: number,
-        place: place,
+        number: answer.number(),
+        place: answer.place(),
     }
 }
 
@@ -41,7 +41,6 @@ pub fn deliver(words: &[u32], code: &mut [u8]) -> CompileAnswer
     if code.len() / 4 < count {
         return numbers(Compiled::CodeTooShort(count as u32));
     }
-    let end = 4 * count;
-    word::pack_quads(words, &mut code[..end]);
+    word::pack_quads(words, &mut code[..4 * count]);
     numbers(Compiled::Done(count as u32))
 }

@@ -1,5 +1,5 @@
 // A table that is lent as bytes: its used rows alone are unpacked, and its new rows alone are packed back.
-ghost use Rattle.std.specs.Prelude.{◌≡◌, ◌++◌, ◌*◌, ◌≤◌, min, eqb, length, drop};
+ghost use Rattle.std.specs.Prelude.{◌≡◌, ◌++◌, ◌*◌, ◌≤◌, eqb, length, drop};
 ghost use Rattle.numbers.specs.Limits.{most_term_rows};
 ghost use Rattle.word.specs.Bytes.{words, elements, spelled};
 ghost use Rattle.word.specs.Lowest.{each};
@@ -18,8 +18,8 @@ fn all_zero(bytes: &[u8]) -> bool
     ensures { result ≡ each (λ byte. eqb byte 0) bytes.now }
 {
     let mut zero = true;
-    for i in 0..bytes.len() {
-        zero = zero & (bytes[i] == 0);
+    for byte in bytes {
+        zero &= *byte == 0;
     }
     zero
 }
@@ -29,17 +29,14 @@ fn unpack_used(bytes: &[u8], rows: &mut [u64]) -> usize
     requires { length bytes.now ≡ 8 * length rows.old }
     ensures { (result ≡ used_rows (elements 8 bytes.now)) × (rows.new ≡ words 8 result bytes.now ++ drop result rows.old) }
 {
-    let count = rows.len();
-    let mut place: usize = 0;
-    while place < count {
+    for (place, row) in rows.iter_mut().enumerate() {
         let word = word::word_at(bytes, 8 * place);
         if word == 0 {
             return place;
         }
-        rows[place] = word;
-        place += 1;
+        *row = word;
     }
-    place
+    rows.len()
 }
 
 // All rows, into rows that are zero. The front ends at the first zero row, but where a row behind that is not zero.
@@ -48,25 +45,14 @@ pub fn unpack(bytes: &[u8], rows: &mut [u64]) -> RowsRead
     ensures { (rows.new ≡ elements 8 bytes.now) × (result.used ≡ used_rows (elements 8 bytes.now)) × Front (elements 8 bytes.now) result.front }
 {
     let used = unpack_used(bytes, rows);
-    let behind = 8 * used;
-    if all_zero(&bytes[behind..]) {
-        return RowsRead {
-            used: used,
-            front: used,
-        };
+    if all_zero(&bytes[8 * used..]) {
+        return RowsRead { used, front: used };
     }
     word::unpack_words(bytes, rows);
-    let all = rows.len();
     RowsRead {
-        used: used,
-        front: all,
+        used,
+        front: rows.len(),
     }
-}
-
-fn lesser(one: usize, other: usize) -> usize
-    ensures { result ≡ min one other }
-{
-    if one < other { one } else { other }
 }
 
 // The rows from one place up to another, where the bytes hold all the others.
@@ -74,10 +60,8 @@ pub fn pack_new(rows: &[u64], from: usize, to: usize, bytes: &mut [u8])
     requires { (length bytes.old ≡ 8 * length rows.now) × (from ≤ length rows.now) × SameBut (elements 8 bytes.old) rows.now from to }
     ensures { bytes.new ≡ spelled 8 rows.now }
 {
-    let end = lesser(to, rows.len());
-    let mut place = from;
-    while place < end {
+    let end = to.min(rows.len());
+    for place in from..end {
         word::put_word(bytes, 8 * place, rows[place]);
-        place += 1;
     }
 }

@@ -1,5 +1,5 @@
 // Run over lent bytes: what fits, and its answer in numbers.
-ghost use Rattle.std.specs.Prelude.{◌≡◌, ◌&&◌, ◌*◌, ◌/◌, ◌%◌, eqb, leb};
+ghost use Rattle.std.specs.Prelude.{◌≡◌, ◌&&◌, ◌*◌, ◌/◌, ◌%◌, ◌≤◌, true, eqb, leb};
 ghost use Rattle.numbers.specs.Limits.{variables, message_cells, most_term_rows, most_certificates};
 ghost use Rattle.lending.specs.Entries.{ran_numbers};
 
@@ -16,8 +16,10 @@ pub fn lengths_fit(
     code: usize,
     most: usize,
 ) -> bool
-    ensures { result ≡ (eqb objects (2 * variables) && eqb messages (2 * message_cells) && eqb (certificates % 8) 0
+    ensures fits { result ≡ (eqb objects (2 * variables) && eqb messages (2 * message_cells) && eqb (certificates % 8) 0
         && leb certificates (8 * most_certificates) && eqb (terms % 8) 0 && leb terms (8 * most_term_rows) && eqb (code % 4) 0 && leb (code / 4) most) }
+    ensures room { result ≡ true → (objects ≡ 2 * variables) × (messages ≡ 2 * message_cells) × (certificates / 8 ≤ most_certificates)
+        × (terms ≡ 8 * (terms / 8)) × (terms / 8 ≤ most_term_rows) × (code / 4 ≤ most) }
 {
     (objects == 2 * VARIABLES)
         & (messages == 2 * MESSAGE_CELLS)
@@ -32,15 +34,12 @@ pub fn lengths_fit(
 pub fn numbers(answer: Ran, used: u32, counter: u32, accumulator: u32) -> RunAnswer
     ensures { result ≡ ran_numbers answer used counter accumulator }
 {
-    let number = answer.number();
-    let place = answer.place();
-    let reason = answer.reason();
     RunAnswer {
-        number: number,
-        place: place,
-        reason: reason,
-        used: used,
-        counter: counter,
-        accumulator: accumulator,
+        number: answer.number(),
+        place: answer.place(),
+        reason: answer.reason(),
+        used,
+        counter,
+        accumulator,
     }
 }

@@ -1,5 +1,5 @@
 // A session record that is lent as bytes, and the numbers of a round's answer.
-ghost use Rattle.std.specs.Prelude.{◌≡◌, ◌&&◌, eqb, length};
+ghost use Rattle.std.specs.Prelude.{◌≡◌, ◌&&◌, true, eqb, length};
 ghost use Rattle.word.specs.Bytes.{elements, spelled};
 ghost use Rattle.lending.specs.RoundEntry.{record_bytes, session_fields, session_of, rounded_numbers};
 
@@ -13,7 +13,8 @@ pub const RECORD_BYTES: usize = 20;
 
 // A record of its length, and slices that fit.
 pub fn lengths_fit(session: usize, slices: bool) -> bool
-    ensures { result ≡ (eqb session record_bytes && slices) }
+    ensures fits { result ≡ (eqb session record_bytes && slices) }
+    ensures room { result ≡ true → (session ≡ record_bytes) × (slices ≡ true) }
 {
     (session == RECORD_BYTES) & slices
 }
@@ -24,12 +25,13 @@ pub fn unpack(bytes: &[u8]) -> Session
 {
     let mut fields = [0u32; FIELDS];
     word::unpack_quads(bytes, &mut fields);
+    let [used, counter, round, message, answer] = fields;
     Session {
-        used: fields[0],
-        counter: fields[1],
-        round: fields[2],
-        message: fields[3],
-        answer: fields[4],
+        used,
+        counter,
+        round,
+        message,
+        answer,
     }
 }
 
@@ -50,12 +52,9 @@ pub fn pack(session: Session, bytes: &mut [u8])
 pub fn numbers(answer: Rounded) -> RoundAnswer
     ensures { result ≡ rounded_numbers answer }
 {
-    let number = answer.number();
-    let place = answer.place();
-    let reason = answer.reason();
     RoundAnswer {
-        number: number,
-        place: place,
-        reason: reason,
+        number: answer.number(),
+        place: answer.place(),
+        reason: answer.reason(),
     }
 }

@@ -2,7 +2,7 @@
 use Prim.Native.Nat.{ℕ, ◌<◌, ◌≤◌}
 use mathlib.Core.Path.{◌≡◌, refl, sym, ◌∙◌, ap, fun_ext}
 use mathlib.Core.Bool.{Bool, false, not}
-use mathlib.Core.Option.{Option, none, some}
+use Rattle.std.specs.Prelude.{Option, None, Some}
 use mathlib.Core.List.{List}
 use native.Mathlib.Decide.{dec_lt}
 use native.Mathlib.Omega.{arith}
@@ -94,12 +94,12 @@ module _ {rows : List ℕ} {front : ℕ} (cut : Front rows front) where
     same_bad_term = go (lowest (bad_term_row part counter) part) refl
       where
         go : (o : Option ℕ) → lowest (bad_term_row part counter) part ≡ o → lowest (bad_term_row part counter) part ≡ lowest (bad_term_row rows counter) rows
-        go none e = e ∙ sym ((lowest_none (bad_term_row rows counter) 0 rows).1 λ row l. passed row (dec_lt row front))
+        go None e = e ∙ sym ((lowest_none (bad_term_row rows counter) 0 rows).1 λ row l. passed row (dec_lt row front))
           where
             passed : (row : ℕ) → Dec (row < front) → T (not (bad rows row))
             passed row (yes h) = rw (← (bad_same row h)) ((lowest_none (bad_term_row part counter) 0 part).0 e row (omega (arith, length_part)))
             passed row (no h) = rw (good_behind row (omega arith)) tt
-        go (some row) e =
+        go (Some row) e =
             let found = (lowest_some (bad_term_row part counter) 0 part row).0 e in
             let inside : row < front = omega (arith, length_part, found.inside) in
             e ∙ sym ((lowest_some (bad_term_row rows counter) 0 rows row).1 (record {
@@ -148,8 +148,8 @@ module _ (x : Lent) (code : List ℕ) {front : ℕ} (cut : Front x.terms front) 
       )
 
   counted_same : (o : Option Ran) → found_by o (take front x.terms) ≡ found_by o x.terms
-  counted_same (some answer) = rw (same_used cut)
-  counted_same none = rw (same_used cut)
+  counted_same (Some answer) = rw (same_used cut)
+  counted_same None = rw (same_used cut)
 
   pub found_same : found_by (first (refusals (cut_to front x) code)) (take front x.terms) ≡ found_by (first (refusals x code)) x.terms
   found_same = counted_same (first (refusals (cut_to front x) code)) ∙ ap (λ all. found_by (first all) x.terms) refused_same

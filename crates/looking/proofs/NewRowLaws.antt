@@ -2,7 +2,7 @@
 use Prim.Native.Nat.{ℕ}
 use mathlib.Core.Path.{◌≡◌, refl}
 use mathlib.Core.Logic.{inl, inr}
-use mathlib.Core.Option.{Option, none, some}
+use Rattle.std.specs.Prelude.{Option, None, Some}
 use mathlib.Core.List.{List}
 use native.Mathlib.Omega.{arith}
 use lib.ListN.{length}
@@ -28,7 +28,7 @@ pub all_same : (rows : List ℕ) (from to : ℕ) → SameBut rows rows from to
 all_same rows from to = record { long = refl; others = λ row outside. refl }
 
 -- steps that are done
-pub steps_new_rows : (x : Lent) (code : List ℕ) → Valid x → bad_word (kind_in x.kinds) code ≡ none → (t : State row_world)
+pub steps_new_rows : (x : Lent) (code : List ℕ) → Valid x → bad_word (kind_in x.kinds) code ≡ None → (t : State row_world)
     → exec row_world (kind_in x.kinds) (lines_of code) (state_of x) ≡ done t
     → SameBut x.terms t.stores.memory.rows (used_rows x.terms) (used_rows t.stores.memory.rows)
 unfolding state_over
@@ -48,8 +48,8 @@ module _ (x : Lent) (code : List ℕ) where
   stepped p (room place) e = all_same x.terms _ _
 
   by : (o : Option Ran) → first (refusals x code) ≡ o → NewRows (run_by x code o)
-  by (some answer) e = all_same x.terms _ _
-  by none e = stepped (passed x code e) (steps_of x code) refl
+  by (Some answer) e = all_same x.terms _ _
+  by None e = stepped (passed x code e) (steps_of x code) refl
 
   pub run_new_rows : SameBut x.terms (run x code).terms (used_rows x.terms) (used_with (run x code).answer (run x code).terms)
   unfolding run

@@ -1,28 +1,26 @@
 // What run looks at before it steps: 1, 2, 3, 9.
 #![tactic(auto)]
 
-ghost use Rattle.std.specs.Prelude.{◌≡◌, ◌&&◌, eqb, leb};
+ghost use Rattle.std.specs.Prelude.{◌≡◌, ◌&&◌, ◌≤◌, true, eqb, leb};
 ghost use Rattle.answers.specs.First.{first};
 ghost use Rattle.calls.specs.Run.{refusals};
-ghost use Rattle.numbers.specs.Limits.{variables, message_cells, most_certificates, most_term_rows, most_names, most_code_words};
+ghost use Rattle.numbers.specs.Limits.{variables, message_cells, most_certificates, most_term_rows, most_names};
 ghost use Rattle.looking.specs.Found.{found_by};
 
 use answers::Ran;
 use numbers::limits::{
     MESSAGE_CELLS, MOST_CERTIFICATES, MOST_CODE_WORDS, MOST_NAMES, MOST_TERM_ROWS, VARIABLES,
 };
-use terms::Checked;
-use word::Place;
 
-// What is found before the steps: a refusal with the used rows that come back, or the number of used rows.
+// A refusal before the steps, and the used rows that come back with it.
 #[derive(Clone, Copy)]
-pub enum Finding {
-    Refused(Ran, u16),
-    Accepted(u16),
+pub struct Refused {
+    pub answer: Ran,
+    pub used: u16,
 }
 
-// 1.
-fn lengths_fit(
+// 1. A round has room for other many words than a run.
+pub fn lengths_fit(
     kinds: usize,
     objects: usize,
     messages: usize,
@@ -30,9 +28,11 @@ fn lengths_fit(
     terms: usize,
     counter: u32,
     code: usize,
+    most: usize,
 ) -> bool
-    ensures { result ≡ (eqb kinds variables && eqb objects variables && eqb messages message_cells && leb certificates most_certificates && leb terms
-        most_term_rows && leb counter most_names && leb code most_code_words) }
+    ensures fits { result ≡ (eqb kinds variables && eqb objects variables && eqb messages message_cells && leb certificates most_certificates && leb terms
+        most_term_rows && leb counter most_names && leb code most) }
+    ensures few_rows { result ≡ true → terms ≤ most_term_rows }
 {
     (kinds == VARIABLES)
         & (objects == VARIABLES)
@@ -40,9 +40,10 @@ fn lengths_fit(
         & (certificates <= MOST_CERTIFICATES)
         & (terms <= MOST_TERM_ROWS)
         & (counter <= MOST_NAMES)
-        & (code <= MOST_CODE_WORDS)
+        & (code <= most)
 }
 
+// The number of used rows, where nothing is refused.
 pub fn look(
     kinds: &[u8],
     objects: &[u16],
@@ -52,7 +53,7 @@ pub fn look(
     rows: &[u64],
     counter: u32,
     words: &[u32],
-) -> Finding
+) -> Result<u16, Refused>
     ensures { result ≡ found_by (first (refusals (record {
       kinds = kinds.now;
       objects = objects.now;
@@ -72,33 +73,42 @@ pub fn look(
         rows.len(),
         counter,
         words.len(),
+        MOST_CODE_WORDS,
     ) {
-        return Finding::Refused(Ran::Limit, 0);
+        return Err(Refused {
+            answer: Ran::Limit,
+            used: 0,
+        });
     }
-    let checked = tables::first_bad_row(rows, counter);
-    match checked {
-        Checked::Bad(row) => {
+    let used = match tables::first_bad_row(rows, counter) {
+        Ok(count) => count as u16,
+        Err(row) => {
             let counted = tables::used_rows(rows) as u16;
-            Finding::Refused(Ran::BadTerm(row), counted)
+            return Err(Refused {
+                answer: Ran::BadTerm(row),
+                used: counted,
+            });
         }
-        Checked::Used(count) => {
-            let used = count as u16;
-            if !validity::valid(
-                rows,
-                used,
-                kinds,
-                objects,
-                messages,
-                certificates,
-                accumulator,
-            ) {
-                return Finding::Refused(Ran::BadStore, used);
-            }
-            let place = operands::first_bad_word(kinds, words);
-            match place {
-                Place::At(word) => Finding::Refused(Ran::BadWord(word), used),
-                Place::Nowhere => Finding::Accepted(used),
-            }
+    };
+    if !validity::valid(
+        rows,
+        used,
+        kinds,
+        objects,
+        messages,
+        certificates,
+        accumulator,
+    ) {
+        return Err(Refused {
+            answer: Ran::BadStore,
+            used,
+        });
+    }
+    match operands::first_bad_word(kinds, words) {
+        Some(word) => {
+            let answer = Ran::BadWord(word);
+            Err(Refused { answer, used })
         }
+        None => Ok(used),
     }
 }

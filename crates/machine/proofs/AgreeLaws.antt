@@ -1,30 +1,28 @@
 -- How an answer comes to agree with an outcome: a read, then what an operation answers.
 use Prim.Native.Nat.{ℕ, ◌<◌}
 use mathlib.Core.Path.{◌≡◌, refl, ap}
-use mathlib.Core.Option.{Option, none, some}
+use Rattle.std.specs.Prelude.{Option, None, Some, Ok, Err}
 use mathlib.Core.List.{List}
 use lib.ListN.{length, set, length-set}
 use Rattle.answers.specs.Numbers.{reason_number}
 use Rattle.answers.specs.declared.Reason.{Reason}
 use Rattle.answers.specs.declared.Reason.TheVariants.{Unset}
 use Rattle.numbers.specs.declared.TermRow.{TermRow}
-use Rattle.terms.specs.declared.Found.{Found}
-use Rattle.terms.specs.declared.Found.TheVariants.{At, Full}
+use Rattle.terms.specs.Finder.{Found}
 use Rattle.theory.specs.Outcome.{Outcome, done, bind, at, need, Answer, got, not, full}
 use Rattle.theory.specs.RowModel.{Table, row_world}
 use Rattle.theory.specs.Machine.{State, with_accumulator, with_stores, set_object, set_memory}
-use Rattle.machine.specs.Machine.{Slices, with_objects, with_messages, with_term_rows, state_at, holding, using_rows, SameLengths, Agrees, next, stuck, no_room}
+use Rattle.machine.specs.Machine.{Slices, with_objects, with_messages, with_term_rows, state_at, holding, using_rows, SameLengths, Agrees, next, stuck, no_room, Answered}
 use Rattle.machine.specs.declared.Registers.{Registers}
-use Rattle.machine.specs.declared.Step.{Step}
-use Rattle.machine.specs.declared.Step.TheVariants.{Next, Stuck, NoRoom}
+use Rattle.machine.specs.declared.Halt.TheVariants.{Stuck, NoRoom}
 use Rattle.machine.proofs.FoundLaws.{Finds, found_length, found_row, full_kept}
 use Rattle.machine.proofs.StateLaws.{accumulator_made, object_made}
 use Rattle.machine.proofs.AskLaws.{Placing, placed_at, placed_full}
 
-module _ {before after : Slices} {answer : Step} (place : ℕ) where
+module _ {before after : Slices} {answer : Answered} (place : ℕ) where
   -- a cell that is set
   pub reads : {o : Option ℕ} {row : ℕ} (f : ℕ → Outcome (State row_world))
-      → o ≡ some row → Agrees before (f row) answer after → Agrees before (bind (need place o) f) answer after
+      → o ≡ Some row → Agrees before (f row) answer after → Agrees before (bind (need place o) f) answer after
   reads f e h = rw e h
 
   -- an operation that gives a value
@@ -37,15 +35,15 @@ module _ {before after : Slices} {answer : Step} (place : ℕ) where
   answers_as f e h = rw e h
 
 module _ {before : Slices} (place : ℕ) where
-  pub unset_stops : {o : Option ℕ} (f : ℕ → Outcome (State row_world)) → o ≡ none → Agrees before (bind (need place o) f) (Stuck Unset) before
+  pub unset_stops : {o : Option ℕ} (f : ℕ → Outcome (State row_world)) → o ≡ None → Agrees before (bind (need place o) f) (Err (Stuck Unset)) before
   unset_stops f e = rw e (stuck refl refl)
 
   pub stops : {A : Type 0} {result : Answer A} {reason : Reason} (f : A → Outcome (State row_world))
-      → result ≡ not (reason_number reason) → Agrees before (bind (at place result) f) (Stuck reason) before
+      → result ≡ not (reason_number reason) → Agrees before (bind (at place result) f) (Err (Stuck reason)) before
   stops f e = rw e (stuck refl refl)
 
   pub fills : {A : Type 0} {result : Answer A} {after : Slices} (f : A → Outcome (State row_world))
-      → result ≡ full → after ≡ before → Agrees before (bind (at place result) f) NoRoom after
+      → result ≡ full → after ≡ before → Agrees before (bind (at place result) f) (Err NoRoom) after
   fills f e same = rw e (no_room same)
 
 -- lengths after a write
@@ -63,20 +61,20 @@ abbrev placing : Registers → Slices → ℕ → Answer (ℕ × Table)
 placing g x term = Placing g.accumulator.0 x.objects x.messages (record { rows = x.rows; used = g.used; counter = g.counter; certificates = x.certificates }) term
 
 module _ (g : Registers) (x : Slices) {term : ℕ} {found : Found} {rows' : List ℕ} (answer : Finds x.rows g.used term found rows') (place : ℕ) where
-  pub finds_no_room : (f : ℕ × Table → Outcome (State row_world)) → found ≡ Full → Agrees x (bind (at place (placing g x term)) f) NoRoom (with_term_rows x rows')
+  pub finds_no_room : (f : ℕ × Table → Outcome (State row_world)) → found ≡ None → Agrees x (bind (at place (placing g x term)) f) (Err NoRoom) (with_term_rows x rows')
   finds_no_room f e = fills place f (placed_full _ _ _ _ answer e) (ap (with_term_rows x) (full_kept answer e))
 
-  module _ {row : TermRow} {used : ℕ} (e : found ≡ At row used) where
+  module _ {row : TermRow} {used : ℕ} (e : found ≡ Some (row, used)) where
     pub makes_accumulator : Agrees x
         (bind (at place (placing g x term)) λ r. done (with_accumulator row_world (with_stores row_world (state_at g x) (set_memory row_world (state_at g x).stores r.1)) r.0))
-        (Next (holding (using_rows g used) row)) (with_term_rows x rows')
+        (Ok (holding (using_rows g used) row)) (with_term_rows x rows')
     makes_accumulator =
         gets place _ (placed_at _ _ _ _ answer e)
         (next (accumulator_made _ _ _ _ row.0 (found_row answer e) _) (record { objects_length = refl; messages_length = refl; rows_length = found_length answer }))
 
     pub makes_object : (v : ℕ) → v < length x.objects → Agrees x
         (bind (at place (placing g x term)) λ r. done (with_stores row_world (state_at g x) (set_object row_world (set_memory row_world (state_at g x).stores r.1) v r.0)))
-        (Next (using_rows g used)) (with_term_rows (with_objects x (set x.objects v row.0)) rows')
+        (Ok (using_rows g used)) (with_term_rows (with_objects x (set x.objects v row.0)) rows')
     makes_object v inside =
         gets place _ (placed_at _ _ _ _ answer e)
         (next (object_made _ _ _ _ row.0 (found_row answer e) _ v inside)

@@ -1,4 +1,6 @@
 -- What the operations on terms answer, at the memory of a state.
+use Rattle.std.specs.Prelude.{Option, Result, Ok, Err}
+use Rattle.std.specs.Prelude.{Some, None}
 use Prim.Native.Nat.{ℕ, ◌<◌}
 use mathlib.Core.Path.{◌≡◌, refl, ◌∙◌}
 use mathlib.Core.List.{List}
@@ -10,24 +12,13 @@ use Rattle.answers.specs.Numbers.{reason_number}
 use Rattle.answers.specs.declared.Reason.{Reason}
 use Rattle.terms.specs.Shape.{parts_of}
 use Rattle.terms.specs.Row.{shape_of}
-use Rattle.terms.specs.declared.Found.{Found}
-use Rattle.terms.specs.declared.Found.TheVariants.{At, Full}
+use Rattle.terms.specs.Finder.{Found}
 use Rattle.stores.specs.Cells.{unset}
 use Rattle.theory.specs.Outcome.{Answer, got, not, full}
 use Rattle.theory.specs.World.{Op, Test, create, key_of}
 use Rattle.theory.specs.RowModel.{Table, with_rows, with_counter, row_world}
 use Rattle.calls.specs.Run.{state_over}
 use Rattle.world.specs.Operations.{finding, MakesWord, MakesOver, NamesAt, OpensOver, CertifiedBy, PartsOver, Tests, TestsOver}
-use Rattle.world.specs.declared.Made.{Made}
-use Rattle.world.specs.declared.Made.TheVariants as Made
-use Rattle.world.specs.declared.Named.{Named}
-use Rattle.world.specs.declared.Named.TheVariants as Named
-use Rattle.world.specs.declared.Opened.{Opened}
-use Rattle.world.specs.declared.Opened.TheVariants as Opened
-use Rattle.world.specs.declared.Parted.{Parted}
-use Rattle.world.specs.declared.Parted.TheVariants as Parted
-use Rattle.world.specs.declared.Tested.{Tested}
-use Rattle.world.specs.declared.Tested.TheVariants as Tested
 use Rattle.machine.proofs.FoundLaws.{Finds}
 
 -- a row's number is no cell's unset
@@ -35,11 +26,11 @@ pub row_number : {row : ℕ} → row < most_term_rows → row ≡ unset → ⊥
 row_number below e = omega arith
 
 -- a condition that looks at no memory
-module _ {t : Test ℕ} {answer : Tested} (tests : Tests t answer) (x : Table) where
-  pub tests_holds : answer ≡ Tested.Holds → row_world.test t x ≡ got tt
+module _ {t : Test ℕ} {answer : Result (Unit {0}) Reason} (tests : Tests t answer) (x : Table) where
+  pub tests_holds : answer ≡ Ok tt → row_world.test t x ≡ got tt
   tests_holds e = tests.says x ∙ rw e
 
-  pub tests_not : {reason : Reason} → answer ≡ Tested.Not reason → row_world.test t x ≡ not (reason_number reason)
+  pub tests_not : {reason : Reason} → answer ≡ Err reason → row_world.test t x ≡ not (reason_number reason)
   tests_not e = tests.says x ∙ rw e
 
 module _ (accumulator : ℕ) (objects messages : List ℕ) (table : Table) where
@@ -53,72 +44,72 @@ module _ (accumulator : ℕ) (objects messages : List ℕ) (table : Table) where
   pub makes : {o : Op ℕ} {word : ℕ} → MakesWord o word → row_world.apply o memory ≡ Placing word
   makes made = made.says memory
 
-  module _ {o : Op ℕ} {answer : Made} (made : MakesOver table.rows o answer) where
-    pub made_word : {word : ℕ} → answer ≡ Made.Word word → row_world.apply o memory ≡ Placing word
+  module _ {o : Op ℕ} {answer : Result ℕ Reason} (made : MakesOver table.rows o answer) where
+    pub made_word : {word : ℕ} → answer ≡ Ok word → row_world.apply o memory ≡ Placing word
     unfolding state_over
     made_word e = made.says table refl ∙ rw e
 
-    pub made_not : {reason : Reason} → answer ≡ Made.Not reason → row_world.apply o memory ≡ not (reason_number reason)
+    pub made_not : {reason : Reason} → answer ≡ Err reason → row_world.apply o memory ≡ not (reason_number reason)
     unfolding state_over
     made_not e = made.says table refl ∙ rw e
 
-  module _ {o : Op ℕ} {answer : Opened} (opened : OpensOver table.rows o answer) where
-    pub opened_row : {row : TermRow} → answer ≡ Opened.Row row → row_world.apply o memory ≡ got (row.0, table)
+  module _ {o : Op ℕ} {answer : Result TermRow Reason} (opened : OpensOver table.rows o answer) where
+    pub opened_row : {row : TermRow} → answer ≡ Ok row → row_world.apply o memory ≡ got (row.0, table)
     unfolding state_over
     opened_row e = opened.says table refl ∙ rw e
 
-    pub opened_not : {reason : Reason} → answer ≡ Opened.Not reason → row_world.apply o memory ≡ not (reason_number reason)
+    pub opened_not : {reason : Reason} → answer ≡ Err reason → row_world.apply o memory ≡ not (reason_number reason)
     unfolding state_over
     opened_not e = opened.says table refl ∙ rw e
 
-  module _ {agent : ℕ} {answer : Opened} (certified : CertifiedBy table.certificates agent answer) where
-    pub certified_row : {row : TermRow} → answer ≡ Opened.Row row → row_world.apply (key_of agent) memory ≡ got (row.0, table)
+  module _ {agent : ℕ} {answer : Result TermRow Reason} (certified : CertifiedBy table.certificates agent answer) where
+    pub certified_row : {row : TermRow} → answer ≡ Ok row → row_world.apply (key_of agent) memory ≡ got (row.0, table)
     unfolding state_over
     certified_row e = certified.says table refl ∙ rw e
 
-    pub certified_not : {reason : Reason} → answer ≡ Opened.Not reason → row_world.apply (key_of agent) memory ≡ not (reason_number reason)
+    pub certified_not : {reason : Reason} → answer ≡ Err reason → row_world.apply (key_of agent) memory ≡ not (reason_number reason)
     unfolding state_over
     certified_not e = certified.says table refl ∙ rw e
 
-  module _ {row n : ℕ} {answer : Parted} (parts : PartsOver table.rows row n answer) where
-    pub parted_tuple : {word : ℕ} → answer ≡ Parted.Tuple word → row_world.parts row n memory ≡ got (λ i. get_or (parts_of (shape_of word)) i row)
+  module _ {row n : ℕ} {answer : Result ℕ Reason} (parts : PartsOver table.rows row n answer) where
+    pub parted_tuple : {word : ℕ} → answer ≡ Ok word → row_world.parts row n memory ≡ got (λ i. get_or (parts_of (shape_of word)) i row)
     unfolding state_over
     parted_tuple e = parts.says table refl ∙ rw e
 
-    pub parted_not : {reason : Reason} → answer ≡ Parted.Not reason → row_world.parts row n memory ≡ not (reason_number reason)
+    pub parted_not : {reason : Reason} → answer ≡ Err reason → row_world.parts row n memory ≡ not (reason_number reason)
     unfolding state_over
     parted_not e = parts.says table refl ∙ rw e
 
-  module _ {t : Test ℕ} {answer : Tested} where
-    pub tested_holds : TestsOver table.rows t answer → answer ≡ Tested.Holds → row_world.test t memory ≡ got tt
+  module _ {t : Test ℕ} {answer : Result (Unit {0}) Reason} where
+    pub tested_holds : TestsOver table.rows t answer → answer ≡ Ok tt → row_world.test t memory ≡ got tt
     unfolding state_over
     tested_holds tests e = tests.says table refl ∙ rw e
 
-    pub tested_not : {reason : Reason} → TestsOver table.rows t answer → answer ≡ Tested.Not reason → row_world.test t memory ≡ not (reason_number reason)
+    pub tested_not : {reason : Reason} → TestsOver table.rows t answer → answer ≡ Err reason → row_world.test t memory ≡ not (reason_number reason)
     unfolding state_over
     tested_not tests e = tests.says table refl ∙ rw e
 
   -- the finder's answer
   module _ {rows' : List ℕ} {term : ℕ} {found : Found} (answer : Finds table.rows table.used term found rows') where
-    pub placed_at : {row : TermRow} {used : ℕ} → found ≡ At row used → Placing term ≡ got (row.0, with_rows table rows' used)
+    pub placed_at : {row : TermRow} {used : ℕ} → found ≡ Some (row, used) → Placing term ≡ got (row.0, with_rows table rows' used)
     unfolding state_over
     placed_at e = rw (← answer.says, e)
 
-    pub placed_full : found ≡ Full → Placing term ≡ full
+    pub placed_full : found ≡ None → Placing term ≡ full
     unfolding state_over
     placed_full e = rw (← answer.says, e)
 
   -- a created name: the counter is looked at before the row
-  module _ {kind : ℕ} {answer : Named} (names : NamesAt kind table.counter answer) where
-    pub named_none : answer ≡ Named.NoName → row_world.apply (create kind) memory ≡ full
+  module _ {kind : ℕ} {answer : Option (ℕ × ℕ)} (names : NamesAt kind table.counter answer) where
+    pub named_none : answer ≡ None → row_world.apply (create kind) memory ≡ full
     unfolding state_over
     named_none e = names.says table refl ∙ rw e
 
-    module _ {word counter : ℕ} (named : answer ≡ Named.Word word counter) {rows' : List ℕ} {found : Found} (finds : Finds table.rows table.used word found rows') where
-      pub created_at : {row : TermRow} {used : ℕ} → found ≡ At row used → row_world.apply (create kind) memory ≡ got (row.0, with_rows (with_counter table counter) rows' used)
+    module _ {word counter : ℕ} (named : answer ≡ Some (word, counter)) {rows' : List ℕ} {found : Found} (finds : Finds table.rows table.used word found rows') where
+      pub created_at : {row : TermRow} {used : ℕ} → found ≡ Some (row, used) → row_world.apply (create kind) memory ≡ got (row.0, with_rows (with_counter table counter) rows' used)
       unfolding state_over
       created_at e = names.says table refl ∙ rw (named, ← finds.says, e)
 
-      pub created_full : found ≡ Full → row_world.apply (create kind) memory ≡ full
+      pub created_full : found ≡ None → row_world.apply (create kind) memory ≡ full
       unfolding state_over
       created_full e = names.says table refl ∙ rw (named, ← finds.says, e)

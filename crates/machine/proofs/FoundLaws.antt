@@ -1,4 +1,7 @@
 -- The finder's answer for a term, and the rows after it.
+use mathlib.Core.Path.{ap}
+use Rattle.std.proofs.lemmas.Option.{some_pair_parts}
+use Rattle.std.specs.Prelude.{Some, None}
 use Prim.Native.Nat.{ℕ, ◌<◌, ◌≤◌}
 use mathlib.Core.Path.{◌≡◌, refl, sym}
 use mathlib.Core.List.{List}
@@ -6,8 +9,7 @@ use native.Mathlib.Omega.{arith}
 use lib.ListN.{length, length-set}
 use Rattle.numbers.specs.declared.TermRow.{TermRow}
 use Rattle.terms.specs.Finder.{Located, located, locate}
-use Rattle.terms.specs.declared.Found.{Found}
-use Rattle.terms.specs.declared.Found.TheVariants.{At, Full}
+use Rattle.terms.specs.Finder.{Found}
 use Rattle.terms.proofs.FinderLaws.{located_as}
 use Rattle.stores.specs.Cells.{unset}
 use Rattle.machine.specs.Machine.{Within}
@@ -22,14 +24,14 @@ finds within says = record { within = within; says = says }
 -- the length is kept, the row is no cell's unset, and without room nothing is written
 record Says (rows : List ℕ) (l : Located) : Type 0 where
   long : length l.rows ≡ length rows
-  below : (row : TermRow) (used : ℕ) → l.found ≡ At row used → row.0 < length rows
-  full : l.found ≡ Full → l.rows ≡ rows
+  below : (row : TermRow) (used : ℕ) → l.found ≡ Some (row, used) → row.0 < length rows
+  full : l.found ≡ None → l.rows ≡ rows
 
 module _ (rows : List ℕ) where
-  at_row : {row row' : TermRow} {used used' : ℕ} → row.0 < length rows → At row used ≡ At row' used' → row'.0 < length rows
-  at_row {row} {row'} l e = let same : row.0 ≡ row'.0 = cc in omega arith
+  at_row : {row row' : TermRow} {used used' : ℕ} → row.0 < length rows → ◌≡◌ {A = Found} (Some (row, used)) (Some (row', used')) → row'.0 < length rows
+  at_row {row} {row'} {used} {used'} l e = let same : row.0 ≡ row'.0 = ap (λ (r : TermRow). r.0) (some_pair_parts row row' used used' e).0 in omega arith
 
-  clash : {A : Type 0} {row : TermRow} {used : ℕ} → At row used ≡ Full → A
+  clash : {A : Type 0} {row : TermRow} {used : ℕ} → ◌≡◌ {A = Found} (Some (row, used)) None → A
   clash e = let z : ◌≡◌ {A = ℕ} 0 1 = cc in absurd (omega arith)
 
   answers : (used word : ℕ) → used ≤ length rows → Says rows (locate rows used word)
@@ -46,11 +48,11 @@ module _ {rows rows' : List ℕ} {used term : ℕ} {found : Found} (answer : Fin
   pub found_length : length rows' ≡ length rows
   found_length = answered.long
 
-  pub found_row : {row : TermRow} {used' : ℕ} → found ≡ At row used' → row.0 ≡ unset → ⊥
+  pub found_row : {row : TermRow} {used' : ℕ} → found ≡ Some (row, used') → row.0 ≡ unset → ⊥
   found_row {row} {used'} e q =
       let below : row.0 < length rows = answered.below row used' e in
       let few : length rows ≤ 4096 = answer.within.few_rows in
       omega arith
 
-  pub full_kept : found ≡ Full → rows' ≡ rows
+  pub full_kept : found ≡ None → rows' ≡ rows
   full_kept e = answered.full e

@@ -1,94 +1,102 @@
 -- LOAD, STORE, ENCODE, DECODE and MATCH, a way out at a time.
+use Rattle.std.specs.Prelude.{Ok, Err}
 use Prim.Native.Nat.{ℕ, ◌<◌}
 use mathlib.Core.Path.{◌≡◌, refl}
 use mathlib.Core.List.{List}
 use lib.ListN.{length, get_or, set}
 use Rattle.answers.specs.declared.Reason.{Reason}
-use Rattle.answers.specs.declared.Reason.TheVariants.{Unset}
 use Rattle.numbers.specs.declared.Object.{Object}
 use Rattle.numbers.specs.declared.Raw.{Raw}
+use Rattle.numbers.specs.declared.TermRow.{TermRow}
 use Rattle.code.specs.declared.Instruction.TheVariants.{Load, Store, Decode, Encode, Match}
-use Rattle.numbers.specs.Sorts.{as_term_row}
 use Rattle.stores.specs.Cells.{unset}
 use Rattle.numbers.specs.Kinds.{kind_in}
 use Rattle.theory.specs.World.{is, same}
 use Rattle.world.specs.Operations.{Tests, TestsOver}
-use Rattle.world.specs.declared.Tested.{Tested}
-use Rattle.world.specs.declared.Tested.TheVariants.{Holds, Not}
-use Rattle.machine.specs.Machine.{with_objects, with_messages, with_term_rows, state_at, holding, next, DoesStep}
+use Rattle.machine.specs.Machine.{with_objects, with_messages, with_term_rows, state_at, holding, next, DoesStep, Answered}
 use Rattle.machine.specs.declared.Registers.{Registers}
-use Rattle.machine.specs.declared.Step.TheVariants.{Next, Stuck}
-use Rattle.machine.proofs.StateLaws.{accumulator_unset, accumulator_row, object_unset, object_row, message_unset, message_row, accumulator_set, object_set, message_set}
+use Rattle.machine.specs.declared.Halt.TheVariants.{Stuck}
+use Rattle.machine.proofs.StateLaws.{accumulator_unset, object_unset, message_unset, accumulator_set, object_set, message_set}
+use Rattle.machine.proofs.SetLaws.{SetIn, UnsetIn, accumulator_given, object_given, message_given, row-ways}
 use Rattle.machine.proofs.AskLaws.{tested_holds, tested_not, tests_holds, tests_not}
 use Rattle.machine.proofs.AgreeLaws.{same_lengths, messages_lengths, objects_lengths, reads, gets, unset_stops, stops}
 
-module _ (g : Registers) (messages : List ℕ) (r : Raw) (row : ℕ) (read : row ≡ get_or messages r.0 unset) (kind : ℕ → ℕ) where
-  pub load_unset : row ≡ unset → DoesStep kind (Load r) g (λ x. with_messages x messages) (Stuck Unset) (λ x. with_messages x messages)
-  load_unset e x = unset_stops _ _ (message_unset _ _ _ _ r.0 read e)
+module _ (g : Registers) (messages : List ℕ) (r : Raw) (kind : ℕ → ℕ) (cell : TermRow) (read : cell.0 ≡ get_or messages r.0 unset) where
+  abbrev Loads : Answered → Type 0
+  Loads answer = DoesStep kind (Load r) g (λ x. with_messages x messages) answer (λ x. with_messages x messages)
 
-  pub load_next : (g' : Registers) → (row ≡ unset → ⊥) → g' ≡ holding g (as_term_row row)
-      → DoesStep kind (Load r) g (λ x. with_messages x messages) (Next g') (λ x. with_messages x messages)
-  load_next g' is_row e x = rw e (reads _ _ (message_row _ _ _ _ r.0 read is_row) (next (accumulator_set _ _ _ _ row is_row) (same_lengths _)))
+  pub load_unset : (answer : Answered) → UnsetIn cell answer → Loads answer
+  load_unset answer out x = rw out.stops (unset_stops _ _ (message_unset _ _ _ _ r.0 read out.is_unset))
+
+  pub load_next : (row : TermRow) (g' : Registers) → SetIn cell row → g' ≡ holding g row → Loads (Ok g')
+  load_next row g' set e x = rw e (reads _ _ (message_given _ _ _ _ set r.0 read) (next (accumulator_set _ _ _ _ row.0 set.is_row) (same_lengths _)))
+
+pub ruleset load-ways = (row-ways, load_unset, load_next)
 
 module _ (g : Registers) (messages : List ℕ) (r : Raw) (kind : ℕ → ℕ) where
-  pub store_unset : g.accumulator.0 ≡ unset → DoesStep kind (Store r) g (λ x. with_messages x messages) (Stuck Unset) (λ x. with_messages x messages)
-  store_unset e x = unset_stops _ _ (accumulator_unset _ _ _ _ e)
+  abbrev Stores : Answered → List ℕ → Type 0
+  Stores answer messages' = DoesStep kind (Store r) g (λ x. with_messages x messages) answer (λ x. with_messages x messages')
 
-  pub store_next : (messages' : List ℕ) → (g.accumulator.0 ≡ unset → ⊥) → r.0 < length messages → messages' ≡ set messages r.0 g.accumulator.0
-      → DoesStep kind (Store r) g (λ x. with_messages x messages) (Next g) (λ x. with_messages x messages')
-  store_next messages' is_row inside e x =
-      rw e (reads _ _ (accumulator_row _ _ _ _ is_row) (next (message_set _ _ _ _ _ is_row r.0 inside) (messages_lengths _ r.0 _)))
+  pub store_unset : (answer : Answered) → UnsetIn g.accumulator answer → Stores answer messages
+  store_unset answer out x = rw out.stops (unset_stops _ _ (accumulator_unset _ _ _ _ out.is_unset))
 
-module _ (g : Registers) (objects : List ℕ) (v : Object) (row : ℕ) (read : row ≡ get_or objects v.0 unset) (kind : ℕ → ℕ) where
-  pub encode_unset : row ≡ unset → DoesStep kind (Encode v) g (λ x. with_objects x objects) (Stuck Unset) (λ x. with_objects x objects)
-  encode_unset e x = unset_stops _ _ (object_unset _ _ _ _ v.0 read e)
+  pub store_next : (row : TermRow) (messages' : List ℕ) → SetIn g.accumulator row → r.0 < length messages → messages' ≡ set messages r.0 row.0 → Stores (Ok g) messages'
+  store_next row messages' set inside e x =
+      rw e (reads _ _ (accumulator_given _ _ _ set) (next (message_set _ _ _ _ _ set.is_row r.0 inside) (messages_lengths _ r.0 _)))
 
-  pub encode_next : (g' : Registers) → (row ≡ unset → ⊥) → g' ≡ holding g (as_term_row row)
-      → DoesStep kind (Encode v) g (λ x. with_objects x objects) (Next g') (λ x. with_objects x objects)
-  encode_next g' is_row e x = rw e (reads _ _ (object_row _ _ _ _ v.0 read is_row) (next (accumulator_set _ _ _ _ row is_row) (same_lengths _)))
+pub ruleset store-ways = (row-ways, store_unset, store_next)
+
+module _ (g : Registers) (objects : List ℕ) (v : Object) (kind : ℕ → ℕ) (cell : TermRow) (read : cell.0 ≡ get_or objects v.0 unset) where
+  abbrev Encodes : Answered → Type 0
+  Encodes answer = DoesStep kind (Encode v) g (λ x. with_objects x objects) answer (λ x. with_objects x objects)
+
+  pub encode_unset : (answer : Answered) → UnsetIn cell answer → Encodes answer
+  encode_unset answer out x = rw out.stops (unset_stops _ _ (object_unset _ _ _ _ v.0 read out.is_unset))
+
+  pub encode_next : (row : TermRow) (g' : Registers) → SetIn cell row → g' ≡ holding g row → Encodes (Ok g')
+  encode_next row g' set e x = rw e (reads _ _ (object_given _ _ _ _ set v.0 read) (next (accumulator_set _ _ _ _ row.0 set.is_row) (same_lengths _)))
+
+pub ruleset encode-ways = (row-ways, encode_unset, encode_next)
 
 module _ (g : Registers) (kinds rows objects : List ℕ) (v : Object) where
-  pub decode_unset : g.accumulator.0 ≡ unset
-      → DoesStep (kind_in kinds) (Decode v) g (λ x. with_term_rows (with_objects x objects) rows) (Stuck Unset) (λ x. with_term_rows (with_objects x objects) rows)
-  decode_unset e x = unset_stops _ _ (accumulator_unset _ _ _ _ e)
+  abbrev Decodes : Answered → List ℕ → Type 0
+  Decodes answer objects' = DoesStep (kind_in kinds) (Decode v) g (λ x. with_term_rows (with_objects x objects) rows) answer (λ x. with_term_rows (with_objects x objects') rows)
 
-  module _ (kind : ℕ) (answer : Tested) (is_row : g.accumulator.0 ≡ unset → ⊥) (wanted : kind ≡ kind_in kinds v.0) (tests : TestsOver rows (is kind g.accumulator.0) answer) where
-    pub decode_not : (reason : Reason) → answer ≡ Not reason
-        → DoesStep (kind_in kinds) (Decode v) g (λ x. with_term_rows (with_objects x objects) rows) (Stuck reason) (λ x. with_term_rows (with_objects x objects) rows)
-    decode_not reason e x = rw (← wanted) (reads _ _ (accumulator_row _ _ _ _ is_row) (stops _ _ (tested_not _ _ _ _ tests e)))
+  pub decode_unset : (answer : Answered) → UnsetIn g.accumulator answer → Decodes answer objects
+  decode_unset answer out x = rw out.stops (unset_stops _ _ (accumulator_unset _ _ _ _ out.is_unset))
 
-    pub decode_next : (objects' : List ℕ) → answer ≡ Holds → v.0 < length objects → objects' ≡ set objects v.0 g.accumulator.0
-        → DoesStep (kind_in kinds) (Decode v) g (λ x. with_term_rows (with_objects x objects) rows) (Next g) (λ x. with_term_rows (with_objects x objects') rows)
-    decode_next objects' holds inside e x =
-        rw (e, ← wanted) (reads _ _ (accumulator_row _ _ _ _ is_row)
-        (gets _ _ (tested_holds _ _ _ _ tests holds) (next (object_set _ _ _ _ _ is_row v.0 inside) (objects_lengths _ v.0 _))))
+  module _ (kind : ℕ) (wanted : kind ≡ kind_in kinds v.0) (row : TermRow) (set_row : SetIn g.accumulator row) where
+    pub decode_not : (answer : Answered) (reason : Reason) → TestsOver rows (is kind row.0) (Err reason) → answer ≡ Err (Stuck reason) → Decodes answer objects
+    decode_not answer reason tests e x = rw (e, ← wanted) (reads _ _ (accumulator_given _ _ _ set_row) (stops _ _ (tested_not _ _ _ _ tests refl)))
+
+    pub decode_next : (objects' : List ℕ) → TestsOver rows (is kind row.0) (Ok tt) → v.0 < length objects → objects' ≡ set objects v.0 row.0 → Decodes (Ok g) objects'
+    decode_next objects' tests inside e x =
+        rw (e, ← wanted) (reads _ _ (accumulator_given _ _ _ set_row)
+        (gets _ _ (tested_holds _ _ _ _ tests refl) (next (object_set _ _ _ _ _ set_row.is_row v.0 inside) (objects_lengths _ v.0 _))))
+
+pub ruleset decode-ways = (row-ways, decode_unset, decode_not, decode_next)
 
 module _ (g : Registers) (messages : List ℕ) (r : Raw) (kind : ℕ → ℕ) where
-  pub match_unset : g.accumulator.0 ≡ unset → DoesStep kind (Match r) g (λ x. with_messages x messages) (Stuck Unset) (λ x. with_messages x messages)
-  match_unset e x = unset_stops _ _ (accumulator_unset _ _ _ _ e)
+  abbrev Matches : Answered → Type 0
+  Matches answer = DoesStep kind (Match r) g (λ x. with_messages x messages) answer (λ x. with_messages x messages)
 
-  module _ (is_row : g.accumulator.0 ≡ unset → ⊥) (other : ℕ) (read : other ≡ get_or messages r.0 unset) where
-    pub match_cell_unset : other ≡ unset → DoesStep kind (Match r) g (λ x. with_messages x messages) (Stuck Unset) (λ x. with_messages x messages)
-    match_cell_unset e x = reads _ _ (accumulator_row _ _ _ _ is_row) (unset_stops _ _ (message_unset _ _ _ _ r.0 read e))
+  pub match_unset : (answer : Answered) → UnsetIn g.accumulator answer → Matches answer
+  match_unset answer out x = rw out.stops (unset_stops _ _ (accumulator_unset _ _ _ _ out.is_unset))
 
-    module _ (is_other : other ≡ unset → ⊥) (answer : Tested) (tests : Tests (same g.accumulator.0 other) answer) where
-      pub match_not : (reason : Reason) → answer ≡ Not reason → DoesStep kind (Match r) g (λ x. with_messages x messages) (Stuck reason) (λ x. with_messages x messages)
-      match_not reason e x =
+  module _ (row : TermRow) (set_row : SetIn g.accumulator row) (cell : TermRow) (read : cell.0 ≡ get_or messages r.0 unset) where
+    pub match_cell_unset : (answer : Answered) → UnsetIn cell answer → Matches answer
+    match_cell_unset answer out x = rw out.stops (reads _ _ (accumulator_given _ _ _ set_row) (unset_stops _ _ (message_unset _ _ _ _ r.0 read out.is_unset)))
+
+    module _ (other : TermRow) (set_other : SetIn cell other) where
+      pub match_not : (answer : Answered) (reason : Reason) → Tests (same row.0 other.0) (Err reason) → answer ≡ Err (Stuck reason) → Matches answer
+      match_not answer reason tests e x =
           let memory = (state_at g (with_messages x messages)).stores.memory in
-          reads _ _ (accumulator_row _ _ _ _ is_row) (reads _ _ (message_row _ _ _ _ r.0 read is_other) (stops _ _ (tests_not tests memory e)))
+          rw e (reads _ _ (accumulator_given _ _ _ set_row) (reads _ _ (message_given _ _ _ _ set_other r.0 read) (stops _ _ (tests_not tests memory refl))))
 
-      pub match_next : answer ≡ Holds → DoesStep kind (Match r) g (λ x. with_messages x messages) (Next g) (λ x. with_messages x messages)
-      match_next e x =
+      pub match_next : Tests (same row.0 other.0) (Ok tt) → Matches (Ok g)
+      match_next tests x =
           let memory = (state_at g (with_messages x messages)).stores.memory in
-          reads _ _ (accumulator_row _ _ _ _ is_row)
-          (reads _ _ (message_row _ _ _ _ r.0 read is_other) (gets _ _ (tests_holds tests memory e) (next refl (same_lengths _))))
+          reads _ _ (accumulator_given _ _ _ set_row)
+          (reads _ _ (message_given _ _ _ _ set_other r.0 read) (gets _ _ (tests_holds tests memory refl) (next refl (same_lengths _))))
 
-pub ruleset load-ways = (load_unset, load_next)
-
-pub ruleset store-ways = (store_unset, store_next)
-
-pub ruleset encode-ways = (encode_unset, encode_next)
-
-pub ruleset match-ways = (match_unset, match_cell_unset, match_not, match_next)
-
-pub ruleset decode-ways = (decode_unset, decode_not, decode_next)
+pub ruleset match-ways = (row-ways, match_unset, match_cell_unset, match_not, match_next)

@@ -1,7 +1,7 @@
 -- Registers and slices as a state of the machine at rows: read and written.
 use Prim.Native.Nat.{ℕ, zero, suc, ◌+◌, ◌-◌, ◌<◌, ◌≤◌}
 use mathlib.Core.Path.{◌≡◌, refl, sym, ◌∙◌, ap, subst, fun_ext}
-use mathlib.Core.Option.{none, some}
+use Rattle.std.specs.Prelude.{None, Some}
 use mathlib.Core.List.{List, [], ◌∷◌}
 use native.Mathlib.Decide.{ℕ_discrete, dec_lt}
 use native.Mathlib.Omega.{arith}
@@ -24,22 +24,22 @@ inside [] i a b h = absurd (omega arith)
 inside (x ∷ xs) zero a b h = refl
 inside (x ∷ xs) (suc i) a b h = inside xs i a b (omega arith)
 
-pub held_unset : (cell : ℕ) → cell ≡ unset → held cell ≡ none
+pub held_unset : (cell : ℕ) → cell ≡ unset → held cell ≡ None
 unfolding held
 held_unset cell e = rw (eq-eqb cell unset e)
 
-pub held_set : (cell : ℕ) → (cell ≡ unset → ⊥) → held cell ≡ some cell
+pub held_set : (cell : ℕ) → (cell ≡ unset → ⊥) → held cell ≡ Some cell
 unfolding held
 held_set cell n = rw (ne_eqb cell unset n)
 
 -- a store after a cell is set
-pub store_set : (cells : List ℕ) (n row : ℕ) → n < length cells → (row ≡ unset → ⊥) → store_of (set cells n row) ≡ put (store_of cells) n (some row)
+pub store_set : (cells : List ℕ) (n row : ℕ) → n < length cells → (row ≡ unset → ⊥) → store_of (set cells n row) ≡ put (store_of cells) n (Some row)
 unfolding store_of
 store_set cells n row within is_row = fun_ext λ j. go j (ℕ_discrete n j)
   where
-    go : (j : ℕ) → Dec (n ≡ j) → held (get_or (set cells n row) j unset) ≡ put (λ k. held (get_or cells k unset)) n (some row) j
+    go : (j : ℕ) → Dec (n ≡ j) → held (get_or (set cells n row) j unset) ≡ put (λ k. held (get_or cells k unset)) n (Some row) j
     go j (yes e) = rw (← e, get_or-set_same cells n row unset within, put_same) (held_set row is_row)
-    go j (no u) = rw (get_or-set_other cells n j row unset (λ e. u (sym e)), put_other (λ k. held (get_or cells k unset)) n j (some row) u)
+    go j (no u) = rw (get_or-set_other cells n j row unset (λ e. u (sym e)), put_other (λ k. held (get_or cells k unset)) n j (Some row) u)
 
 -- rows written to cells one after another
 pub spread_length : (cells : List ℕ) (b n : ℕ) (row : ℕ → ℕ) → length (spread cells b n row) ≡ length cells
@@ -70,26 +70,26 @@ module _ (accumulator : ℕ) (objects messages : List ℕ) (table : Table) where
           subst (λ n. message row_world state n ≡ held (get_or messages n unset)) e (scratch (cell - named_cells))
 
   -- what is read of the accumulator, an object variable, a message cell
-  pub accumulator_unset : accumulator ≡ unset → state.accumulator ≡ none
+  pub accumulator_unset : accumulator ≡ unset → state.accumulator ≡ None
   unfolding state_over
   accumulator_unset e = held_unset accumulator e
 
-  pub accumulator_row : (accumulator ≡ unset → ⊥) → state.accumulator ≡ some accumulator
+  pub accumulator_row : (accumulator ≡ unset → ⊥) → state.accumulator ≡ Some accumulator
   unfolding state_over
   accumulator_row is_row = held_set accumulator is_row
 
-  pub object_unset : (v : ℕ) {row : ℕ} → row ≡ get_or objects v unset → row ≡ unset → state.stores.σ v ≡ none
+  pub object_unset : (v : ℕ) {row : ℕ} → row ≡ get_or objects v unset → row ≡ unset → state.stores.σ v ≡ None
   unfolding state_over store_of
   object_unset v {row} read e = rw (← read) (held_unset row e)
 
-  pub object_row : (v : ℕ) {row : ℕ} → row ≡ get_or objects v unset → (row ≡ unset → ⊥) → state.stores.σ v ≡ some row
+  pub object_row : (v : ℕ) {row : ℕ} → row ≡ get_or objects v unset → (row ≡ unset → ⊥) → state.stores.σ v ≡ Some row
   unfolding state_over store_of
   object_row v {row} read is_row = rw (← read) (held_set row is_row)
 
-  pub message_unset : (cell : ℕ) {row : ℕ} → row ≡ get_or messages cell unset → row ≡ unset → message row_world state cell ≡ none
+  pub message_unset : (cell : ℕ) {row : ℕ} → row ≡ get_or messages cell unset → row ≡ unset → message row_world state cell ≡ None
   message_unset cell {row} read e = message_held cell ∙ rw (← read) (held_unset row e)
 
-  pub message_row : (cell : ℕ) {row : ℕ} → row ≡ get_or messages cell unset → (row ≡ unset → ⊥) → message row_world state cell ≡ some row
+  pub message_row : (cell : ℕ) {row : ℕ} → row ≡ get_or messages cell unset → (row ≡ unset → ⊥) → message row_world state cell ≡ Some row
   message_row cell {row} read is_row = message_held cell ∙ rw (← read) (held_set row is_row)
 
   -- and what it is after a write

@@ -1,13 +1,13 @@
 -- ANALYZE TUPLE and CREATE TUPLE, a way out at a time.
+use Rattle.std.specs.Prelude.{Some, None, Ok, Err}
 use Prim.Native.Nat.{ℕ, zero, suc, ◌+◌, ◌<◌, ◌≤◌}
 use mathlib.Core.Path.{◌≡◌, refl, sym, ◌∙◌, ap}
 use mathlib.Core.List.{List, [], ◌∷◌}
 use native.Mathlib.Nat.{add-zero}
 use native.Mathlib.Numerals.{add-one}
 use native.Mathlib.Omega.{arith}
-use borrow.Author.Count.{below_more}
-use lib.ListN.{length, get_or, take, drop, set, length-set}
-use lib.Seq.{get_or-drop, get_or-set_same, get_or-set_other}
+use lib.ListN.{length, get_or, take, drop, set}
+use lib.Seq.{get_or-drop}
 use Rattle.answers.specs.Numbers.{reason_number}
 use Rattle.answers.specs.declared.Reason.{Reason}
 use Rattle.answers.specs.declared.Reason.TheVariants.{Unset}
@@ -15,36 +15,27 @@ use Rattle.numbers.specs.declared.Object.{Object}
 use Rattle.numbers.specs.declared.Raw.{Raw}
 use Rattle.numbers.specs.declared.TermRow.{TermRow}
 use Rattle.code.specs.declared.Instruction.TheVariants.{AnalyzeTuple, CreateTuple}
-use Rattle.numbers.specs.Limits.{most_parts}
 use Rattle.word.specs.Fields.{split, at}
 use Rattle.terms.specs.Shape.{parts_of}
 use Rattle.terms.specs.Row.{term_widths, shape_of}
-use Rattle.terms.specs.declared.Found.{Found}
-use Rattle.terms.specs.declared.Found.TheVariants.{At, Full}
+use Rattle.terms.specs.Finder.{Found}
 use Rattle.terms.proofs.FieldLaws.{slot_below}
 use Rattle.terms.proofs.ShapeLaws.{parts_at}
 use Rattle.stores.specs.Cells.{unset}
 use Rattle.theory.specs.Outcome.{Outcome, done}
-use Rattle.theory.specs.Outcome as Outcome
 use Rattle.theory.specs.World.{tuple}
 use Rattle.world.specs.Operations.{MakesWord, PartsOver}
-use Rattle.world.specs.declared.Parted.{Parted}
-use Rattle.world.specs.declared.Parted.TheVariants.{Tuple, Not}
 use Rattle.theory.specs.RowModel.{Table, row_world}
 use Rattle.theory.specs.Machine.{messages as reading}
 use Rattle.calls.specs.Run.{state_over}
-use Rattle.machine.specs.Machine.{Slices, with_objects, with_messages, with_term_rows, state_at, using_rows, spread, next, stuck, DoesStep}
+use Rattle.machine.specs.Machine.{Slices, with_objects, with_messages, with_term_rows, state_at, using_rows, spread, next, stuck, DoesStep, Answered}
 use Rattle.machine.specs.declared.Registers.{Registers}
-use Rattle.machine.specs.declared.Step.{Step}
-use Rattle.machine.specs.declared.Step.TheVariants.{Next, Stuck, NoRoom}
+use Rattle.machine.specs.declared.Halt.TheVariants.{Stuck, NoRoom}
+use Rattle.machine.proofs.SetLaws.{SetIn, UnsetIn, object_given, row-ways}
 use Rattle.machine.proofs.FoundLaws.{Finds, finds}
-use Rattle.machine.proofs.StateLaws.{inside, spread_length, spread_same, object_unset, object_row, message_unset, message_row, messages_set}
+use Rattle.machine.proofs.StateLaws.{inside, spread_length, spread_same, object_unset, message_unset, message_row, messages_set}
 use Rattle.machine.proofs.AskLaws.{makes, parted_tuple, parted_not}
 use Rattle.machine.proofs.AgreeLaws.{reads, gets, answers_as, unset_stops, stops, finds_no_room, makes_object}
-
--- a tuple that was taken apart has few parts
-pub few_parts : {rows : List ℕ} {row n word : ℕ} {answer : Parted} → PartsOver rows row n answer → answer ≡ Tuple word → n ≤ most_parts
-few_parts parts taken = parts.few _ taken
 
 -- one part more is written
 pub spread_none : (cells : List ℕ) (b : ℕ) (row : ℕ → ℕ) → cells ≡ spread cells b 0 row
@@ -64,55 +55,38 @@ part_row word row i l e =
     let same : get_or (drop 3 (split term_widths word)) i 0 ≡ unset = get_or-drop 3 (split term_widths word) i 0 ∙ sym (part_field word row i l) ∙ e in
     omega (arith, slot_below word i)
 
-module _ (g : Registers) (rows objects messages : List ℕ) (t : Object) (b : Raw) (n : ℕ) (kind : ℕ → ℕ) (row : ℕ) (read : row ≡ get_or objects t.0 unset) where
-  abbrev Analyzes : Step → List ℕ → Type 0
+module _ (g : Registers) (rows objects messages : List ℕ) (t : Object) (b : Raw) (n : ℕ) (kind : ℕ → ℕ) (cell : TermRow) (read : cell.0 ≡ get_or objects t.0 unset) where
+  abbrev Analyzes : Answered → List ℕ → Type 0
   Analyzes answer messages' =
       DoesStep kind (AnalyzeTuple t b n) g (λ x. with_term_rows (with_messages (with_objects x objects) messages) rows) answer
       (λ x. with_term_rows (with_messages (with_objects x objects) messages') rows)
 
-  pub analyze_unset : row ≡ unset → Analyzes (Stuck Unset) messages
-  analyze_unset e x = unset_stops _ _ (object_unset _ _ _ _ t.0 read e)
+  pub analyze_unset : (answer : Answered) → UnsetIn cell answer → Analyzes answer messages
+  analyze_unset answer out x = rw out.stops (unset_stops _ _ (object_unset _ _ _ _ t.0 read out.is_unset))
 
-  module _ (is_row : row ≡ unset → ⊥) (answer : Parted) (parts : PartsOver rows row n answer) where
-    pub analyze_not : (reason : Reason) → answer ≡ Not reason → Analyzes (Stuck reason) messages
-    analyze_not reason e x = reads _ _ (object_row _ _ _ _ t.0 read is_row) (stops _ _ (parted_not _ _ _ _ parts e))
+  module _ (row : TermRow) (set_row : SetIn cell row) where
+    pub analyze_not : (answer : Answered) (reason : Reason) → PartsOver rows row.0 n (Err reason) → answer ≡ Err (Stuck reason) → Analyzes answer messages
+    analyze_not answer reason parts e x = rw e (reads _ _ (object_given _ _ _ _ set_row t.0 read) (stops _ _ (parted_not _ _ _ _ parts refl)))
 
-    pub analyze_next : (word : ℕ) (messages' : List ℕ) → answer ≡ Tuple word → b.0 + n ≤ length messages
-        → messages' ≡ spread messages b.0 n (λ i. at (3 + i) (split term_widths word)) → Analyzes (Next g) messages'
-    analyze_next word messages' taken fits e x =
-        let exact : length (parts_of (shape_of word)) ≡ n = parts.exactly word taken in
+    pub analyze_next : (word : ℕ) (messages' : List ℕ) → PartsOver rows row.0 n (Ok word) → b.0 + n ≤ length messages
+        → messages' ≡ spread messages b.0 n (λ i. at (3 + i) (split term_widths word)) → Analyzes (Ok g) messages'
+    analyze_next word messages' parts fits e x =
+        let exact : length (parts_of (shape_of word)) ≡ n = parts.exactly word refl in
         let short : (i : ℕ) → i < n → i < length (parts_of (shape_of word)) = λ i l. omega arith in
-        let written : messages' ≡ spread messages b.0 n (λ i. get_or (parts_of (shape_of word)) i row) =
-        e ∙ spread_same messages b.0 n _ _ (λ i l. sym (part_field word row i (short i l))) in
-        rw written (reads _ _ (object_row _ _ _ _ t.0 read is_row)
-        (gets _ _ (parted_tuple _ _ _ _ parts taken)
-        (next (messages_set _ _ _ _ b.0 n _ fits (λ i l. part_row word row i (short i l)))
+        let written : messages' ≡ spread messages b.0 n (λ i. get_or (parts_of (shape_of word)) i row.0) =
+        e ∙ spread_same messages b.0 n _ _ (λ i l. sym (part_field word row.0 i (short i l))) in
+        rw written (reads _ _ (object_given _ _ _ _ set_row t.0 read)
+        (gets _ _ (parted_tuple _ _ _ _ parts refl)
+        (next (messages_set _ _ _ _ b.0 n _ fits (λ i l. part_row word row.0 i (short i l)))
         (record { objects_length = refl; messages_length = spread_length messages b.0 n _; rows_length = refl }))))
 
-pub ruleset analyze-ways = (analyze_unset, analyze_not, analyze_next)
+pub ruleset analyze-ways = (row-ways, analyze_unset, analyze_not, analyze_next)
 
 -- the first i of n cells are set, and are gathered among four
 pub record Gathered (messages : List ℕ) (b : ℕ) (parts : List ℕ) (i : ℕ) : Type 0 where
   pub four : length parts ≡ 4
   pub each : (k : ℕ) → k < i → get_or parts k 0 ≡ get_or messages (b + k) unset
   pub are_rows : (k : ℕ) → k < i → get_or parts k 0 ≡ unset → ⊥
-
-pub gathered_none : (messages : List ℕ) (b : ℕ) (parts : List ℕ) → length parts ≡ 4 → Gathered messages b parts 0
-gathered_none messages b parts four = record { four = four; each = λ k l. absurd (omega arith); are_rows = λ k l. absurd (omega arith) }
-
-pub gathered_more : (messages : List ℕ) (b : ℕ) (parts : List ℕ) (i cell : ℕ) → i < 4 → Gathered messages b parts i → cell ≡ get_or messages (b + i) unset → (cell ≡ unset → ⊥)
-    → Gathered messages b (set parts i cell) (i + 1)
-gathered_more messages b parts i cell small gathered read is_row = record {
-  four = length-set parts i cell ∙ gathered.four;
-  each = below_more (λ k. get_or (set parts i cell) k 0 ≡ get_or messages (b + k) unset) i (λ k l. there k l ∙ gathered.each k l) (here ∙ read);
-  are_rows = below_more (λ k. get_or (set parts i cell) k 0 ≡ unset → ⊥) i (λ k l e. gathered.are_rows k l (sym (there k l) ∙ e)) (λ e. is_row (sym here ∙ e));
-}
-  where
-    here : get_or (set parts i cell) i 0 ≡ cell
-    here = get_or-set_same parts i cell 0 (omega (arith, gathered.four))
-
-    there : (k : ℕ) → k < i → get_or (set parts i cell) k 0 ≡ get_or parts k 0
-    there k less = get_or-set_other parts i k cell 0 (λ e. omega arith)
 
 -- what CREATE TUPLE reads
 module _ (accumulator : ℕ) (objects messages : List ℕ) (table : Table) (place : ℕ) where
@@ -149,23 +123,23 @@ module _ (g : Registers) (rows objects messages : List ℕ) (t : Object) (b : Ra
   abbrev over : List ℕ → List ℕ → Slices → Slices
   over objects rows x = with_term_rows (with_messages (with_objects x objects) messages) rows
 
-  abbrev Creates : Step → List ℕ → List ℕ → Type 0
+  abbrev Creates : Answered → List ℕ → List ℕ → Type 0
   Creates answer objects' rows' = DoesStep kind (CreateTuple t b n) g (λ x. over objects rows x) answer (λ x. over objects' rows' x)
 
-  pub create_tuple_unset : (cell : ℕ) → i < n → cell ≡ get_or messages (b.0 + i) unset → cell ≡ unset → Creates (Stuck Unset) objects rows
-  create_tuple_unset cell l read e x =
-      rw (reads_unset _ _ _ _ g.place b.0 i n l (λ k h q. gathered.are_rows k h (gathered.each k h ∙ q)) (sym read ∙ e)) (stuck refl refl)
+  pub create_tuple_unset : (cell : TermRow) (answer : Answered) → i < n → cell.0 ≡ get_or messages (b.0 + i) unset → UnsetIn cell answer → Creates answer objects rows
+  create_tuple_unset cell answer l read out x =
+      rw (out.stops, reads_unset _ _ _ _ g.place b.0 i n l (λ k h q. gathered.are_rows k h (gathered.each k h ∙ q)) (sym read ∙ out.is_unset)) (stuck refl refl)
 
   module _ (past : n ≤ i) (small : n ≤ 4) (word : ℕ) (made : MakesWord (tuple (take n parts)) word) (rows' : List ℕ) (found : Found) (answer : Finds rows g.used word found rows') where
     all_read : (x : Slices) → reading row_world g.place (state_at g (over objects rows x)) b.0 n ≡ done (take n parts)
     all_read x =
         reads_all _ _ _ _ g.place parts b.0 n (omega (arith, gathered.four)) (λ k l. gathered.each k (omega arith)) (λ k l. gathered.are_rows k (omega arith))
 
-    pub create_tuple_full : found ≡ Full → Creates NoRoom objects rows'
+    pub create_tuple_full : found ≡ None → Creates (Err NoRoom) objects rows'
     create_tuple_full e x = rw (all_read x) (answers_as _ _ (makes _ _ _ _ made) (finds_no_room g _ answer _ _ e))
 
-    pub create_tuple_next : (row : TermRow) (used : ℕ) (objects' : List ℕ) (g₁ : Registers) → t.0 < length objects → found ≡ At row used → objects' ≡ set objects t.0 row.0
-        → g₁ ≡ using_rows g used → Creates (Next g₁) objects' rows'
+    pub create_tuple_next : (row : TermRow) (used : ℕ) (objects' : List ℕ) (g₁ : Registers) → t.0 < length objects → found ≡ Some (row, used) → objects' ≡ set objects t.0 row.0
+        → g₁ ≡ using_rows g used → Creates (Ok g₁) objects' rows'
     create_tuple_next row used objects' g₁ inside e w p x = rw (w, p, all_read x) (answers_as _ _ (makes _ _ _ _ made) (makes_object g _ answer _ e t.0 inside))
 
-pub ruleset create-tuple-ways = (create_tuple_unset, create_tuple_full, create_tuple_next, finds)
+pub ruleset create-tuple-ways = (row-ways, create_tuple_unset, create_tuple_full, create_tuple_next, finds)

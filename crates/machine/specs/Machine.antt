@@ -1,18 +1,17 @@
 -- What a method of the machine does is a step of figure 4 at rows, on the slices that are lent.
-use Rattle.std.specs.Prelude.{ℕ, zero, suc, ◌+◌, ◌≤◌, ◌≡◌, List, length, set}
+use Rattle.std.specs.Prelude.{ℕ, zero, suc, ◌+◌, ◌≤◌, ◌≡◌, List, length, set, Result, Ok, Err}
 use Rattle.answers.specs.Numbers.{reason_number}
 use Rattle.answers.specs.declared.Reason.{Reason}
 use Rattle.numbers.specs.Limits.{most_term_rows}
 use Rattle.numbers.specs.declared.TermRow.{TermRow}
 use Rattle.code.specs.declared.Instruction.{Instruction}
 use Rattle.theory.specs.Outcome.{Outcome, done}
-use Rattle.theory.specs.Outcome as Outcome
 use Rattle.theory.specs.RowModel.{row_world}
 use Rattle.theory.specs.Machine.{State, step}
 use Rattle.calls.specs.Run.{state_over}
 use Rattle.machine.specs.declared.Registers.{Registers}
-use Rattle.machine.specs.declared.Step.{Step}
-use Rattle.machine.specs.declared.Step.TheVariants.{Next, Stuck, NoRoom}
+use Rattle.machine.specs.declared.Halt.{Halt}
+use Rattle.machine.specs.declared.Halt.TheVariants.{Stuck, NoRoom}
 
 pub record Slices : Type 0 where
   pub objects : List ℕ
@@ -66,13 +65,17 @@ pub record SameLengths (x y : Slices) : Type 0 where
   pub messages_length : length y.messages ≡ length x.messages
   pub rows_length : length y.rows ≡ length x.rows
 
+-- a step's registers, or why there is none
+abbrev pub Answered : Type 0
+Answered = Result Registers Halt
+
 -- an answer of the code agrees with an outcome: the next state is that of the slices; anything else leaves them
-pub data Agrees (before : Slices) : Outcome (State row_world) → Step → Slices → Type 0 where
-  next : {s : State row_world} {g : Registers} {after : Slices} → state_at g after ≡ s → SameLengths before after → Agrees before (done s) (Next g) after
-  stuck : {place why : ℕ} {reason : Reason} {after : Slices} → reason_number reason ≡ why → after ≡ before → Agrees before (Outcome.stuck place why) (Stuck reason) after
-  no_room : {place : ℕ} {after : Slices} → after ≡ before → Agrees before (Outcome.room place) NoRoom after
+pub data Agrees (before : Slices) : Outcome (State row_world) → Answered → Slices → Type 0 where
+  next : {s : State row_world} {g : Registers} {after : Slices} → state_at g after ≡ s → SameLengths before after → Agrees before (done s) (Ok g) after
+  stuck : {place why : ℕ} {reason : Reason} {after : Slices} → reason_number reason ≡ why → after ≡ before → Agrees before (Outcome.stuck place why) (Err (Stuck reason)) after
+  no_room : {place : ℕ} {after : Slices} → after ≡ before → Agrees before (Outcome.room place) (Err NoRoom) after
 
 -- a method that sees some of the slices does a step, whatever the others are
-abbrev pub DoesStep : (ℕ → ℕ) → Instruction → Registers → (Slices → Slices) → Step → (Slices → Slices) → Type 0
+abbrev pub DoesStep : (ℕ → ℕ) → Instruction → Registers → (Slices → Slices) → Answered → (Slices → Slices) → Type 0
 DoesStep kind instruction g before answer after =
     (x : Slices) → Agrees (before x) (step row_world kind g.place instruction (state_at g (before x))) answer (after x)

@@ -2,6 +2,7 @@
 #![tactic(auto)]
 
 ghost use Rattle.std.specs.Prelude.{◌≡◌};
+ghost use Rattle.machine.specs.declared.Halt.TheVariants.{Stuck};
 ghost use Rattle.machine.specs.Machine.{holding, using_rows, naming};
 
 use answers::Reason;
@@ -21,11 +22,22 @@ pub struct Registers {
     pub counter: u32,
 }
 
+// Why an instruction does not go on: a reason of figure 4, or no room for what it makes.
 #[derive(Clone, Copy)]
-pub enum Step {
-    Next(Registers),
+pub enum Halt {
     Stuck(Reason),
     NoRoom,
+}
+
+// A step's registers, or why there is none.
+pub type Step = Result<Registers, Halt>;
+
+impl From<Reason> for Halt {
+    ghost from_gives = { λ reason halt. halt ≡ Stuck reason };
+
+    fn from(reason: Reason) -> Halt {
+        Halt::Stuck(reason)
+    }
 }
 
 impl Registers {
@@ -34,10 +46,8 @@ impl Registers {
         ensures { result ≡ holding self row }
     {
         Registers {
-            place: self.place,
             accumulator: row,
-            used: self.used,
-            counter: self.counter,
+            ..self
         }
     }
 
@@ -45,25 +55,17 @@ impl Registers {
     pub fn using_rows(self, used: u16) -> Self
         ensures { result ≡ using_rows self used }
     {
-        let accumulator = self.accumulator;
-        Registers {
-            place: self.place,
-            accumulator: accumulator,
-            used: used,
-            counter: self.counter,
-        }
+        Registers { used, ..self }
     }
 
     // The registers with another number of used rows and another name counter.
     pub fn naming(self, used: u16, counter: u32) -> Self
         ensures { result ≡ naming self used counter }
     {
-        let accumulator = self.accumulator;
         Registers {
-            place: self.place,
-            accumulator: accumulator,
-            used: used,
-            counter: counter,
+            used,
+            counter,
+            ..self
         }
     }
 }

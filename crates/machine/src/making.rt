@@ -1,17 +1,13 @@
-// Instructions that make a term. Each takes the finder's answer apart.
+// Instructions that make a term. Each takes the finder's answer apart by `let .. else`, which is document 01's form.
 ghost use Rattle.std.specs.Prelude.{ℕ, ◌<◌, length};
 ghost use Rattle.numbers.specs.declared.Object.{Object};
 ghost use Rattle.code.specs.declared.Instruction.TheVariants.{StoreConst, Create, Opposite, Encrypt, Sign, Hash};
 ghost use Rattle.numbers.specs.Kinds.{kind_in};
 ghost use Rattle.machine.specs.Machine.{with_objects, with_term_rows, Within, DoesStep};
 
-use super::cells::{kind_at, object_at, set_object};
-use super::{Registers, Step};
-use answers::Reason;
+use super::cells::{kind_at, object_at, set_object, set_row};
+use super::{Halt, Registers, Step};
 use numbers::Object;
-use stores::cells::UNSET;
-use terms::Found;
-use world::{Made, Named};
 
 impl Registers {
     pub fn store_const(self, rows: &mut [u64], objects: &mut [u16], c: Object, byte: u8) -> Step
@@ -21,13 +17,12 @@ impl Registers {
             (λ x. with_term_rows (with_objects x objects.old) rows.old) result
             (λ x. with_term_rows (with_objects x objects.new) rows.new) }
     {
-        let used = self.used;
         let word = world::byte(byte);
-        let Found::At(row, used) = finder::find(rows, used, word) else {
-            return Step::NoRoom;
+        let Some((row, used)) = finder::find(rows, self.used, word) else {
+            return Err(Halt::NoRoom);
         };
         set_object(objects, c, row);
-        Step::Next(self.using_rows(used))
+        Ok(self.using_rows(used))
     }
 
     // The counter is looked at before the row.
@@ -39,16 +34,14 @@ impl Registers {
             (λ x. with_term_rows (with_objects x objects.old) rows.old) result
             (λ x. with_term_rows (with_objects x objects.new) rows.new) }
     {
-        let counter = self.counter;
-        let Named::Word(word, counter) = world::create(kind_at(kinds, v), counter) else {
-            return Step::NoRoom;
+        let Some((word, counter)) = world::create(kind_at(kinds, v), self.counter) else {
+            return Err(Halt::NoRoom);
         };
-        let used = self.used;
-        let Found::At(row, used) = finder::find(rows, used, word) else {
-            return Step::NoRoom;
+        let Some((row, used)) = finder::find(rows, self.used, word) else {
+            return Err(Halt::NoRoom);
         };
         set_object(objects, v, row);
-        Step::Next(self.naming(used, counter))
+        Ok(self.naming(used, counter))
     }
 
     // OPPOSITE K k: K is private, k public.
@@ -65,22 +58,13 @@ impl Registers {
             (λ x. with_term_rows (with_objects x objects.old) rows.old) result
             (λ x. with_term_rows (with_objects x objects.new) rows.new) }
     {
-        let key = object_at(objects, private);
-        if key.0 == UNSET {
-            return Step::Stuck(Reason::Unset);
-        }
-        let made = world::opposite(rows, key);
-        match made {
-            Made::Not(reason) => Step::Stuck(reason),
-            Made::Word(word) => {
-                let used = self.used;
-                let Found::At(row, used) = finder::find(rows, used, word) else {
-                    return Step::NoRoom;
-                };
-                set_object(objects, public, row);
-                Step::Next(self.using_rows(used))
-            }
-        }
+        let key = set_row(object_at(objects, private))?;
+        let word = world::opposite(rows, key)?;
+        let Some((row, used)) = finder::find(rows, self.used, word) else {
+            return Err(Halt::NoRoom);
+        };
+        set_object(objects, public, row);
+        Ok(self.using_rows(used))
     }
 
     pub fn encrypt(self, rows: &mut [u64], objects: &[u16], v: Object) -> Step
@@ -89,20 +73,13 @@ impl Registers {
             (λ x. with_term_rows (with_objects x objects.now) rows.old) result
             (λ x. with_term_rows (with_objects x objects.now) rows.new) }
     {
-        let key = object_at(objects, v);
-        if key.0 == UNSET {
-            return Step::Stuck(Reason::Unset);
-        }
-        let body = self.accumulator;
-        if body.0 == UNSET {
-            return Step::Stuck(Reason::Unset);
-        }
-        let used = self.used;
+        let key = set_row(object_at(objects, v))?;
+        let body = set_row(self.accumulator)?;
         let word = world::encrypt(key, body);
-        let Found::At(row, used) = finder::find(rows, used, word) else {
-            return Step::NoRoom;
+        let Some((row, used)) = finder::find(rows, self.used, word) else {
+            return Err(Halt::NoRoom);
         };
-        Step::Next(self.using_rows(used).holding(row))
+        Ok(self.using_rows(used).holding(row))
     }
 
     pub fn sign(self, rows: &mut [u64], objects: &[u16], v: Object) -> Step
@@ -111,20 +88,13 @@ impl Registers {
             (λ x. with_term_rows (with_objects x objects.now) rows.old) result
             (λ x. with_term_rows (with_objects x objects.now) rows.new) }
     {
-        let key = object_at(objects, v);
-        if key.0 == UNSET {
-            return Step::Stuck(Reason::Unset);
-        }
-        let body = self.accumulator;
-        if body.0 == UNSET {
-            return Step::Stuck(Reason::Unset);
-        }
-        let used = self.used;
+        let key = set_row(object_at(objects, v))?;
+        let body = set_row(self.accumulator)?;
         let word = world::sign(key, body);
-        let Found::At(row, used) = finder::find(rows, used, word) else {
-            return Step::NoRoom;
+        let Some((row, used)) = finder::find(rows, self.used, word) else {
+            return Err(Halt::NoRoom);
         };
-        Step::Next(self.using_rows(used).holding(row))
+        Ok(self.using_rows(used).holding(row))
     }
 
     // HASH does not read its h.
@@ -132,15 +102,11 @@ impl Registers {
         requires { Within rows.old self.used }
         ensures { (kind : ℕ → ℕ) (h : Object) → DoesStep kind (Hash h) self (λ x. with_term_rows x rows.old) result (λ x. with_term_rows x rows.new) }
     {
-        let body = self.accumulator;
-        if body.0 == UNSET {
-            return Step::Stuck(Reason::Unset);
-        }
-        let used = self.used;
+        let body = set_row(self.accumulator)?;
         let word = world::hash(body);
-        let Found::At(row, used) = finder::find(rows, used, word) else {
-            return Step::NoRoom;
+        let Some((row, used)) = finder::find(rows, self.used, word) else {
+            return Err(Halt::NoRoom);
         };
-        Step::Next(self.using_rows(used).holding(row))
+        Ok(self.using_rows(used).holding(row))
     }
 }

@@ -3,12 +3,9 @@ ghost use Rattle.std.specs.Prelude.{ℕ};
 ghost use Rattle.code.specs.declared.Instruction.TheVariants.{KeyOf, Decrypt, Verify};
 ghost use Rattle.machine.specs.Machine.{with_objects, with_messages, with_term_rows, with_certificates, DoesStep};
 
-use super::cells::{message_at, object_at};
+use super::cells::{message_at, object_at, set_row};
 use super::{Registers, Step};
-use answers::Reason;
 use numbers::{Object, Raw};
-use stores::cells::UNSET;
-use world::{Opened, Tested};
 
 impl Registers {
     pub fn key_of(self, certificates: &[u64]) -> Step
@@ -16,15 +13,9 @@ impl Registers {
             (λ x. with_certificates x certificates.now) result
             (λ x. with_certificates x certificates.now) }
     {
-        let agent = self.accumulator;
-        if agent.0 == UNSET {
-            return Step::Stuck(Reason::Unset);
-        }
-        let opened = world::key_of(certificates, agent);
-        match opened {
-            Opened::Not(reason) => Step::Stuck(reason),
-            Opened::Row(key) => Step::Next(self.holding(key)),
-        }
+        let agent = set_row(self.accumulator)?;
+        let key = world::key_of(certificates, agent)?;
+        Ok(self.holding(key))
     }
 
     pub fn decrypt(self, rows: &[u64], objects: &[u16], v: Object) -> Step
@@ -32,19 +23,10 @@ impl Registers {
             (λ x. with_term_rows (with_objects x objects.now) rows.now) result
             (λ x. with_term_rows (with_objects x objects.now) rows.now) }
     {
-        let key = object_at(objects, v);
-        if key.0 == UNSET {
-            return Step::Stuck(Reason::Unset);
-        }
-        let sealed = self.accumulator;
-        if sealed.0 == UNSET {
-            return Step::Stuck(Reason::Unset);
-        }
-        let opened = world::decrypt(rows, key, sealed);
-        match opened {
-            Opened::Not(reason) => Step::Stuck(reason),
-            Opened::Row(body) => Step::Next(self.holding(body)),
-        }
+        let key = set_row(object_at(objects, v))?;
+        let sealed = set_row(self.accumulator)?;
+        let body = world::decrypt(rows, key, sealed)?;
+        Ok(self.holding(body))
     }
 
     pub fn verify(self, rows: &[u64], objects: &[u16], messages: &[u16], v: Object, r: Raw) -> Step
@@ -52,22 +34,10 @@ impl Registers {
             (λ x. with_term_rows (with_messages (with_objects x objects.now) messages.now) rows.now) result
             (λ x. with_term_rows (with_messages (with_objects x objects.now) messages.now) rows.now) }
     {
-        let key = object_at(objects, v);
-        if key.0 == UNSET {
-            return Step::Stuck(Reason::Unset);
-        }
-        let body = message_at(messages, r);
-        if body.0 == UNSET {
-            return Step::Stuck(Reason::Unset);
-        }
-        let signature = self.accumulator;
-        if signature.0 == UNSET {
-            return Step::Stuck(Reason::Unset);
-        }
-        let tested = world::verify(rows, key, body, signature);
-        match tested {
-            Tested::Not(reason) => Step::Stuck(reason),
-            Tested::Holds => Step::Next(self),
-        }
+        let key = set_row(object_at(objects, v))?;
+        let body = set_row(message_at(messages, r))?;
+        let signature = set_row(self.accumulator)?;
+        world::verify(rows, key, body, signature)?;
+        Ok(self)
     }
 }

@@ -1,4 +1,4 @@
-// Instructions on tuples, whose parts stand in message cells.
+// Instructions on tuples, whose parts stand in message cells. The finder's answer is taken apart as in `making`.
 ghost use Rattle.std.specs.Prelude.{◌≡◌, ℕ, ◌+◌, ◌<◌, ◌≤◌, length};
 ghost use Rattle.numbers.specs.Limits.{most_parts};
 ghost use Rattle.word.specs.Fields.{split, at};
@@ -6,13 +6,10 @@ ghost use Rattle.code.specs.declared.Instruction.TheVariants.{AnalyzeTuple, Crea
 ghost use Rattle.terms.specs.Row.{term_widths};
 ghost use Rattle.machine.specs.Machine.{with_objects, with_messages, with_term_rows, spread, Within, DoesStep};
 
-use super::cells::{cell_at, object_at, set_object};
-use super::{Registers, Step};
-use answers::Reason;
+use super::cells::{cell_at, object_at, set_object, set_row};
+use super::{Halt, Registers, Step};
+use numbers::limits::MOST_PARTS;
 use numbers::{Object, Raw};
-use stores::cells::UNSET;
-use terms::Found;
-use world::Parted;
 
 // The first n parts of a row, to the message cells from b on.
 fn spread(messages: &mut [u16], b: Raw, word: u64, n: u8)
@@ -21,10 +18,8 @@ fn spread(messages: &mut [u16], b: Raw, word: u64, n: u8)
 {
     let from = b.0 as usize;
     let count = n as usize;
-    let mut i: usize = 0;
-    while i < count {
+    for i in 0..count {
         messages[from + i] = terms::part(word, i).0;
-        i += 1;
     }
 }
 
@@ -43,18 +38,10 @@ impl Registers {
             (λ x. with_term_rows (with_messages (with_objects x objects.now) messages.old) rows.now) result
             (λ x. with_term_rows (with_messages (with_objects x objects.now) messages.new) rows.now) }
     {
-        let row = object_at(objects, t);
-        if row.0 == UNSET {
-            return Step::Stuck(Reason::Unset);
-        }
-        let parted = world::parts(rows, row, n);
-        match parted {
-            Parted::Not(reason) => Step::Stuck(reason),
-            Parted::Tuple(word) => {
-                spread(messages, b, word, n);
-                Step::Next(self)
-            }
-        }
+        let row = set_row(object_at(objects, t))?;
+        let word = world::parts(rows, row, n)?;
+        spread(messages, b, word, n);
+        Ok(self)
     }
 
     pub fn create_tuple(
@@ -75,22 +62,16 @@ impl Registers {
     {
         let from = b.0 as usize;
         let count = n as usize;
-        let mut parts = [0u16; 4];
-        let mut i: usize = 0;
-        while i < count {
-            let cell = cell_at(messages, from + i);
-            if cell.0 == UNSET {
-                return Step::Stuck(Reason::Unset);
-            }
+        let mut parts = [0; MOST_PARTS];
+        for i in 0..count {
+            let cell = set_row(cell_at(messages, from + i))?;
             parts[i] = cell.0;
-            i += 1;
         }
-        let used = self.used;
         let word = world::tuple(parts, count);
-        let Found::At(row, used) = finder::find(rows, used, word) else {
-            return Step::NoRoom;
+        let Some((row, used)) = finder::find(rows, self.used, word) else {
+            return Err(Halt::NoRoom);
         };
         set_object(objects, t, row);
-        Step::Next(self.using_rows(used))
+        Ok(self.using_rows(used))
     }
 }

@@ -1,5 +1,5 @@
 -- Rows with no children, by their tags.
-use Prim.Native.Nat.{ℕ, ◌≤◌}
+use Prim.Native.Nat.{ℕ}
 use mathlib.Core.Path.{◌≡◌, sym, ◌∙◌}
 use mathlib.Core.List.{List}
 use native.Mathlib.Omega.{arith}
@@ -19,8 +19,9 @@ use Rattle.knowing.proofs.MeetsLaws.{does_le, does_seq}
 use Rattle.emission.proofs.BudgetLaws.{as_leaf, leaf_room}
 use Rattle.patterns.proofs.StandingLaws.{good_row, signature_key, object_row, raw_row, constant_row, opposite_row, key_of_row, signature_row, hash_row, above_four, seven_left, variable_low}
 use Rattle.matching.specs.Matches.{Matches}
+use Rattle.knowing.specs.declared.Emission.{Emission}
 
-module _ (rows : List ℕ) (row word : ℕ) {e code e' code' : List ℕ} (asked : RowAt rows row word e) where
+module _ (rows : List ℕ) (row word : ℕ) {e : Emission} {code : List ℕ} {e' : Emission} {code' : List ℕ} (asked : RowAt rows row word e) where
   module _ (tag : ℕ) (read : tag ≡ (pattern_fields word).tag) where
     module _ (v : ℕ) (variable : v ≡ (pattern_fields word).v) where
       pub leaf_object : tag ≡ 0 → Does (compile↓ (object row v)) 7 1 e code e' code' → Matches rows row e code e' code'
@@ -50,7 +51,7 @@ module _ (rows : List ℕ) (row word : ℕ) {e code e' code' : List ℕ} (asked 
     leaf_raw r second h k = as_leaf compile↓ rows row (raw row r) (raw_row asked.standing (sym read ∙ h) ∙ rw second) k
 
 -- s : S(key, r)
-module _ (rows : List ℕ) (row word : ℕ) {e code e₁ code₁ e₂ code₂ : List ℕ} (asked : RowAt rows row word e) (six : (pattern_fields word).tag ≡ 6) where
+module _ (rows : List ℕ) (row word : ℕ) {e : Emission} {code : List ℕ} {e₁ : Emission} {code₁ : List ℕ} {e₂ : Emission} {code₂ : List ℕ} (asked : RowAt rows row word e) (six : (pattern_fields word).tag ≡ 6) where
   module _ (v x r form : ℕ) (variable : v ≡ (pattern_fields word).v) (key : x ≡ (pattern_fields word).x) (body : r ≡ (pattern_fields word).r) (read : form ≡ (pattern_fields word).f)
       (decoded : Does (emit row (Decode (as_object v))) 1 0 e code e₁ code₁) where
     signed : (k : Key) → key_by (pattern_fields word) ≡ k → Does (verifying row k r) 6 1 e₁ code₁ e₂ code₂ → Matches rows row e code e₂ code₂

@@ -3,7 +3,7 @@ use Prim.Native.Nat.{ℕ, zero, suc, ◌+◌, ◌*◌, ◌<◌}
 use mathlib.Core.Path.{◌≡◌, refl, sym, ap, subst, ◌∙◌}
 use mathlib.Core.List.{List, []}
 use native.Mathlib.Omega.{arith}
-use lib.ListN.{length, get_or}
+use lib.ListN.{length, get_or, take as front}
 use Rattle.numbers.specs.Sorts.{as_object}
 use Rattle.numbers.specs.declared.Raw.{Raw}
 use Rattle.code.specs.declared.Instruction.TheVariants.{Load, Decode, AnalyzeTuple, Decrypt}
@@ -16,25 +16,26 @@ use Rattle.theory.specs.Emission.{Env, Emitted, refuse, emit, take, ◌then◌}
 use Rattle.theory.specs.Compilers.{LOAD, DECODE, ANALYZE_TUPLE, compile↓, compile↓parts}
 use Rattle.emission.specs.declared.Part.{Part}
 use Rattle.knowing.specs.Steps.{free_raw, raise}
-use Rattle.knowing.specs.Meets.{next_in, Does, Quiet, RoomFor}
+use Rattle.knowing.specs.Meets.{Does, Quiet, RoomFor}
 use Rattle.patterns.specs.Standing.{pattern_in}
 use Rattle.emission.specs.Budget.{most_words, most_scratches, words_of, scratches_of, Row, RowAt}
 use Rattle.emission.specs.Parts.{parts_from, part_at, parts_in, PartsAt}
 use Rattle.knowing.proofs.MeetsLaws.{then_assoc, does_le, does_seq, does_take, does_free}
 use Rattle.emission.proofs.BudgetLaws.{as_row, room_le, room_then, row_below, encryption_room, let_room}
 use Rattle.patterns.proofs.StandingLaws.{encryption_key, encryption_child, encryption_row, let_children, let_row}
-use Rattle.emission.proofs.PartLaws.{InTurn, Walked, part_room, part_row, parts_next, tuple_is, tuple_counts, tuple_room}
+use Rattle.emission.proofs.PartLaws.{InTurn, Walked, part_room, part_row, parts_next, parts_first, tuple_is, tuple_counts, tuple_room}
 use Rattle.matching.specs.Matches.{Matches, MatchesParts}
+use Rattle.knowing.specs.declared.Emission.{Emission}
 
 -- e : E(key, p)
-module _ (rows : List ℕ) (row word : ℕ) {e : List ℕ} (asked : RowAt rows row word e) (five : (pattern_fields word).tag ≡ 5) (child : ℕ) (first : child ≡ get_or (pattern_fields word).slots 0 0) where
-  pub encryption_asks : {f g : Env → Emitted} {code e₁ code₁ e₂ code₂ : List ℕ} → Does f 1 0 e code e₁ code₁ → Does g 1 0 e₁ code₁ e₂ code₂ → Row rows child e₂
+module _ (rows : List ℕ) (row word : ℕ) {e : Emission} (asked : RowAt rows row word e) (five : (pattern_fields word).tag ≡ 5) (child : ℕ) (first : child ≡ get_or (pattern_fields word).slots 0 0) where
+  pub encryption_asks : {f g : Env → Emitted} {code : List ℕ} {e₁ : Emission} {code₁ : List ℕ} {e₂ : Emission} {code₂ : List ℕ} → Does f 1 0 e code e₁ code₁ → Does g 1 0 e₁ code₁ e₂ code₂ → Row rows child e₂
   encryption_asks k l =
       row_below rows row child asked.standing.stands (encryption_child asked.standing child first five)
       (room_then (omega arith) (omega arith) (encryption_room asked child first five) (does_seq k l))
 
-  module _ {code e' : List ℕ} (form : ℕ) (read : form ≡ (pattern_fields word).f) where
-    pub encryption_done : {e₁ code₁ e₂ code₂ code' : List ℕ} (v x : ℕ) → v ≡ (pattern_fields word).v → x ≡ (pattern_fields word).x → form ≡ 0 → Does (emit row (Decode (as_object v))) 1 0 e code e₁ code₁
+  module _ {code : List ℕ} {e' : Emission} (form : ℕ) (read : form ≡ (pattern_fields word).f) where
+    pub encryption_done : {e₁ : Emission} {code₁ : List ℕ} {e₂ : Emission} {code₂ code' : List ℕ} (v x : ℕ) → v ≡ (pattern_fields word).v → x ≡ (pattern_fields word).x → form ≡ 0 → Does (emit row (Decode (as_object v))) 1 0 e code e₁ code₁
         → Does (emit row (Decrypt (as_object x))) 1 0 e₁ code₁ e₂ code₂ → Matches rows child e₂ code₂ e' code' → Matches rows row e code e' code'
     unfolding size
     encryption_done v x variable key plain k l m =
@@ -56,26 +57,26 @@ module _ (rows : List ℕ) (row word : ℕ) {e : List ℕ} (asked : RowAt rows r
         by (suc (suc (suc f))) h = absurd (omega (arith, encryption_key asked.standing five))
 
 -- let r = p1 in p2
-module _ (rows : List ℕ) (row word : ℕ) {e : List ℕ} (asked : RowAt rows row word e) (nine : (pattern_fields word).tag ≡ 9)
+module _ (rows : List ℕ) (row word : ℕ) {e : Emission} (asked : RowAt rows row word e) (nine : (pattern_fields word).tag ≡ 9)
     (child : ℕ) (first : child ≡ get_or (pattern_fields word).slots 0 0) (other : ℕ) (second : other ≡ get_or (pattern_fields word).slots 1 0) where
   -- room for the second child, and then for the first
-  module _ {e₁ : List ℕ} {r : ℕ} (freed : Quiet (free_raw row r) 0 e e₁) where
+  module _ {e₁ : Emission} {r : ℕ} (freed : Quiet (free_raw row r) 0 e e₁) where
     pub let_second : Row rows other e₁
     let_second =
         row_below rows row other asked.standing.stands (let_children asked.standing child first other second nine).1
         (room_then (omega arith) (omega arith) (let_room asked child first other second nine) (freed.does []))
 
-    module _ {code e₂ code₂ : List ℕ} (walked : Matches rows other e₁ code e₂ code₂) where
+    module _ {code : List ℕ} {e₂ : Emission} {code₂ : List ℕ} (walked : Matches rows other e₁ code e₂ code₂) where
       pub let_loads : RoomFor 1 0 e₂
       let_loads = room_then (omega arith) (omega arith) (let_room asked child first other second nine) (does_seq (freed.does code) walked)
 
-      module _ {e₃ code₃ : List ℕ} (loaded : Does (emit row (Load (named r))) 1 0 e₂ code₂ e₃ code₃) where
+      module _ {e₃ : Emission} {code₃ : List ℕ} (loaded : Does (emit row (Load (named r))) 1 0 e₂ code₂ e₃ code₃) where
         pub let_first : Row rows child e₃
         let_first =
             row_below rows row child asked.standing.stands (let_children asked.standing child first other second nine).0
             (room_then (omega arith) (omega arith) (let_room asked child first other second nine) (does_seq (freed.does code) (does_seq walked loaded)))
 
-        pub let_done : r ≡ (pattern_fields word).r → {e' code' : List ℕ} → Matches rows child e₃ code₃ e' code' → Matches rows row e code e' code'
+        pub let_done : r ≡ (pattern_fields word).r → {e' : Emission} {code' : List ℕ} → Matches rows child e₃ code₃ e' code' → Matches rows row e code e' code'
         unfolding size
         let_done h m =
             let s = size_positive (pattern_in rows child) in
@@ -94,52 +95,53 @@ in_turn_lem =
       more = λ p ps row r env. sym (then_assoc (emit row (LOAD (scratch r)) env) (compile↓ p) (compile↓parts ps row (suc r)));
     }
 
-module _ (rows : List ℕ) (row : ℕ) (parts : List Part) (n : ℕ) {e₀ : List ℕ} (four : length parts ≡ 4) (asked : PartsAt rows row parts n e₀) {code₀ : List ℕ} (k : ℕ) {e code : List ℕ}
-    (walked : Walked compile↓parts rows row parts n e₀ code₀ k e code) (less : k < n) where
+module _ (rows : List ℕ) (row : ℕ) (parts : List Part) {e₀ : Emission} (asked : PartsAt rows row parts e₀) {code₀ : List ℕ} (k : ℕ) {e : Emission} {code : List ℕ}
+    (walked : Walked compile↓parts rows row parts e₀ code₀ k e code) (less : k < length parts) where
   room : RoomFor (8 * size (pattern_in rows (part_at parts k).child)) (most_scratches (pattern_in rows (part_at parts k).child)) e
-  room = part_room in_turn_lem rows row parts n four asked k walked less
+  room = part_room in_turn_lem rows row parts asked k walked less
 
   pub part_loads : RoomFor 1 0 e
   part_loads = room_le (omega (arith, size_positive (pattern_in rows (part_at parts k).child))) (omega arith) room
 
-  module _ {s : Raw} {e₁ code₁ : List ℕ} (made : s ≡ scratch (part_at parts k).scratch) (loaded : Does (emit row (Load s)) 1 0 e code e₁ code₁) where
+  module _ {s : Raw} {e₁ : Emission} {code₁ : List ℕ} (made : s ≡ scratch (part_at parts k).scratch) (loaded : Does (emit row (Load s)) 1 0 e code e₁ code₁) where
     pub part_asks : Row rows (part_at parts k).child e₁
-    part_asks = part_row in_turn_lem rows row parts n four asked k walked less (room_then (omega (arith, size_positive (pattern_in rows (part_at parts k).child))) (omega arith) room loaded)
+    part_asks =
+        part_row in_turn_lem rows row parts asked k walked less
+        (room_then (omega (arith, size_positive (pattern_in rows (part_at parts k).child))) (omega arith) room loaded)
 
-    pub part_done : {e₂ code₂ : List ℕ} → Matches rows (part_at parts k).child e₁ code₁ e₂ code₂ → Walked compile↓parts rows row parts n e₀ code₀ (k + 1) e₂ code₂
+    pub part_done : {e₂ : Emission} {code₂ : List ℕ} → Matches rows (part_at parts k).child e₁ code₁ e₂ code₂ → Walked compile↓parts rows row parts e₀ code₀ (k + 1) e₂ code₂
     part_done m =
         let l : Does (emit row (LOAD (scratch (part_at parts k).scratch))) 1 0 e code e₁ code₁ = rw made at loaded in
-        parts_next in_turn_lem rows row parts n four asked k walked less (does_le (omega (arith, size_positive (pattern_in rows (part_at parts k).child))) (omega arith) (does_seq l m))
+        parts_next in_turn_lem rows row parts asked k walked less (does_le (omega (arith, size_positive (pattern_in rows (part_at parts k).child))) (omega arith) (does_seq l m))
 
 -- t : [p1 .. pn]
-module _ (rows : List ℕ) (row word : ℕ) {e : List ℕ} (asked : RowAt rows row word e) (eight : (pattern_fields word).tag ≡ 8) (n : ℕ) (counted : n ≡ (pattern_fields word).n) where
+module _ (rows : List ℕ) (row word : ℕ) {e : Emission} (asked : RowAt rows row word e) (eight : (pattern_fields word).tag ≡ 8) (n : ℕ) (counted : n ≡ (pattern_fields word).n) where
   -- room for ANALYZE TUPLE, once its scratch numbers are taken
-  pub tuple_analyzes : {f : Env → Emitted} {code e₁ code₁ e₂ : List ℕ} → Does f 1 0 e code e₁ code₁ → Quiet (raise n) n e₁ e₂ → RoomFor 1 0 e₂
+  pub tuple_analyzes : {f : Env → Emitted} {code : List ℕ} {e₁ : Emission} {code₁ : List ℕ} {e₂ : Emission} → Does f 1 0 e code e₁ code₁ → Quiet (raise n) n e₁ e₂ → RoomFor 1 0 e₂
   tuple_analyzes decoded taken =
       let slots = (pattern_fields word).slots in
-      let parts = parts_from slots 0 in
+      let parts = front n (parts_from slots 0) in
       let room = tuple_room rows row word asked eight n counted slots refl 0 parts refl in
-      let c = count_sizes (parts_in rows parts n 0) in
+      let c = count_sizes (parts_in rows parts 0) in
       let d = tuple_counts rows row word asked eight n counted slots refl 0 parts refl in
       record {
-        long = taken.long ∙ decoded.long ∙ room.long;
         place = omega (arith, room.place, decoded.place, taken.place);
         free = omega (arith, room.free, decoded.free, taken.free);
       }
 
-  pub tuple_done : (slots : List ℕ) (got : slots ≡ (pattern_fields word).slots) (first : ℕ) (parts : List Part) (made : parts ≡ parts_from slots first)
+  pub tuple_done : (slots : List ℕ) (got : slots ≡ (pattern_fields word).slots) (first : ℕ) (parts : List Part) (made : parts ≡ front n (parts_from slots first))
       (t : ℕ) (s : Raw) → t ≡ (pattern_fields word).v → s ≡ scratch first
-      → {e₁ e₂ e₃ code code₁ code₃ e' code' : List ℕ} → Does (emit row (Decode (as_object t))) 1 0 e code e₁ code₁ → first ≡ next_in e₁ → Quiet (raise n) n e₁ e₂
-      → Does (emit row (AnalyzeTuple (as_object t) s n)) 1 0 e₂ code₁ e₃ code₃ → MatchesParts rows row parts n e₃ code₃ e' code' → Matches rows row e code e' code'
+      → {e₁ e₂ e₃ : Emission} {code code₁ code₃ : List ℕ} {e' : Emission} {code' : List ℕ} → Does (emit row (Decode (as_object t))) 1 0 e code e₁ code₁ → first ≡ e₁.next → Quiet (raise n) n e₁ e₂
+      → Does (emit row (AnalyzeTuple (as_object t) s n)) 1 0 e₂ code₁ e₃ code₃ → MatchesParts rows row parts e₃ code₃ e' code' → Matches rows row e code e' code'
   unfolding size
   tuple_done slots got first parts made t s variable cell {e₁} {e₂} {e₃} {code} {code₁} {code₃} {e'} {code'} decoded next taken analyzed m =
-      let ps = parts_in rows parts n 0 in
-      let here : s ≡ scratch (next_in e₁) = cell ∙ ap scratch next in
-      let start : (part_at parts 0).scratch ≡ next_in e₁ = rw made next in
+      let ps = parts_in rows parts 0 in
+      let here : s ≡ scratch e₁.next = cell ∙ ap scratch next in
       let c = count_sizes ps in
       let d = tuple_counts rows row word asked eight n counted slots got first parts made in
-      let l : Does (emit row (ANALYZE_TUPLE t (scratch (next_in e₁)) n)) 1 0 e₂ code₁ e₃ code₃ = rw here at analyzed in
-      let k : Does (compile↓parts ps row (next_in e₁)) (words_of ps) (scratches_of ps) e₃ code₃ e' code' = rw start at m in
+      let l : Does (emit row (ANALYZE_TUPLE t (scratch e₁.next) n)) 1 0 e₂ code₁ e₃ code₃ = rw here at analyzed in
+      let k : Does (compile↓parts ps row e₁.next) (words_of ps) (scratches_of ps) e₃ code₃ e' code' =
+      rw next at (parts_first rows row word asked eight n counted slots got first parts made in_turn_lem m) in
       as_row compile↓ rows row (tuple row t ps) (tuple_is rows row word asked eight n counted slots got first parts made ∙ rw variable)
       (subst (λ (x : ℕ). Does (emit row (DECODE t) then take x (λ rˢ. emit row (ANALYZE_TUPLE t (scratch rˢ) x) then compile↓parts ps row rˢ))
       (most_words (tuple row t ps)) (most_scratches (tuple row t ps)) e code e' code') (sym d)

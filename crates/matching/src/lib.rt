@@ -14,7 +14,6 @@ ghost use Rattle.matching.specs.Matches.{Matches, MatchesParts};
 use emission::{Part, instructions, parts_of, scratch};
 use knowing::{Code, Emission, free_raw, take, wrong_kind};
 use layout::Rows;
-use numbers::limits::MOST_PARTS;
 use patterns::forms as form;
 
 // s : S(key, r)
@@ -105,35 +104,19 @@ fn match_tuple(rows: &Rows, code: &mut Code, emission: &mut Emission, row: u8, w
     instructions::decode(code, emission, row, t);
     let first = take(emission, n);
     instructions::analyze_tuple(code, emission, row, t, scratch(first), n);
-    match_parts(
-        rows,
-        code,
-        emission,
-        row,
-        parts_of(patterns::slots(word), first),
-        n,
-    );
+    let parts = parts_of(patterns::slots(word), first);
+    match_parts(rows, code, emission, row, &parts[..n as usize]);
 }
 
 // The parts of a tuple, from left to right.
 #[cycle(matching)]
-fn match_parts(
-    rows: &Rows,
-    code: &mut Code,
-    emission: &mut Emission,
-    row: u8,
-    parts: [Part; MOST_PARTS],
-    n: u8,
-)
-    requires { PartsAt rows.now row parts n emission.old }
-    ensures { MatchesParts rows.now row parts n emission.old code.old emission.new code.new }
+fn match_parts(rows: &Rows, code: &mut Code, emission: &mut Emission, row: u8, parts: &[Part])
+    requires { PartsAt rows.now row parts.now emission.old }
+    ensures { MatchesParts rows.now row parts.now emission.old code.old emission.new code.new }
 {
-    let mut k: usize = 0;
-    while k < n as usize {
-        let part = parts[k];
+    for part in parts {
         instructions::load(code, emission, row, scratch(part.scratch));
         match_row(rows, code, emission, part.child);
-        k += 1;
     }
 }
 

@@ -1,4 +1,5 @@
 // The kinds of object variables, which are also the tags of term rows.
+// They stay numbers: C lends kinds as bytes and tags are 4-bit fields, whose other values are refused one by one, and document 01 speaks of their numbers.
 pub const BYTE: u8 = 1;
 
 pub const NONCE: u8 = 2;

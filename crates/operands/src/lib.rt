@@ -2,21 +2,19 @@
 #![tactic(auto)]
 
 ghost use Rattle.std.specs.Prelude.{◌≡◌, [], ◌∷◌, ◌<◌, ◌≤◌, length, get_or, take};
-ghost use Rattle.word.specs.Lowest.{place_of};
 ghost use Rattle.code.specs.Words.{has_kind, cells_fit, operands_fit, good_word, bad_word};
 
-use code::{Instruction, Read, instruction_of, word_of};
+use code::{Instruction, instruction_of, word_of};
 use numbers::limits::{MESSAGE_CELLS, MOST_PARTS, VARIABLES};
 use numbers::{Object, Raw, kinds};
-use word::Place;
+use stores::cells;
 
 // The kind of an object variable; a number past the 64 variables has none.
 fn kind_at(kinds: &[u8], v: Object) -> u8
     ensures { result ≡ get_or (take 64 kinds.now) v.0 0 }
 {
-    let at = v.0 as usize;
-    if at < VARIABLES && at < kinds.len() {
-        kinds[at]
+    if (v.0 as usize) < VARIABLES {
+        cells::kind_at(kinds, v)
     } else {
         0
     }
@@ -85,21 +83,20 @@ pub fn good_word(kinds: &[u8], word: u32) -> bool
     ensures { result ≡ good_word (λ n. get_or kinds.now n 0) word }
 {
     match instruction_of(word) {
-        Read::Is(instruction) => word_of(instruction) == word && operands_fit(kinds, instruction),
-        Read::Not => false,
+        Some(instruction) => word_of(instruction) == word && operands_fit(kinds, instruction),
+        None => false,
     }
 }
 
 // Refusal 9.
-pub fn first_bad_word(kinds: &[u8], code: &[u32]) -> Place
+pub fn first_bad_word(kinds: &[u8], code: &[u32]) -> Option<u32>
     requires { length code.now ≤ 65536 }
-    ensures { result ≡ place_of (bad_word (λ n. get_or kinds.now n 0) code.now) }
+    ensures { result ≡ bad_word (λ n. get_or kinds.now n 0) code.now }
 {
-    let count = code.len();
-    for place in 0..count {
-        if !good_word(kinds, code[place]) {
-            return Place::At(place as u32);
+    for (place, &word) in code.iter().enumerate() {
+        if !good_word(kinds, word) {
+            return Some(place as u32);
         }
     }
-    Place::Nowhere
+    None
 }

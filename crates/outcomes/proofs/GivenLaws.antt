@@ -2,12 +2,12 @@
 use Prim.Native.Nat.{ℕ, ◌≤◌}
 use mathlib.Core.Path.{◌≡◌, refl, sym, ◌∙◌, ap}
 use mathlib.Core.Bool.{Bool, true, false, not, cond}
-use mathlib.Core.Option.{Option, none, some}
+use Rattle.std.specs.Prelude.{Option, None, Some, Ok, Err}
 use mathlib.Core.List.{List, ◌++◌}
 use native.Mathlib.Omega.{arith}
 use borrow.Author.Tests.{not-true, not-false, eq-eqb, ne_eqb}
 use lib.Dec.{leb}
-use lib.ListN.{length, take, drop, replicate, take-append-drop, length-replicate}
+use lib.ListN.{length, take, drop, length-take, replicate, take-append-drop, length-replicate}
 use lib.Seq.{length-take-le, drop_at}
 use Rattle.answers.specs.First.{first}
 use Rattle.answers.specs.Numbers.{compiled_number, compiled_place}
@@ -17,7 +17,6 @@ use Rattle.terms.specs.Rules.{used_rows}
 use Rattle.numbers.specs.Limits.{most_code_words}
 use Rattle.bundles.specs.Opening.{header_in, bundle_in, opened_by, opened}
 use Rattle.bundles.specs.declared.Header.{Header}
-use Rattle.bundles.specs.declared.Opened.TheVariants.{Refused, Is}
 use Rattle.bundles.proofs.OpeningLaws.{opened_is}
 use Rattle.bundles.proofs.BundleLaws.{lengths}
 use Rattle.bundles.specs.Bundle.{Bundle, read_bundle, clear_of}
@@ -28,17 +27,15 @@ use Rattle.calls.specs.Run.{RunOutcome, run}
 use Rattle.calls.proofs.CompileLaws.{part_fits}
 use Rattle.calls.proofs.Product.{compile_writes}
 use Rattle.running.specs.declared.Ended.{Ended}
-use Rattle.outcomes.specs.declared.Gave.{Gave}
-use Rattle.outcomes.specs.declared.Gave.TheVariants as Gave
 use Rattle.outcomes.specs.Held.{Held, ended_by, held_by}
 
-pub refused_none : (bytes : List ℕ) → opened bytes ≡ Refused → read_bundle bytes ≡ none
+pub refused_none : (bytes : List ℕ) → opened bytes ≡ None → read_bundle bytes ≡ None
 unfolding opened
 refused_none bytes refuses = go (read_bundle bytes) refuses
   where
-    go : (b : Option Bundle) → opened_by b (header_in bytes) ≡ Refused → b ≡ none
-    go none e = refl
-    go (some b) e = absurd (let z : ◌≡◌ {A = ℕ} 0 1 = cc in omega arith)
+    go : (b : Option Bundle) → opened_by b (header_in bytes) ≡ None → b ≡ None
+    go None e = refl
+    go (Some b) e = absurd (let z : ◌≡◌ {A = ℕ} 0 1 = cc in omega arith)
 
 -- compile leaves words past the written ones, and all of them where it refuses
 pub record Leaves (code : List ℕ) (o : CompileOutcome) : Type 0 where
@@ -61,8 +58,8 @@ unfolding compile
 compile_leaves create pattern kinds objects named code = by (first (refusals create pattern kinds objects named))
   where
     by : (o : Option Compiled) → Leaves code (compile_by create pattern kinds objects named o code)
-    by (some answer) = record { past = refl; refuses = λ _. refl }
-    by none = finished_leaves (emitted create pattern kinds objects named) code
+    by (Some answer) = record { past = refl; refuses = λ _. refl }
+    by None = finished_leaves (emitted create pattern kinds objects named) code
 
 -- how a run ended, with its cells and rows
 pub ended_is : {ended : Ended} {o : RunOutcome} {objects messages rows : List ℕ}
@@ -71,40 +68,51 @@ pub ended_is : {ended : Ended} {o : RunOutcome} {objects messages rows : List �
 ended_is {ended} is counted =
     (λ i. record { answer = ended.answer; used = counted i; accumulator = ended.accumulator; counter = ended.counter }) ∙ ap ended_by is
 
+-- only the first answer has number 0
+not_zero : (answer : Compiled) → ((words : ℕ) → answer ≡ Done words → ⊥) → compiled_number answer ≡ 0 → ⊥
+not_zero (Done words) other e = other words refl
+not_zero Limit other e = omega arith
+not_zero BadStore other e = omega arith
+not_zero (BadPattern row) other e = omega arith
+not_zero (WrongKind row) other e = omega arith
+not_zero (WrittenWhileSet row) other e = omega arith
+not_zero (ReadWhileUnset row) other e = omega arith
+not_zero (CodeTooShort words) other e = omega arith
+
 -- compile refuses, or its words run
-module _ (b : Bundle) {room code : List ℕ} {answer : Compiled} {number place : ℕ} (zeros : room ≡ replicate most_code_words 0)
-    (is : record { answer = answer; code = code } ≡ compile_of b room) (number_is : number ≡ compiled_number answer)
-    (place_is : place ≡ compiled_place answer) (objects messages rows : List ℕ) where
+module _ (b : Bundle) {room code : List ℕ} {answer : Compiled} (zeros : room ≡ replicate most_code_words 0)
+    (is : record { answer = answer; code = code } ≡ compile_of b room) (objects messages rows : List ℕ) where
   compiled : record { answer = answer; code = code } ≡ compiled_from b
   compiled = rw zeros at is
 
   left : Leaves room (record { answer = answer; code = code })
   left = rw is (compile_leaves b.create b.pattern b.kinds b.objects b.named room)
 
-  pub compile_refuses : (number ≡ 0 → ⊥)
-      → record { gave = Gave.Refused number place; code = code; objects = objects; messages = messages; rows = rows }
+  pub compile_refuses : {number place : ℕ} → number ≡ compiled_number answer → place ≡ compiled_place answer → ((words : ℕ) → answer ≡ Done words → ⊥)
+      → record { gave = Err (record { number = number; place = place }); code = code; objects = objects; messages = messages; rows = rows }
       ≡ held_by (given_compiled b (compiled_from b)) room objects messages rows
-  compile_refuses other =
-      let n : compiled_number answer ≡ 0 → ⊥ = λ e. other (number_is ∙ e) in
-      let all : ◌≡◌ {A = Held} (record { gave = Gave.Refused number place; code = code; objects = objects; messages = messages; rows = rows })
+  compile_refuses {number} {place} number_is place_is other =
+      let n : compiled_number answer ≡ 0 → ⊥ = not_zero answer other in
+      let all : ◌≡◌ {A = Held} (record { gave = Err (record { number = number; place = place }); code = code; objects = objects; messages = messages; rows = rows })
       (held_by (given_compiled b (record { answer = answer; code = code })) room objects messages rows) =
       rw (ne_eqb (compiled_number answer) 0 n, given_compiled, held_by, number_is, place_is, left.refuses n) in
       all ∙ ap (λ c. held_by (given_compiled b c) room objects messages rows) compiled
 
-  pub compile_runs : {ended : Ended} {after-objects after-messages after-rows : List ℕ} → number ≡ 0 → place ≤ length code
+  pub compile_runs : {place : ℕ} {ended : Ended} {after-objects after-messages after-rows : List ℕ} → answer ≡ Done place → place ≤ length code
       → record { answer = ended.answer; objects = after-objects; messages = after-messages; accumulator = ended.accumulator; terms = after-rows; counter = ended.counter }
       ≡ run (lent_to b) (take place code)
       → ended.used ≡ used_rows after-rows
-      → record { gave = Gave.Ran place ended; code = code; objects = after-objects; messages = after-messages; rows = after-rows }
+      → record { gave = Ok (place, ended); code = code; objects = after-objects; messages = after-messages; rows = after-rows }
       ≡ held_by (given_compiled b (compiled_from b)) room objects messages rows
-  compile_runs {ended} {after-objects} {after-messages} {after-rows} done fits ends counted =
+  compile_runs {place} {ended} {after-objects} {after-messages} {after-rows} done fits ends counted =
+      let place_is : place ≡ compiled_place answer = sym (ap compiled_place done) in
       let o = run (lent_to b) (take place code) in
       let whole : code ≡ take place code ++ drop place room =
       sym (take-append-drop place code) ∙ ap (λ rest. take place code ++ rest) (rw (← place_is) at left.past) in
       let words : place ≡ length (take place code) = sym (length-take-le place code fits) in
-      let all : ◌≡◌ {A = Held} (record { gave = Gave.Ran place ended; code = code; objects = after-objects; messages = after-messages; rows = after-rows })
+      let all : ◌≡◌ {A = Held} (record { gave = Ok (place, ended); code = code; objects = after-objects; messages = after-messages; rows = after-rows })
       (record {
-        gave = Gave.Ran (length (take place code)) (ended_by o);
+        gave = Ok (length (take place code), ended_by o);
         code = take place code ++ drop (length (take place code)) room;
         objects =
             o.objects;
@@ -112,7 +120,7 @@ module _ (b : Bundle) {room code : List ℕ} {answer : Compiled} {number place :
         rows = o.terms;
       }) =
       λ i. record {
-        gave = Gave.Ran (words i) (ended_is ends counted i);
+        gave = Ok (words i, ended_is ends counted i);
         code = (whole ∙ ap (λ n. take place code ++ drop n room) words) i;
         objects = (ends i).objects;
         messages = (ends i).messages;
@@ -120,33 +128,33 @@ module _ (b : Bundle) {room code : List ℕ} {answer : Compiled} {number place :
       } in
       let words_are : used_part (compiled_place answer) code ≡ take place code = ap (λ n. used_part n code) (sym place_is) ∙ part_fits place code fits in
       let given_is : ◌≡◌ {A = Given} (given_compiled b (record { answer = answer; code = code })) (ran (take place code) o) =
-      rw (eq-eqb (compiled_number answer) 0 (sym number_is ∙ done), given_compiled) (ap (λ w. ran w (run (lent_to b) w)) words_are) in
+      rw (eq-eqb (compiled_number answer) 0 (ap compiled_number done), given_compiled) (ap (λ w. ran w (run (lent_to b) w)) words_are) in
       all ∙ ap (λ g. held_by g room objects messages rows) (sym given_is) ∙ ap (λ c. held_by (given_compiled b c) room objects messages rows) compiled
 
 -- a spare certificate bit is set, or none is
 module _ (bytes : List ℕ) {certificates : List ℕ} {clear : Bool} (are : certificates ≡ (bundle_in bytes).certificates) (is : clear ≡ clear_of certificates) where
   pub spare_set : (code objects messages rows : List ℕ) → not clear ≡ true
-      → record { gave = Gave.Refused 3 0; code = code; objects = objects; messages = messages; rows = rows }
-      ≡ held_by (given_read (some (bundle_in bytes))) code objects messages rows
+      → record { gave = Err (record { number = 3; place = 0 }); code = code; objects = objects; messages = messages; rows = rows }
+      ≡ held_by (given_read (Some (bundle_in bytes))) code objects messages rows
   spare_set code objects messages rows bad =
       let set : clear_of (bundle_in bytes).certificates ≡ false = ap clear_of (sym are) ∙ sym is ∙ not-true clear bad in
       rw (set, given_read)
 
   pub spare_clear : {held : Held} (code objects messages rows : List ℕ) → not clear ≡ false
       → held ≡ held_by (given_compiled (bundle_in bytes) (compiled_from (bundle_in bytes))) code objects messages rows
-      → held ≡ held_by (given_read (some (bundle_in bytes))) code objects messages rows
+      → held ≡ held_by (given_read (Some (bundle_in bytes))) code objects messages rows
   spare_clear code objects messages rows fine gives =
-      let none : clear_of (bundle_in bytes).certificates ≡ true = ap clear_of (sym are) ∙ sym is ∙ not-false clear fine in
-      rw (none, given_read) gives
+      let spares : clear_of (bundle_in bytes).certificates ≡ true = ap clear_of (sym are) ∙ sym is ∙ not-false clear fine in
+      rw (spares, given_read) gives
 
 -- no bundle, or what one gives
-pub not_opened : (bytes code objects messages rows : List ℕ) → opened bytes ≡ Refused
-    → record { gave = Gave.Refused 1 0; code = code; objects = objects; messages = messages; rows = rows } ≡ held_by (given_by bytes) code objects messages rows
+pub not_opened : (bytes code objects messages rows : List ℕ) → opened bytes ≡ None
+    → record { gave = Err (record { number = 1; place = 0 }); code = code; objects = objects; messages = messages; rows = rows } ≡ held_by (given_by bytes) code objects messages rows
 unfolding given_by
 not_opened bytes code objects messages rows refuses = rw (refused_none bytes refuses)
 
-pub is_opened : (bytes : List ℕ) (header : Header) {held : Held} (code objects messages rows : List ℕ) → opened bytes ≡ Is header
-    → held ≡ held_by (given_read (some (bundle_in bytes))) code objects messages rows → held ≡ held_by (given_by bytes) code objects messages rows
+pub is_opened : (bytes : List ℕ) (header : Header) {held : Held} (code objects messages rows : List ℕ) → opened bytes ≡ Some header
+    → held ≡ held_by (given_read (Some (bundle_in bytes))) code objects messages rows → held ≡ held_by (given_by bytes) code objects messages rows
 unfolding given_by
 is_opened bytes header code objects messages rows opens gives = rw (opened_is bytes header opens).bundle gives
 
@@ -154,19 +162,28 @@ pub long_room : {room : List ℕ} → room ≡ replicate most_code_words 0 → l
 long_room is = ap length is ∙ length-replicate {A = ℕ} most_code_words 0
 
 -- compiled words fit the slice that is lent
-module _ (bytes : List ℕ) (header : Header) (opens : opened bytes ≡ Is header) where
+module _ (bytes : List ℕ) (header : Header) (opens : opened bytes ≡ Some header) where
   abbrev b : Bundle
   b = bundle_in bytes
 
-  pub few_words : (code : List ℕ) {answer : Compiled} {after : List ℕ} {number place : ℕ}
-      → record { answer = answer; code = after } ≡ compile_of b code → number ≡ compiled_number answer
-      → place ≡ compiled_place answer → number ≡ 0 → place ≤ 767
-  few_words code {answer} is number_is place_is done = rw place_is (go answer (sym (ap (λ o. o.answer) is)) (sym number_is ∙ done))
+  pub few_words : (code : List ℕ) {words : ℕ} → (compile_of b code).answer ≡ Done words → words ≤ 767
+  few_words code {words} e =
+      let w = compile_writes b.create b.pattern b.kinds b.objects b.named (lengths bytes header opens).kinds code words e in
+      omega (arith, w.compiles.counts, w.limits.words)
+
+  -- in the slice that they were written to, and for run
+  pub words_fit : {room after : List ℕ} {answer : Compiled} {words : ℕ} → room ≡ replicate most_code_words 0 → length after ≡ length room
+      → record { answer = answer; code = after } ≡ compile_of b room → answer ≡ Done words
+      → (words ≤ length after) × (length (take words after) ≤ most_code_words)
+  words_fit {room} {after} {answer} {words} zeros long is done =
+      let few : words ≤ 767 = few_words room (sym (ap (λ o. o.answer) is) ∙ done) in
+      (omega (arith, few, long, long_room zeros), omega (arith, few, length-take words after))
+
+  pub few_place : (code : List ℕ) → compiled_number (compile_of b code).answer ≡ 0 → compiled_place (compile_of b code).answer ≤ 767
+  few_place code done = go (compile_of b code).answer refl done
     where
       go : (answer : Compiled) → (compile_of b code).answer ≡ answer → compiled_number answer ≡ 0 → compiled_place answer ≤ 767
-      go (Done words) e d =
-          let w = compile_writes b.create b.pattern b.kinds b.objects b.named (lengths bytes header opens).kinds code words e in
-          omega (arith, w.compiles.counts, w.limits.words)
+      go (Done words) e d = few_words code e
       go Limit e d = omega arith
       go BadStore e d = omega arith
       go (BadPattern row) e d = absurd (omega arith)

@@ -2,7 +2,7 @@
 use Prim.Native.Nat.{ℕ, ◌<◌, ◌≤◌}
 use mathlib.Core.Path.{◌≡◌, refl, sym, ◌∙◌}
 use mathlib.Core.Bool.{Bool, true, false}
-use mathlib.Core.Option.{Option, none, some}
+use Rattle.std.specs.Prelude.{Option, None, Some}
 use mathlib.Core.List.{List, [], ◌∷◌, ◌++◌}
 use native.Mathlib.Nat.{zero-add}
 use native.Mathlib.Decide.{dec_le}
@@ -18,8 +18,6 @@ use Rattle.answers.specs.Numbers.{compiled_number, compiled_place}
 use Rattle.answers.specs.declared.Ran.{Ran}
 use Rattle.bundles.specs.Opening.{bundle_in, opened}
 use Rattle.bundles.specs.declared.Header.{Header}
-use Rattle.bundles.specs.declared.Opened.{Opened}
-use Rattle.bundles.specs.declared.Opened.TheVariants.{Refused, Is}
 use Rattle.bundles.proofs.OpeningLaws.{refuses, opened_is}
 use Rattle.bundles.proofs.BundleLaws.{lengths}
 use Rattle.printing.proofs.RanLaws.{ran_length}
@@ -36,7 +34,7 @@ use Rattle.bundles.specs.Given.{Given, refused, ran, lent_to, compiled_from, giv
 use Rattle.printing.specs.Listing.{refused_word, refused_line, given_lines, listing}
 use Rattle.calls.proofs.CompileLaws.{part_length}
 use Rattle.calls.proofs.ValidAgain.{length_cells}
-use Rattle.outcomes.proofs.GivenLaws.{few_words, refused_none}
+use Rattle.outcomes.proofs.GivenLaws.{few_place, refused_none}
 
 run_objects : (x : Lent) (code : List ℕ) → length x.objects ≡ 64 → length (run x code).objects ≡ 64
 unfolding run left_by
@@ -48,13 +46,13 @@ run_objects x code long = by (first (refusals x code))
     after (room place) = long
 
     by : (o : Option Ran) → length (run_by x code o).objects ≡ 64
-    by (some answer) = long
-    by none = after (exec row_world (kind_in x.kinds) (lines_of code) (state_of x))
+    by (Some answer) = long
+    by None = after (exec row_world (kind_in x.kinds) (lines_of code) (state_of x))
 
 pub refused_short : (number place : ℕ) → length (refused_line number place) ≤ 65536
 refused_short number place = omega (arith, word_line_most refused_word (number ∷ place ∷ []))
 
-compiled_short : (bytes : List ℕ) (header : Header) → opened bytes ≡ Is header → (c : CompileOutcome)
+compiled_short : (bytes : List ℕ) (header : Header) → opened bytes ≡ Some header → (c : CompileOutcome)
     → (compiled_number c.answer ≡ 0 → compiled_place c.answer ≤ 767) → length (given_lines (given_compiled (bundle_in bytes) c)) ≤ 65536
 compiled_short bytes header opens c few = go (eqb (compiled_number c.answer) 0) (eqb-true (compiled_number c.answer) 0)
   where
@@ -77,9 +75,9 @@ pub listing_short : (bytes : List ℕ) → length (listing bytes) ≤ 65536
 unfolding listing given_by
 listing_short bytes = by (opened bytes) refl
   where
-    by : (o : Opened) → opened bytes ≡ o → length (given_lines (given_read (read_bundle bytes))) ≤ 65536
-    by Refused e = rw (refused_none bytes e) (refused_short 1 0)
-    by (Is header) e = rw (opened_is bytes header e).bundle (go (certificates_clear b))
+    by : (o : Option Header) → opened bytes ≡ o → length (given_lines (given_read (read_bundle bytes))) ≤ 65536
+    by None e = rw (refused_none bytes e) (refused_short 1 0)
+    by (Some header) e = rw (opened_is bytes header e).bundle (go (certificates_clear b))
       where
         b : Bundle
         b = bundle_in bytes
@@ -88,7 +86,7 @@ listing_short bytes = by (opened bytes) refl
         compiled = compiled_from b
 
         go : (clear : Bool) → length (given_lines (elim clear as (λ _. Given) [ true ↦ given_compiled b compiled | false ↦ refused 3 0 ])) ≤ 65536
-        go true = compiled_short bytes header e compiled (few_words bytes header e (replicate most_code_words 0) refl refl refl)
+        go true = compiled_short bytes header e compiled (few_place bytes header e (replicate most_code_words 0))
         go false = refused_short 3 0
 
 -- in a buffer of that length, the first bytes are the listing, and the others are as they were

@@ -7,7 +7,7 @@ use lib.ListN.{length, take, drop, replicate, drop_of_length-le, length-take, le
 use lib.Seq.{take_at}
 use Rattle.bundles.specs.Opening.{bundle_in, opened}
 use Rattle.bundles.specs.declared.Header.{Header}
-use Rattle.bundles.specs.declared.Opened.TheVariants.{Is}
+use Rattle.std.specs.Prelude.{Some}
 use Rattle.bundles.proofs.BundleLaws.{fields, lengths}
 use Rattle.stores.specs.Cells.{unset}
 use Rattle.calls.specs.Compile.{CompileOutcome, compile}
@@ -25,7 +25,7 @@ use Rattle.bundles.specs.Given.{lent_to, compile_of}
 pub whole : {array part : List ℕ} → array ≡ part ++ [] → array ≡ part
 whole is = rw append-nil at is
 
-module _ (bytes : List ℕ) {header : Header} (opens : opened bytes ≡ Is header) where
+module _ (bytes : List ℕ) {header : Header} (opens : opened bytes ≡ Some header) where
   pub pattern_front : {rows : List ℕ} (rest : List ℕ) → rows ≡ (bundle_in bytes).pattern ++ rest → take header.pattern_rows rows ≡ (bundle_in bytes).pattern
   pattern_front rest is = rw is (take_at (bundle_in bytes).pattern rest header.pattern_rows (lengths bytes header opens).pattern)
 
@@ -69,7 +69,7 @@ module _ (bytes : List ℕ) {header : Header} (opens : opened bytes ≡ Is heade
       ran ∙ rw (kinds-are, objects-are, messages-are, certificates-are, terms-are, ← f.accumulator, ← f.counter)
 
 -- what is lent to a bundle's run is within the limits, so that its used rows come back
-module _ (bytes : List ℕ) {header : Header} (opens : opened bytes ≡ Is header) (code : List ℕ) (few : length code ≤ most_code_words) where
+module _ (bytes : List ℕ) {header : Header} (opens : opened bytes ≡ Some header) (code : List ℕ) (few : length code ≤ most_code_words) where
   abbrev x : Lent
   x = lent_to (bundle_in bytes)
 

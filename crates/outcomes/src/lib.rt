@@ -1,8 +1,7 @@
 // What a bundle gives: it is opened, compiled and run.
 #![tactic(auto)]
 
-ghost use Rattle.std.specs.Prelude.{◌≡◌, ◌≤◌, length, replicate};
-ghost use Rattle.std.proofs.Math.Option.{some};
+ghost use Rattle.std.specs.Prelude.{◌≡◌, ◌≤◌, length, replicate, Some};
 ghost use Rattle.terms.specs.Rules.{used_rows};
 ghost use Rattle.numbers.specs.Limits.{variables, message_cells, most_code_words, most_term_rows};
 ghost use Rattle.calls.specs.Run.{run};
@@ -11,21 +10,23 @@ ghost use Rattle.bundles.specs.Given.{lent_to, compile_of, given_read, given_by}
 ghost use Rattle.outcomes.specs.Held.{held_by};
 
 use answers::Compiled;
-use bundles::{Header, Opened};
+use bundles::Header;
+use numbers::limits::VARIABLES;
 use running::Ended;
 
 pub mod parts;
+pub mod rooms;
 
-// A refusal with its number and place, or so many words of code and how their run ended.
+// Why a bundle has no outcome.
 #[derive(Clone, Copy)]
-pub enum Gave {
-    Refused(u32, u32),
-    Ran(u32, Ended),
+pub struct Refusal {
+    pub number: u32,
+    pub place: u32,
 }
 
 // Compiles the bundle's pattern.
 fn compiled(bytes: &[u8], header: Header, code: &mut [u32]) -> Compiled
-    requires { opened bytes.now ≡ Opened.Is header }
+    requires { opened bytes.now ≡ Some header }
     ensures { record { answer = result; code = code.new } ≡ compile_of (bundle_in bytes.now) code.old }
 {
     let pattern = parts::pattern(bytes, header);
@@ -38,7 +39,7 @@ fn compiled(bytes: &[u8], header: Header, code: &mut [u32]) -> Compiled
         &pattern[..count],
         &kinds,
         &objects,
-        &messages[..64],
+        &messages[..VARIABLES],
         code,
     )
 }
@@ -52,7 +53,7 @@ fn ran(
     messages: &mut [u16],
     rows: &mut [u64],
 ) -> Ended
-    requires { (opened bytes.now ≡ Opened.Is header) × (length code.now ≤ most_code_words) × (length objects.old ≡ variables) ×
+    requires { (opened bytes.now ≡ Some header) × (length code.now ≤ most_code_words) × (length objects.old ≡ variables) ×
         (length messages.old ≡ message_cells) × (length rows.old ≡ most_term_rows) }
     ensures { (record { answer = result.answer; objects = objects.new; messages = messages.new; accumulator = result.accumulator; terms = rows.new; counter = result.counter }
         ≡ run (lent_to (bundle_in bytes.now)) code.now)
@@ -84,43 +85,48 @@ fn given_by_bundle(
     objects: &mut [u16],
     messages: &mut [u16],
     rows: &mut [u64],
-) -> Gave
-    requires { (opened bytes.now ≡ Opened.Is header) × (code.old ≡ replicate most_code_words 0) × (length objects.old ≡ variables) ×
+) -> Result<(u32, Ended), Refusal>
+    requires { (opened bytes.now ≡ Some header) × (code.old ≡ replicate most_code_words 0) × (length objects.old ≡ variables) ×
         (length messages.old ≡ message_cells) × (length rows.old ≡ most_term_rows) }
     ensures { record { gave = result; code = code.new; objects = objects.new; messages = messages.new; rows = rows.new }
-        ≡ held_by (given_read (some (bundle_in bytes.now))) code.old objects.old messages.old rows.old }
+        ≡ held_by (given_read (Some (bundle_in bytes.now))) code.old objects.old messages.old rows.old }
 {
     let pairs = parts::certificates(bytes, header);
     let count = header.certificates as usize;
     if !bundles::certificates_clear(&pairs[..count]) {
-        return Gave::Refused(3, 0);
+        return Err(Refusal {
+            number: 3,
+            place: 0,
+        });
     }
     let answer = compiled(bytes, header, code);
-    let number = answer.number();
-    let place = answer.place();
-    if number != 0 {
-        return Gave::Refused(number, place);
-    }
-    let words = place as usize;
-    let ended = ran(bytes, header, &code[..words], objects, messages, rows);
-    Gave::Ran(place, ended)
+    let Compiled::Done(words) = answer else {
+        let number = answer.number();
+        let place = answer.place();
+        return Err(Refusal { number, place });
+    };
+    let written = words as usize;
+    let ended = ran(bytes, header, &code[..written], objects, messages, rows);
+    Ok((words, ended))
 }
 
-// What any bytes give, in slices that hold every outcome.
+// What any bytes give, in slices that hold every outcome: so many words of code and how their run ended, or a refusal.
 pub fn given(
     bytes: &[u8],
     code: &mut [u32],
     objects: &mut [u16],
     messages: &mut [u16],
     rows: &mut [u64],
-) -> Gave
+) -> Result<(u32, Ended), Refusal>
     requires { (code.old ≡ replicate most_code_words 0) × (length objects.old ≡ variables) × (length messages.old ≡ message_cells) × (length rows.old ≡ most_term_rows) }
     ensures { record { gave = result; code = code.new; objects = objects.new; messages = messages.new; rows = rows.new }
         ≡ held_by (given_by bytes.now) code.old objects.old messages.old rows.old }
 {
-    let opened = bundles::open(bytes);
-    match opened {
-        Opened::Refused => Gave::Refused(1, 0),
-        Opened::Is(header) => given_by_bundle(bytes, header, code, objects, messages, rows),
-    }
+    let Some(header) = bundles::open(bytes) else {
+        return Err(Refusal {
+            number: 1,
+            place: 0,
+        });
+    };
+    given_by_bundle(bytes, header, code, objects, messages, rows)
 }

@@ -2,7 +2,7 @@
 use Prim.Native.Nat.{ℕ, suc, ◌+◌, ◌-◌, ◌<◌, ◌≤◌}
 use mathlib.Core.Path.{◌≡◌, refl, ap, ◌∙◌}
 use mathlib.Core.Bool.{Bool, true, false, not, ◌||◌}
-use mathlib.Core.Option.{none, some}
+use Rattle.std.specs.Prelude.{None, Some}
 use mathlib.Core.List.{List, [], ◌∷◌, ◌++◌, append-nil, append_assoc, flat_map}
 use native.Mathlib.Numerals.{add-one}
 use native.Mathlib.Omega.{arith}
@@ -45,7 +45,7 @@ good_none rows = record { marked = marked_none; left = refl }
 module _ (rows : List ℕ) (marks : List Bool) (place : ℕ) (good : Good rows marks place) where
   -- the root is the last row, and nobody has to name it
   module _ (past : length rows ≤ place) where
-    bad_none : lowest (bad_row rows) rows ≡ none
+    bad_none : lowest (bad_row rows) rows ≡ None
     bad_none = scan_end (bad_row rows) rows 0 place good.left past
 
     all_marked : Marked marks (children_named rows)
@@ -68,7 +68,7 @@ module _ (rows : List ℕ) (marks : List Bool) (place : ℕ) (good : Good rows m
     unfolding bad_row
     bad_here = rw (own, ap (λ (t : Taken). t.again) takes, again_all (taking marks false) (children_named (take place rows)) (children_of word) good.marked (children_below word))
 
-    pub good_stop : (not fits || again) ≡ true → bad_pattern rows ≡ some place
+    pub good_stop : (not fits || again) ≡ true → bad_pattern rows ≡ Some place
     unfolding bad_pattern
     good_stop bad = rw (scan_hit (bad_row rows) rows 0 place good.left inside (rw here (bad_here ∙ bad)))
 

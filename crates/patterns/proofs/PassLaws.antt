@@ -3,7 +3,7 @@ use Prim.Native.Nat.{ℕ, zero, suc, ◌+◌, ◌-◌, ◌<◌, ◌≤◌}
 use mathlib.Core.Path.{◌≡◌, refl, sym, ◌∙◌, ap, subst}
 use mathlib.Core.Logic.{⊎_elim}
 use mathlib.Core.Bool.{Bool, true, false, not, ◌||◌, true≢false}
-use mathlib.Core.Option.{none}
+use Rattle.std.specs.Prelude.{None}
 use mathlib.Core.List.{List, [], ◌∷◌, ◌++◌, flat_map}
 use native.Mathlib.Nat.{add-zero, add-suc}
 use native.Mathlib.Omega.{arith}
@@ -321,15 +321,15 @@ module _ (rows : List ℕ) (passes : Passes 0 rows (length rows - 1)) where
       go true e = tt
       go false e = absurd (omega (arith, passes.named place, within_here place (length rows - 1) inside, times_none place (children_named rows) e))
 
-  rows_pass : bad_pattern rows ≡ none
+  rows_pass : bad_pattern rows ≡ None
   unfolding bad_pattern
   rows_pass =
-      let bad : lowest (bad_row rows) rows ≡ none = (lowest_none (bad_row rows) 0 rows).1 row_good in
+      let bad : lowest (bad_row rows) rows ≡ None = (lowest_none (bad_row rows) 0 rows).1 row_good in
       let front = length-take-le (length rows - 1) rows (omega arith) in
-      let unowned : lowest (unnamed rows) (take (length rows - 1) rows) ≡ none = (lowest_none (unnamed rows) 0 (take (length rows - 1) rows)).1 λ place inside. row_named place _ (omega arith) in
+      let unowned : lowest (unnamed rows) (take (length rows - 1) rows) ≡ None = (lowest_none (unnamed rows) 0 (take (length rows - 1) rows)).1 λ place inside. row_named place _ (omega arith) in
       rw (bad, unowned)
 
 -- the rows of every pattern within the widths pass 4
-pub every_pattern_passes : (p : Pattern) → Fits p → bad_pattern (laid 0 p) ≡ none
+pub every_pattern_passes : (p : Pattern) → Fits p → bad_pattern (laid 0 p) ≡ None
 every_pattern_passes p fits =
     rows_pass (laid 0 p) (rw (laid_length 0 p) (laid_passes 0 p (omega (arith, fits.rows)) fits.objects fits.raws fits.packed))

@@ -4,7 +4,7 @@ use mathlib.Core.Path.{◌≡◌, refl, sym, subst, ◌∙◌}
 use mathlib.Core.Logic.Iff
 use mathlib.Core.Logic.{◌↔◌}
 use mathlib.Core.Bool.{Bool, true, false, not, ◌&&◌}
-use mathlib.Core.Option.{none, some}
+use Rattle.std.specs.Prelude.{None, Some}
 use mathlib.Core.List.{List}
 use native.Mathlib.Omega.{arith}
 use lib.ListN.{length}
@@ -103,15 +103,15 @@ module _ (create : Bool) (kind : ℕ → ℕ) (row : PatternFields) where
         (λ e. tt)
         row.tag good.tag refl
 
-module _ (create : Bool) (kind : ℕ → ℕ) (rows : List ℕ) (passed : bad_pattern rows ≡ none) where
+module _ (create : Bool) (kind : ℕ → ℕ) (rows : List ℕ) (passed : bad_pattern rows ≡ None) where
   right_says : (place : ℕ) → place < length rows → T (not (not (row_kinds create kind (fields_at rows place)))) ↔ RightRow create kind (fields_at rows place)
   right_says place inside =
       let good = all_good rows passed place inside in
       Iff.trans (twice (row_kinds create kind (fields_at rows place))) (into create kind (fields_at rows place) place good, back create kind (fields_at rows place) place good)
 
   -- 5, exactly, of rows that passed: the lowest row with a wrong kind
-  pub wrong_kind_at : (i : ℕ) → (wrong_kind create kind rows ≡ some i) ↔ LowestBad (λ place. RightRow create kind (fields_at rows place)) (length rows) i
+  pub wrong_kind_at : (i : ℕ) → (wrong_kind create kind rows ≡ Some i) ↔ LowestBad (λ place. RightRow create kind (fields_at rows place)) (length rows) i
   wrong_kind_at i = rw (wrong_rows create kind rows) (lowest_bad _ _ rows 0 right_says i)
 
-  pub wrong_kind_none : (wrong_kind create kind rows ≡ none) ↔ AllGood (λ place. RightRow create kind (fields_at rows place)) (length rows)
+  pub wrong_kind_none : (wrong_kind create kind rows ≡ None) ↔ AllGood (λ place. RightRow create kind (fields_at rows place)) (length rows)
   wrong_kind_none = rw (wrong_rows create kind rows) (none_bad _ _ rows 0 right_says)

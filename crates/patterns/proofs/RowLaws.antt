@@ -1,8 +1,10 @@
 -- The fields of any word.
 use Prim.Native.Nat.{ℕ, zero, suc, ◌<◌, min}
 use mathlib.Core.Path.{◌≡◌, refl}
+use mathlib.Core.List.{List}
 use native.Mathlib.Omega.{arith}
-use lib.ListN.{length, get_or, length-take}
+use lib.ListN.{length, get_or, take, length-take}
+use Rattle.std.proofs.lemmas.List.{take_min}
 use lib.Seq.{get_or-take}
 use Rattle.patterns.specs.Row.{pattern_fields, children_of}
 
@@ -33,3 +35,10 @@ children_count word = length-take (pattern_fields word).n (pattern_fields word).
 -- a child stands in its slot
 pub child_slot : (word slot : ℕ) → slot < length (children_of word) → get_or (children_of word) slot 0 ≡ get_or (pattern_fields word).slots slot 0
 child_slot word slot inside = get_or-take (pattern_fields word).n (pattern_fields word).slots slot 0 (omega (arith, children_count word))
+
+pub child_below : (word slot : ℕ) → slot < length (children_of word) → get_or (children_of word) slot 0 < 128
+child_below word slot inside = rw (child_slot word slot inside) (slot_below word slot)
+
+-- as many slots as there are children
+pub children_taken : (word n : ℕ) {slots : List ℕ} → slots ≡ (pattern_fields word).slots → n ≡ length (children_of word) → take n slots ≡ children_of word
+children_taken word n is count = let row = pattern_fields word in rw (is, count, length-take row.n row.slots) (take_min row.n row.slots)

@@ -3,7 +3,7 @@ use Prim.Native.Nat.{ℕ, zero, suc, ◌-◌, ◌<◌}
 use mathlib.Core.Path.{◌≡◌, refl, sym, ◌∙◌}
 use mathlib.Core.Logic.{◌↔◌, ◌⊎◌, inl, inr, ⊎_elim}
 use mathlib.Core.Bool.{Bool, true, false, not}
-use mathlib.Core.Option.{Option, none, some}
+use Rattle.std.specs.Prelude.{Option, None, Some}
 use mathlib.Core.List.{List, [], ◌∷◌, flat_map}
 use native.Mathlib.Omega.{arith}
 use lib.ListN.{length, get_or, take}
@@ -154,47 +154,47 @@ module _ (rows : List ℕ) where
   front_long = length-take-le (length rows - 1) rows (omega arith)
 
   -- the two looks: first for a bad row, then for one that nobody names
-  at_row : (i : ℕ) → (lowest (bad_row rows) rows ≡ some i) ↔ LowestWith (BadRow rows) (length rows) i
+  at_row : (i : ℕ) → (lowest (bad_row rows) rows ≡ Some i) ↔ LowestWith (BadRow rows) (length rows) i
   at_row = lowest_with (bad_row rows) (BadRow rows) rows 0 (bad_says rows)
 
-  no_row : (lowest (bad_row rows) rows ≡ none) ↔ NoneWith (BadRow rows) (length rows)
+  no_row : (lowest (bad_row rows) rows ≡ None) ↔ NoneWith (BadRow rows) (length rows)
   no_row = none_with (bad_row rows) (BadRow rows) rows 0 (bad_says rows)
 
-  at_unnamed : (i : ℕ) → (lowest (unnamed rows) front ≡ some i) ↔ LowestWith (Unnamed rows) (length rows - 1) i
+  at_unnamed : (i : ℕ) → (lowest (unnamed rows) front ≡ Some i) ↔ LowestWith (Unnamed rows) (length rows - 1) i
   at_unnamed i = rw front_long at (lowest_with (unnamed rows) (Unnamed rows) front 0 (λ place _. unnamed_says place (get_or front place 0)) i)
 
-  no_unnamed : (lowest (unnamed rows) front ≡ none) ↔ NoneWith (Unnamed rows) (length rows - 1)
+  no_unnamed : (lowest (unnamed rows) front ≡ None) ↔ NoneWith (Unnamed rows) (length rows - 1)
   no_unnamed = rw front_long at (none_with (unnamed rows) (Unnamed rows) front 0 λ place _. unnamed_says place (get_or front place 0))
 
-  first : (i : ℕ) → lowest (bad_row rows) rows ≡ some i → bad_pattern rows ≡ some i
+  first : (i : ℕ) → lowest (bad_row rows) rows ≡ Some i → bad_pattern rows ≡ Some i
   unfolding bad_pattern
   first i e = rw e
 
-  second : lowest (bad_row rows) rows ≡ none → bad_pattern rows ≡ lowest (unnamed rows) front
+  second : lowest (bad_row rows) rows ≡ None → bad_pattern rows ≡ lowest (unnamed rows) front
   unfolding bad_pattern front
   second e = rw e
 
   -- 4, exactly: the lowest row bad in itself or naming a child already taken, else the lowest row nobody names
   pub bad_pattern_at : (i : ℕ)
-      → (bad_pattern rows ≡ some i)
+      → (bad_pattern rows ≡ Some i)
       ↔ (LowestWith (BadRow rows) (length rows) i ⊎ (NoneWith (BadRow rows) (length rows) × LowestWith (Unnamed rows) (length rows - 1) i))
   bad_pattern_at i = (
     λ e. into (lowest (bad_row rows) rows) refl e,
     ⊎_elim (λ low. first i ((at_row i).1 low)) (λ low. second (no_row.1 low.0) ∙ (at_unnamed i).1 low.1),
   )
     where
-      into : (o : Option ℕ) → lowest (bad_row rows) rows ≡ o → bad_pattern rows ≡ some i
+      into : (o : Option ℕ) → lowest (bad_row rows) rows ≡ o → bad_pattern rows ≡ Some i
           → LowestWith (BadRow rows) (length rows) i ⊎ (NoneWith (BadRow rows) (length rows) × LowestWith (Unnamed rows) (length rows - 1) i)
-      into none e h = inr (no_row.0 e, (at_unnamed i).0 (sym (second e) ∙ h))
-      into (some j) e h = let same : some j ≡ some i = sym (first j e) ∙ h in inl ((at_row i).0 (e ∙ same))
+      into None e h = inr (no_row.0 e, (at_unnamed i).0 (sym (second e) ∙ h))
+      into (Some j) e h = let same : Some j ≡ Some i = sym (first j e) ∙ h in inl ((at_row i).0 (e ∙ same))
 
   -- a pattern passes exactly where no row is so
-  pub bad_pattern_none : (bad_pattern rows ≡ none) ↔ (NoneWith (BadRow rows) (length rows) × NoneWith (Unnamed rows) (length rows - 1))
+  pub bad_pattern_none : (bad_pattern rows ≡ None) ↔ (NoneWith (BadRow rows) (length rows) × NoneWith (Unnamed rows) (length rows - 1))
   bad_pattern_none = (λ e. into (lowest (bad_row rows) rows) refl e, λ h. second (no_row.1 h.0) ∙ no_unnamed.1 h.1)
     where
-      into : (o : Option ℕ) → lowest (bad_row rows) rows ≡ o → bad_pattern rows ≡ none → NoneWith (BadRow rows) (length rows) × NoneWith (Unnamed rows) (length rows - 1)
-      into none e h = (no_row.0 e, no_unnamed.0 (sym (second e) ∙ h))
-      into (some j) e h = let clash : some j ≡ none = sym (first j e) ∙ h in let z : ◌≡◌ {A = ℕ} 0 1 = cc in absurd (omega arith)
+      into : (o : Option ℕ) → lowest (bad_row rows) rows ≡ o → bad_pattern rows ≡ None → NoneWith (BadRow rows) (length rows) × NoneWith (Unnamed rows) (length rows - 1)
+      into None e h = (no_row.0 e, no_unnamed.0 (sym (second e) ∙ h))
+      into (Some j) e h = let clash : Some j ≡ None = sym (first j e) ∙ h in let z : ◌≡◌ {A = ℕ} 0 1 = cc in absurd (omega arith)
 
 -- a row is a child exactly once
 pub record ChildOnce (rows : List ℕ) (row : ℕ) : Type 0 where
@@ -204,7 +204,7 @@ pub record ChildOnce (rows : List ℕ) (row : ℕ) : Type 0 where
   pub only : (other place : ℕ) → NamesChild rows other place row → (other ≡ owner) × (place ≡ slot)
 
 -- what a pattern that passes says of its rows
-module _ (rows : List ℕ) (passed : bad_pattern rows ≡ none) where
+module _ (rows : List ℕ) (passed : bad_pattern rows ≡ None) where
   no_bad : NoneWith (BadRow rows) (length rows)
   no_bad = ((bad_pattern_none rows).0 passed).0
 
@@ -227,7 +227,7 @@ module _ (rows : List ℕ) (passed : bad_pattern rows ≡ none) where
   pub all_named : (row : ℕ) → row < length rows - 1 → one_of (children_named rows) row ≡ true
   all_named row inside = go (one_of (children_named rows) row) refl
     where
-      go : (some : Bool) → one_of (children_named rows) row ≡ some → some ≡ true
+      go : (held : Bool) → one_of (children_named rows) row ≡ held → held ≡ true
       go true e = refl
       go false e = absurd (((bad_pattern_none rows).0 passed).1 row inside λ owner slot n. rw e at ((named_says rows row).1 (owner, slot, n)))
 

@@ -1,48 +1,17 @@
--- Tests of the four slots of a row, slot by slot.
-use Prim.Native.Nat.{ℕ, zero, suc}
-use mathlib.Core.Path.{◌≡◌, refl, sym, ap, ◌∙◌}
-use mathlib.Core.Bool.{Bool, true, false, ◌&&◌, ◌||◌}
+-- The four slots of a row.
+use Prim.Native.Nat.{ℕ, suc, ◌+◌, ◌-◌, ◌<◌, ◌≤◌, max}
+use mathlib.Core.Path.{◌≡◌, sym, ◌∙◌}
+use mathlib.Core.Bool.{Bool, ◌&&◌, ◌||◌, and_assoc, and-true}
 use mathlib.Core.List.{List, [], ◌∷◌}
+use native.Mathlib.Decide.{dec_lt}
+use native.Mathlib.Numerals.{add-one}
 use native.Mathlib.Omega.{arith}
-use borrow.Author.Tests.{lt-ltb, lt-leb}
-use lib.ListN.{length, get_or, take, drop}
-use lib.Seq.{take-nil, drop-nil}
-use lib.Dec.{leb, ltb}
+use borrow.Author.Tests.{lt-ltb, le-ltb, lt-leb, le-leb}
+use lib.ListN.{length, get_or, take, drop, drop_of_length-le}
+use lib.Seq.{drop-cons, take-nil}
+use lib.Dec.{ltb, leb}
 use Rattle.word.specs.Lowest.{each}
-use Rattle.word.proofs.ScanLaws.{each_none, each_more}
-
--- four tests, as a list ends
-all_four : (p q r s : Bool) → (p && q && r && s) ≡ (p && (q && (r && (s && true))))
-all_four false q r s = refl
-all_four true false r s = refl
-all_four true true false s = refl
-all_four true true true false = refl
-all_four true true true true = refl
-
-module _ (test : ℕ → Bool) where
-  each_four : (a b c d : ℕ) (rest : List ℕ) → each test (a ∷ b ∷ c ∷ d ∷ rest) ≡ (test a && (test b && (test c && (test d && each test rest))))
-  each_four a b c d rest = simp each_more
-
-module _ (test : ℕ → Bool) (a b c d : ℕ) where
-  front : (n : ℕ) → ((leb n 0 || test a) && ((leb n 1 || test b) && ((leb n 2 || test c) && ((leb n 3 || test d) && true)))) ≡ each test (take n (a ∷ b ∷ c ∷ d ∷ []))
-  front zero = simp each_none
-  front (suc zero) = simp (each_more, each_none)
-  front (suc (suc zero)) = simp (each_more, each_none)
-  front (suc (suc (suc zero))) = simp (each_more, each_none)
-  front (suc (suc (suc (suc n)))) =
-      let m = suc (suc (suc (suc n))) in
-      simp (lt-leb m 0 (omega arith), lt-leb m 1 (omega arith), lt-leb m 2 (omega arith), lt-leb m 3 (omega arith))
-      (sym (each_four test a b c d (take n []) ∙ rw (take-nil n, each_none test)))
-
-  back : (n : ℕ) → ((ltb 0 n || test a) && ((ltb 1 n || test b) && ((ltb 2 n || test c) && ((ltb 3 n || test d) && true)))) ≡ each test (drop n (a ∷ b ∷ c ∷ d ∷ []))
-  back zero = simp (each_more, each_none)
-  back (suc zero) = simp (each_more, each_none)
-  back (suc (suc zero)) = simp (each_more, each_none)
-  back (suc (suc (suc zero))) = simp (each_more, each_none)
-  back (suc (suc (suc (suc n)))) =
-      let m = suc (suc (suc (suc n))) in
-      simp (lt-ltb 0 m (omega arith), lt-ltb 1 m (omega arith), lt-ltb 2 m (omega arith), lt-ltb 3 m (omega arith))
-      (sym (ap (each test) (drop-nil n) ∙ each_none test))
+use Rattle.word.proofs.ScanLaws.{each_none, each_more, each_gather}
 
 -- what holds of any four numbers holds of a list of four
 pub four : (P : List ℕ → Type 0) → ((a b c d : ℕ) → P (a ∷ b ∷ c ∷ d ∷ [])) → (slots : List ℕ) → length slots ≡ 4 → P slots
@@ -53,14 +22,44 @@ four P h (a ∷ b ∷ c ∷ []) l = absurd (omega arith)
 four P h (a ∷ b ∷ c ∷ d ∷ []) l = h a b c d
 four P h (a ∷ b ∷ c ∷ d ∷ e ∷ rest) l = absurd (omega arith)
 
-module _ (test : ℕ → Bool) (n : ℕ) where
-  -- the first n slots, and the others
-  pub front_slots : (slots : List ℕ) → length slots ≡ 4
-      → ((leb n 0 || test (get_or slots 0 0)) && (leb n 1 || test (get_or slots 1 0)) && (leb n 2 || test (get_or slots 2 0)) && (leb n 3 || test (get_or slots 3 0)))
-      ≡ each test (take n slots)
-  front_slots = four _ λ a b c d. all_four (leb n 0 || test a) (leb n 1 || test b) (leb n 2 || test c) (leb n 3 || test d) ∙ front test a b c d n
+-- a loop over all slots that tests those past the first n
+module _ (test : ℕ → Bool) (n : ℕ) (slots : List ℕ) (gathered : Bool) (i : ℕ) (left : each test (drop n slots) ≡ (gathered && each test (drop (max n i) slots))) where
+  pub back_more : i < length slots → each test (drop n slots) ≡ ((gathered && (ltb i n || test (get_or slots i 0))) && each test (drop (max n (i + 1)) slots))
+  back_more inside = go (dec_lt i n)
+    where
+      go : Dec (i < n) → each test (drop n slots) ≡ ((gathered && (ltb i n || test (get_or slots i 0))) && each test (drop (max n (i + 1)) slots))
+      go (yes before) =
+          let here : max n i ≡ n = omega arith in
+          let next : max n (i + 1) ≡ n = omega arith in
+          rw (lt-ltb i n before, next, and-true gathered) (rw here at left)
+      go (no past) =
+          let here : max n i ≡ i = omega arith in
+          let next : max n (i + 1) ≡ i + 1 = omega arith in
+          rw (le-ltb i n (omega arith), next) (each_gather test _ gathered slots 0 i (rw here at left) inside)
 
-  pub back_slots : (slots : List ℕ) → length slots ≡ 4
-      → ((ltb 0 n || test (get_or slots 0 0)) && (ltb 1 n || test (get_or slots 1 0)) && (ltb 2 n || test (get_or slots 2 0)) && (ltb 3 n || test (get_or slots 3 0)))
-      ≡ each test (drop n slots)
-  back_slots = four _ λ a b c d. all_four (ltb 0 n || test a) (ltb 1 n || test b) (ltb 2 n || test c) (ltb 3 n || test d) ∙ back test a b c d n
+  pub back_all : length slots ≤ i → gathered ≡ each test (drop n slots)
+  back_all past =
+      let end : drop (max n i) slots ≡ [] = drop_of_length-le slots {i = max n i} (omega arith) in
+      sym (left ∙ rw (end, each_none) (and-true gathered))
+
+-- and one that tests the first n
+module _ (test : ℕ → Bool) (n : ℕ) (slots : List ℕ) (gathered : Bool) (i : ℕ) (left : each test (take n slots) ≡ (gathered && each test (take (n - i) (drop i slots)))) where
+  pub front_more : i < length slots → each test (take n slots) ≡ ((gathered && (leb n i || test (get_or slots i 0))) && each test (take (n - (i + 1)) (drop (i + 1) slots)))
+  front_more inside = go (dec_lt i n)
+    where
+      go : Dec (i < n) → each test (take n slots) ≡ ((gathered && (leb n i || test (get_or slots i 0))) && each test (take (n - (i + 1)) (drop (i + 1) slots)))
+      go (yes before) =
+          let more : n - i ≡ suc (n - (i + 1)) = omega arith in
+          rw (lt-leb n i before)
+          (left
+          ∙ rw (more, drop-cons slots i 0, each_more, add-one)
+          (sym (and_assoc gathered (test (get_or slots i 0)) (each test (take (n - suc i) (drop (suc i) slots))))))
+      go (no past) =
+          let here : n - i ≡ 0 = omega arith in
+          let next : n - (i + 1) ≡ 0 = omega arith in
+          rw (le-leb n i (omega arith), next, and-true gathered) (rw here at left)
+
+  pub front_all : length slots ≤ i → gathered ≡ each test (take n slots)
+  front_all past =
+      let end : drop i slots ≡ [] = drop_of_length-le slots {i = i} past in
+      sym (left ∙ rw (end, take-nil, each_none) (and-true gathered))

@@ -3,7 +3,7 @@ use Prim.Native.Nat.{ℕ, zero, suc, ◌+◌, ◌-◌, ◌<◌, ◌≤◌}
 use mathlib.Core.Path.{◌≡◌, refl, ◌∙◌, ap, ap₂, subst}
 use mathlib.Core.Logic.{⊎_elim}
 use mathlib.Core.Bool.{Bool, not}
-use mathlib.Core.Option.{none}
+use Rattle.std.specs.Prelude.{None}
 use mathlib.Core.List.{List, [], ◌∷◌, flat_map}
 use native.Mathlib.Nat.{le_refl}
 use native.Mathlib.Omega.{arith}
@@ -115,7 +115,7 @@ module _ (place word : ℕ) (good : GoodRow place (pattern_fields word)) where
       (λ e h. (under _ (child_before 0 (omega (arith, two_children e))), under _ (child_before 1 (omega (arith, two_children e)))))
       row.tag good.tag refl own
 
-module _ (rows : List ℕ) (passed : bad_pattern rows ≡ none) where
+module _ (rows : List ℕ) (passed : bad_pattern rows ≡ None) where
   abbrev at : ℕ → Pattern
   at = pattern_at (patterns_of rows)
 
@@ -175,7 +175,7 @@ module _ (rows : List ℕ) (passed : bad_pattern rows ≡ none) where
       omega arith
 
   -- no form of a pattern without a wrong kind has one
-  pub right_kinds : (create : Bool) (kind : ℕ → ℕ) → 1 ≤ length rows → wrong_kind create kind rows ≡ none → RightKinds create kind (pattern_of rows)
+  pub right_kinds : (create : Bool) (kind : ℕ → ℕ) → 1 ≤ length rows → wrong_kind create kind rows ≡ None → RightKinds create kind (pattern_of rows)
   unfolding pattern_of wrong_kind
   right_kinds create kind some right = from_below (λ place. place < length rows → RightKinds create kind (at place)) row_right (length rows - 1) (omega arith)
     where

@@ -1,6 +1,6 @@
 -- Kinds in a pattern: refusal 5.
 use Rattle.std.specs.Prelude.{ℕ, Bool, true, false, not, ◌&&◌, List, [], ◌∷◌, eqb, leb, T}
-use Rattle.std.proofs.Math.Option.{Option}
+use Rattle.std.specs.Prelude.{Option}
 use Rattle.numbers.specs.Kinds.{byte_kind, agent_kind, public_key, private_key, shared_key, encryption_kind, signature_kind, hash_kind, tuple_kind}
 use Rattle.word.specs.Lowest.{lowest, one_of}
 use Rattle.patterns.specs.Pattern.{Key, plain_key, op_key, certified_key, Pattern, object, raw, constant, opposite, key_of, encryption, signature, hash, tuple, let_in, Parts, end, part}

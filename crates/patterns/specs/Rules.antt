@@ -1,6 +1,6 @@
 -- Bad pattern rows: refusal 4.
 use Rattle.std.specs.Prelude.{ℕ, ◌-◌, Bool, true, false, not, ◌&&◌, ◌||◌, length, get_or, take, drop, eqb, leb, ltb}
-use Rattle.std.proofs.Math.Option.{Option, none, some}
+use Rattle.std.specs.Prelude.{Option, None, Some}
 use mathlib.Core.List.{List, [], ◌∷◌, flat_map}
 use Rattle.numbers.specs.Limits.{most_parts}
 use Rattle.word.specs.Lowest.{lowest, each, one_of}
@@ -79,8 +79,8 @@ unfoldable pub unnamed : List ℕ → ℕ → ℕ → Bool
 unnamed rows place word = not (one_of (children_named rows) place)
 
 abbrev or_else : Option ℕ → Option ℕ → Option ℕ
-or_else (some row) other = some row
-or_else none other = other
+or_else (Some row) other = Some row
+or_else None other = other
 
 -- 4: the lowest row bad in itself or naming a child already taken, else the lowest row nobody names
 unfoldable pub bad_pattern : List ℕ → Option ℕ

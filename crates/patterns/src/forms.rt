@@ -1,4 +1,5 @@
 // The forms of figure 1, which are the tags of pattern rows.
+// They stay numbers: a tag is a 4-bit field of a word that C lends, whose other values are refused one by one, and document 01 speaks of their numbers.
 pub const OBJECT_VARIABLE: u8 = 0;
 
 pub const RAW_VARIABLE: u8 = 1;

@@ -15,7 +15,7 @@ use stores::cells::UNSET;
 pub fn refused(out: &mut [u8], number: u32, place: u32) -> usize
     ensures { Wrote (refused_line number place) out.old 0 out.new result }
 {
-    text::put_word_line(out, 0, b"refused", [number, place, 0, 0, 0, 0], 2)
+    text::put_word_line(out, 0, b"refused", &[number, place])
 }
 
 // Place, operation, A, B, n.
@@ -27,7 +27,7 @@ fn code_line(out: &mut [u8], at: usize, place: usize, word: u32) -> usize
     let a = word / fields::A % fields::OPERANDS;
     let b = word / fields::B % fields::OPERANDS;
     let n = word / fields::N % fields::COUNTS;
-    text::put_line(out, at, [place as u32, operation, a, b, n, 0], 5)
+    text::put_line(out, at, &[place as u32, operation, a, b, n])
 }
 
 pub fn code_lines(out: &mut [u8], code: &[u32]) -> usize
@@ -35,8 +35,8 @@ pub fn code_lines(out: &mut [u8], code: &[u32]) -> usize
     ensures { Wrote (code_lines 0 code.now) out.old 0 out.new result }
 {
     let mut next: usize = 0;
-    for place in 0..code.len() {
-        next = code_line(out, next, place, code[place]);
+    for (place, &word) in code.iter().enumerate() {
+        next = code_line(out, next, place, word);
     }
     next
 }
@@ -49,7 +49,7 @@ fn cell_line(out: &mut [u8], at: usize, word: &[u8], number: usize, cell: u16) -
     if cell == UNSET {
         return at;
     }
-    text::put_word_line(out, at, word, [number as u32, cell as u32, 0, 0, 0, 0], 2)
+    text::put_word_line(out, at, word, &[number as u32, cell as u32])
 }
 
 fn cell_lines(out: &mut [u8], at: usize, word: &[u8], cells: &[u16]) -> usize
@@ -57,8 +57,8 @@ fn cell_lines(out: &mut [u8], at: usize, word: &[u8], cells: &[u16]) -> usize
     ensures { Wrote (cell_lines word.now 0 cells.now) out.old at out.new result }
 {
     let mut next = at;
-    for number in 0..cells.len() {
-        next = cell_line(out, next, word, number, cells[number]);
+    for (number, &cell) in cells.iter().enumerate() {
+        next = cell_line(out, next, word, number, cell);
     }
     next
 }
@@ -88,7 +88,7 @@ fn end_line(
     let place = answer.place();
     let reason = answer.reason();
     let numbers = [number, place, reason, used, counter, accumulator];
-    text::put_word_line(out, at, b"end", numbers, 6)
+    text::put_word_line(out, at, b"end", &numbers)
 }
 
 // The outcome of a run of code: its words, the end, and after answer 0 the cells.
@@ -108,8 +108,8 @@ pub fn ran(
 {
     let after_code = code_lines(out, code);
     let after_end = end_line(out, after_code, answer, used, counter, accumulator);
-    if answer.number() != 0 {
-        return after_end;
+    match answer {
+        Ran::Done(_) => store_lines(out, after_end, objects, messages),
+        _ => after_end,
     }
-    store_lines(out, after_end, objects, messages)
 }

@@ -3,7 +3,8 @@ use Prim.Native.Nat.{ℕ, ◌<◌, ◌≤◌}
 use mathlib.Core.Path.{◌≡◌, refl, sym, ◌∙◌, ap, subst}
 use mathlib.Core.Logic.{◌≢◌}
 use mathlib.Core.Bool.{Bool, true, false, cond, not}
-use mathlib.Core.Option.{Option, none, some, map}
+use Rattle.std.specs.Prelude.{Option, None, Some}
+use Rattle.std.specs.Option.{option_map}
 use mathlib.Core.List.{List, [], ◌∷◌, ◌++◌}
 use native.Mathlib.Omega.{arith}
 use borrow.Author.Tests.{le-leb, lt-leb}
@@ -36,8 +37,8 @@ module _ (create : Bool) (pattern kinds objects named slice : List ℕ) where
   abbrev pub CompileGives : Compiled → Type 0
   CompileGives Limit = T fit → ⊥
   CompileGives BadStore = T fit × (T (declared kinds objects) → ⊥)
-  CompileGives (BadPattern row) = T fit × T (declared kinds objects) × (bad_pattern pattern ≡ some row)
-  CompileGives (WrongKind row) = T fit × T (declared kinds objects) × (bad_pattern pattern ≡ none) × (wrong_kind create (kind_in kinds) pattern ≡ some row)
+  CompileGives (BadPattern row) = T fit × T (declared kinds objects) × (bad_pattern pattern ≡ Some row)
+  CompileGives (WrongKind row) = T fit × T (declared kinds objects) × (bad_pattern pattern ≡ None) × (wrong_kind create (kind_in kinds) pattern ≡ Some row)
   CompileGives (WrittenWhileSet row) = Checked create pattern kinds objects named × (emitted create pattern kinds objects named ≡ refuse (WrittenWhileSet row))
   CompileGives (ReadWhileUnset row) = Checked create pattern kinds objects named × (emitted create pattern kinds objects named ≡ refuse (ReadWhileUnset row))
   CompileGives (CodeTooShort words) = Checked create pattern kinds objects named × Emits create pattern kinds objects named words × (length slice < words)
@@ -81,13 +82,13 @@ module _ (create : Bool) (pattern kinds objects named slice : List ℕ) where
 
   by_looks : (a b : Bool) (rows right : Option ℕ) → fit ≡ a → declared kinds objects ≡ b → bad_pattern pattern ≡ rows → wrong_kind create (kind_in kinds) pattern ≡ right
       → CompileLeaves (compile_by create pattern kinds objects named
-      (first (when (not a) Limit ∷ when (not b) BadStore ∷ map BadPattern rows ∷ map WrongKind right ∷ [])) slice)
+      (first (when (not a) Limit ∷ when (not b) BadStore ∷ option_map BadPattern rows ∷ option_map WrongKind right ∷ [])) slice)
   unfolding first
   by_looks false b rows right e f g h = refused Limit (λ z. omega arith) (rw e λ n. n)
   by_looks true false rows right e f g h = refused BadStore (λ z. omega arith) (rw e tt, rw f λ n. n)
-  by_looks true true (some row) right e f g h = refused (BadPattern row) (λ z. omega arith) (rw e tt, rw f tt, g)
-  by_looks true true none (some row) e f g h = refused (WrongKind row) (λ z. omega arith) (rw e tt, rw f tt, g, h)
-  by_looks true true none none e f g h =
+  by_looks true true (Some row) right e f g h = refused (BadPattern row) (λ z. omega arith) (rw e tt, rw f tt, g)
+  by_looks true true None (Some row) e f g h = refused (WrongKind row) (λ z. omega arith) (rw e tt, rw f tt, g, h)
+  by_looks true true None None e f g h =
       by_emission (record { lengths = rw e tt; cells = rw f tt; rows = g; right = h }) (emitted create pattern kinds objects named) refl
 
   abbrev outcome : CompileOutcome

@@ -2,7 +2,8 @@
 use Prim.Native.Nat.{ℕ}
 use mathlib.Core.Path.{◌≡◌, refl, sym, ◌∙◌, ap, subst}
 use mathlib.Core.Bool.{true, false}
-use mathlib.Core.Option.{Option, none, some, map}
+use Rattle.std.specs.Prelude.{Option, None, Some}
+use Rattle.std.specs.Option.{option_map}
 use mathlib.Core.List.{List}
 use native.Mathlib.Omega.{arith}
 use lib.ListN.{length}
@@ -78,10 +79,10 @@ module _ (pattern : List ℕ) (x : Lent) (code : List ℕ) (right : RightKinds t
   create_decides e (CreateEnds.finishes t m steps v message h) =
       let p = (finished x code (rw e)).passed in
       let left : after x (run x code) ≡ (terms_of t).stores = ap (after x) e ∙ after_finish p t steps (Ran.Done (length code)) in
-      let held : message_after (run x code) ≡ some m = ap message_after e ∙ message_finish p t steps (Ran.Done (length code)) ∙ message in
+      let held : message_after (run x code) ≡ Some m = ap message_after e ∙ message_finish p t steps (Ran.Done (length code)) ∙ message in
       record {
         finishes = λ m' n. (
-          λ g. let same = create_once m m' (terms_of t).stores n h g in (rw e (refl, refl, refl), held ∙ ap some same.0, left ∙ same.1),
+          λ g. let same = create_once m m' (terms_of t).stores n h g in (rw e (refl, refl, refl), held ∙ ap Some same.0, left ∙ same.1),
           λ q. let same : m ≡ m' = cc q.1 in subst (λ m. CreatesTo pattern x m n) same (subst (CreatesTo pattern x m) (sym left ∙ q.2) h),
         );
         stuck = (λ q. absurd (omega (arith, rw e at q)), λ never. absurd (never m (terms_of t).stores h));
@@ -95,14 +96,14 @@ module _ (pattern : List ℕ) (x : Lent) (code : List ℕ) (right : RightKinds t
       }
 
 -- the accumulator's row
-pub held_row : (terms : List ℕ) (cell : ℕ) (m : Term) → term_in terms cell ≡ some m → (row : ℕ) × (held cell ≡ some row) × (meaning terms row ≡ m)
+pub held_row : (terms : List ℕ) (cell : ℕ) (m : Term) → term_in terms cell ≡ Some m → (row : ℕ) × (held cell ≡ Some row) × (meaning terms row ≡ m)
 held_row terms cell m e = go (held cell) refl e
   where
-    go : (o : Option ℕ) → held cell ≡ o → map (meaning terms) o ≡ some m → (row : ℕ) × (held cell ≡ some row) × (meaning terms row ≡ m)
-    go none h q = absurd (let z : ◌≡◌ {A = ℕ} 0 1 = cc in omega arith)
-    go (some row) h q = (row, h, cc)
+    go : (o : Option ℕ) → held cell ≡ o → option_map (meaning terms) o ≡ Some m → (row : ℕ) × (held cell ≡ Some row) × (meaning terms row ≡ m)
+    go None h q = absurd (let z : ◌≡◌ {A = ℕ} 0 1 = cc in omega arith)
+    go (Some row) h q = (row, h, cc)
 
-pub decided_match : {pattern code : List ℕ} {x : Lent} {m : Term} → Prepared false pattern x code → message_before x ≡ some m → DecidesMatch pattern x code m
+pub decided_match : {pattern code : List ℕ} {x : Lent} {m : Term} → Prepared false pattern x code → message_before x ≡ Some m → DecidesMatch pattern x code m
 decided_match {pattern} {code} {x} {m} p e =
     let c = p.compiled in
     let v = p.valid in

@@ -1,6 +1,6 @@
 -- The worked round by evaluation, and the figures by what decides a round.
 use mathlib.Core.Path.{◌≡◌, refl}
-use mathlib.Core.Option.{some}
+use Rattle.std.specs.Prelude.{Some}
 use mathlib.Core.List.{[], ◌∷◌, flat_map}
 use mathlib.Core.Bool.{true, false}
 use native.Mathlib.Omega.{arith}
@@ -68,7 +68,7 @@ code = record {
   creates = record { lines = line_at 0 (Encode (as_object 0)) ∷ []; env = between; compiles = creating; words = refl; carries = refl };
 }
 
-message_held : message_before (received echo_lent) ≡ some echoed
+message_held : message_before (received echo_lent) ≡ Some echoed
 unfolding term_at held Row.row_of Row.tag_of Row.shape_of
 message_held = refl
 
@@ -78,7 +78,7 @@ unfolding lowest_from each one_of Code.word_of Code.instruction_of good_word Row
     left_by lines_from middle good_round_word bad_round_word answered sent_by round
 done = (refl, refl, refl)
 
-answer_held : answer_after (round echo_lent (round_words echo)) ≡ some echoed
+answer_held : answer_after (round echo_lent (round_words echo)) ≡ Some echoed
 unfolding term_at lowest_from each one_of Code.word_of Code.instruction_of good_word Row.row_of Row.tag_of Row.shape_of used_rows known_tag is_packed number_fits
     parts_below key_kind_fits earlier_equal bad_term_row bad_term held cell_of store_of cells_from agents_once kinds_fit each_variable valid put first state_over
     left_by lines_from middle good_round_word bad_round_word answered sent_by round

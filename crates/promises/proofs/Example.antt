@@ -2,7 +2,7 @@
 use Prim.Native.Nat.{ℕ, ◌-◌}
 use mathlib.Core.Path.{◌≡◌, refl, ◌∙◌, ap}
 use mathlib.Core.Bool.{Bool, true, false}
-use mathlib.Core.Option.{some}
+use Rattle.std.specs.Prelude.{Some}
 use mathlib.Core.List.{List, []}
 use native.Mathlib.Omega.{arith}
 use lib.ListN.{length, replicate}
@@ -47,15 +47,15 @@ P9_run = (refl, refl, refl)
 P2_run : RunAnswers (run P2_lent P2_code) 0 6 0
 P2_run = let e = worked.0.P2_run in rw e (refl, refl, refl)
 
-P1_held : message_before P1_lent ≡ some P1_message
+P1_held : message_before P1_lent ≡ Some P1_message
 unfolding term_at held Row.row_of Row.tag_of Row.shape_of
 P1_held = refl
 
-P9_held : message_before P9_lent ≡ some P9_message
+P9_held : message_before P9_lent ≡ Some P9_message
 unfolding term_at held Row.row_of Row.tag_of Row.shape_of
 P9_held = refl
 
-P2_held : message_after (run P2_lent P2_code) ≡ some P2_message
+P2_held : message_after (run P2_lent P2_code) ≡ Some P2_message
 unfolding term_at held Row.row_of Row.tag_of Row.shape_of
 P2_held = let e = worked.0.P2_run in rw e refl
 

@@ -3,7 +3,8 @@ use Prim.Native.Nat.{ℕ}
 use mathlib.Core.Path.{◌≡◌, refl, ◌∙◌}
 use mathlib.Core.Logic.{◌↔◌}
 use mathlib.Core.Bool.{Bool, true, false, not}
-use mathlib.Core.Option.{Option, none, some, map}
+use Rattle.std.specs.Prelude.{Option, None, Some}
+use Rattle.std.specs.Option.{option_map}
 use mathlib.Core.List.{List, [], ◌∷◌}
 use lib.Dec.{T}
 use lib.ListN.{length}
@@ -80,14 +81,14 @@ module _ (x : RoleLent) (n : ℕ) (kinds_length : length x.kinds ≡ variables) 
     by_looks : (a b : Bool) (bad wrong : Option ℕ) → known_fit (length rows) (length x.kinds) ≡ a → declared_known x.kinds set.objects ≡ b → bad_pattern rows ≡ bad
         → wrong_kind create (kind_in x.kinds) rows ≡ wrong
         → HalfSays x n set
-        (half_by (first (when (not a) Limit ∷ when (not b) BadStore ∷ map BadPattern bad ∷ map WrongKind wrong ∷ [])) (half_emission x n set))
+        (half_by (first (when (not a) Limit ∷ when (not b) BadStore ∷ option_map BadPattern bad ∷ option_map WrongKind wrong ∷ [])) (half_emission x n set))
     unfolding first
     by_looks false b bad wrong e f g h = λ w. rw e at (few.1 w)
     by_looks true false bad wrong e f g h = (few.0 (rw e tt), λ d. rw f at (declared.1 d))
-    by_looks true true (some row) wrong e f g h = (few.0 (rw e tt), declared.0 (rw f tt), (bad_pattern_at rows row).0 g)
-    by_looks true true none (some row) e f g h =
+    by_looks true true (Some row) wrong e f g h = (few.0 (rw e tt), declared.0 (rw f tt), (bad_pattern_at rows row).0 g)
+    by_looks true true None (Some row) e f g h =
         (few.0 (rw e tt), declared.0 (rw f tt), (bad_pattern_none rows).0 g, (wrong_kind_at create (kind_in x.kinds) rows g row).0 h)
-    by_looks true true none none e f g h =
+    by_looks true true None None e f g h =
         by_emission
         (record { few = few.0 (rw e tt); declared = declared.0 (rw f tt); rows = (bad_pattern_none rows).0 g; right = (wrong_kind_none create (kind_in x.kinds) rows g).0 h })
         (half_emission x n set) refl
@@ -98,10 +99,10 @@ module _ (x : RoleLent) (n : ℕ) (kinds_length : length x.kinds ≡ variables) 
         by_looks (known_fit (length rows) (length x.kinds)) (declared_known x.kinds set.objects) (bad_pattern rows) (wrong_kind create (kind_in x.kinds) rows) refl refl refl refl
 
     -- and what is said is answered
-    fits : FewRows x n → when (not (known_fit (length rows) (length x.kinds))) Limit ≡ none
+    fits : FewRows x n → when (not (known_fit (length rows) (length x.kinds))) Limit ≡ None
     fits w = passes_when (known_fit (length rows) (length x.kinds)) Limit (few.1 w)
 
-    allowed : Declared x n → when (not (declared_known x.kinds set.objects)) BadStore ≡ none
+    allowed : Declared x n → when (not (declared_known x.kinds set.objects)) BadStore ≡ None
     allowed d = passes_when (declared_known x.kinds set.objects) BadStore (declared.1 d)
 
     checked_half : HalfChecked x n → half create rows x.kinds set ≡ half_emission x n set

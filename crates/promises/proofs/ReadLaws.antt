@@ -3,7 +3,7 @@ use Prim.Native.Nat.{ℕ}
 use mathlib.Core.Path.{◌≡◌, refl, sym, ◌∙◌, ap}
 use mathlib.Core.Logic.{◌≢◌}
 use mathlib.Core.Bool.{Bool, true, false}
-use mathlib.Core.Option.{some}
+use Rattle.std.specs.Prelude.{Some}
 use mathlib.Core.List.{List, map}
 use native.Mathlib.Omega.{arith}
 use lib.ListN.{length}
@@ -62,7 +62,7 @@ module _ {create : Bool} {pattern : List ℕ} {x : Lent} {code : List ℕ} (c : 
       (ap (λ words. map (λ l. l.instruction) (lines_of words)) (own_code c long) ∙ compiled_words_read (kind_in x.kinds) lines (written c long).limits.lines))
       ∙ ap (moved_to 0) e)
 
-pub match_reads : {pattern code : List ℕ} {x : Lent} {m : Term} → CodeFor false pattern x code → message_before x ≡ some m → ran_reason (run x code).answer ≢ 1
+pub match_reads : {pattern code : List ℕ} {x : Lent} {m : Term} → CodeFor false pattern x code → message_before x ≡ Some m → ran_reason (run x code).answer ≢ 1
 unfolding state_over
 match_reads {pattern} {code} {x} {m} c message e =
     let (word, p, h) = unset_steps x code (run x code).answer (run_gives x code refl) e in

@@ -4,7 +4,7 @@ use mathlib.Core.Path.{◌≡◌, refl, sym, ◌∙◌, ap}
 use mathlib.Core.Logic.Iff
 use mathlib.Core.Logic.{◌↔◌}
 use mathlib.Core.Bool.{true, false, ◌&&◌}
-use mathlib.Core.Option.{Option, none, some}
+use Rattle.std.specs.Prelude.{Option, None, Some}
 use mathlib.Core.List.{List, [], ◌∷◌, ◌++◌}
 use native.Mathlib.Nat.{zero-add}
 use native.Mathlib.Omega.{arith}
@@ -42,7 +42,7 @@ module _ (text kinds code : List ℕ) (lent : LentText text) where
   within : LinesWithin text kinds ↔ ((length (text_lines text) ≤ 768) × (length kinds ≡ 64))
   within = (λ w. (w.few_lines, w.all_kinds), λ h. record { few_lines = h.0; all_kinds = h.1 })
 
-  readable : bad_line text ≡ none → T (leb (length (text_lines text)) 768 && eqb (length kinds) 64) → Readable text kinds
+  readable : bad_line text ≡ None → T (leb (length (text_lines text)) 768 && eqb (length kinds) 64) → Readable text kinds
   readable none_bad fits = record { lines = (good_lines_iff text lent).0 none_bad; within = within.1 ((fits_iff text kinds code).0 fits) }
 
   passed : Passed text kinds code ↔ (Readable text kinds × AllGoodWords (kind_in kinds) (read_words text))
@@ -57,9 +57,9 @@ module _ (text kinds code : List ℕ) (lent : LentText text) where
   spelled : (i : ℕ) → AllGoodLines text → i < length (text_lines text) → (line : GoodLine i (get_or (text_lines text) i [])) → get_or (read_words text) i 0 ≡ fields_word line.fields
   unfolding bad_line
   spelled i good inside line =
-      let none_bad : lowest_from 0 bad (text_lines text) ≡ none = (good_lines_iff text lent).1 good in
-      let says : line_word i (get_or (text_lines text) i []) ≡ some (get_or (read_words text) i 0) = rw zero-add at (word_of_line 0 (text_lines text) i none_bad inside) in
-      let own : line_word i (get_or (text_lines text) i []) ≡ some (fields_word line.fields) = rw line.printed (fields_word_lem i line.fields (omega (arith, lines_few text))) in
+      let none_bad : lowest_from 0 bad (text_lines text) ≡ None = (good_lines_iff text lent).1 good in
+      let says : line_word i (get_or (text_lines text) i []) ≡ Some (get_or (read_words text) i 0) = rw zero-add at (word_of_line 0 (text_lines text) i none_bad inside) in
+      let own : line_word i (get_or (text_lines text) i []) ≡ Some (fields_word line.fields) = rw line.printed (fields_word_lem i line.fields (omega (arith, lines_few text))) in
       cc
 
   pub reading_table : ReadingTable text kinds code
@@ -141,7 +141,7 @@ own_word kind word small good =
 
 record ReadsBack (place : ℕ) (code : List ℕ) : Type 0 where
   words : line_words place (text_lines (code_lines place code)) ≡ code
-  no_bad : lowest_from place bad (text_lines (code_lines place code)) ≡ none
+  no_bad : lowest_from place bad (text_lines (code_lines place code)) ≡ None
   lines : length (text_lines (code_lines place code)) ≡ length code
 
 reads_back : (place : ℕ) (code : List ℕ) → place + length code < 10 ^ 20 → All (λ word. fields_word (fields_in word) ≡ word) code → ReadsBack place code
@@ -151,7 +151,7 @@ reads_back place (word ∷ rest) below own =
     let more = reads_back (suc place) rest (omega arith) own.1 in
     let first = fields_line place (fields_in word) in
     let split_off : text_lines (code_lines place (word ∷ rest)) ≡ first ∷ text_lines (code_lines (suc place) rest) = line_first _ (code_lines (suc place) rest) in
-    let says : line_word place first ≡ some word = fields_word_lem place (fields_in word) (omega arith) ∙ ap some own.0 in
+    let says : line_word place first ≡ Some word = fields_word_lem place (fields_in word) (omega arith) ∙ ap Some own.0 in
     let goes = good_first place first (text_lines (code_lines (suc place) rest)) says in
     record {
       words = rw split_off (goes.0 ∙ ap (λ (words : List ℕ). word ∷ words) more.words);
@@ -181,16 +181,16 @@ printed_is_read code kinds slice small few long good room =
 
 -- ---- what is read prints the same
 
-printed_from : (place : ℕ) (lines : List (List ℕ)) → place + length lines < 10 ^ 20 → lowest_from place bad lines ≡ none → code_lines place (line_words place lines) ≡ joined lines
+printed_from : (place : ℕ) (lines : List (List ℕ)) → place + length lines < 10 ^ 20 → lowest_from place bad lines ≡ None → code_lines place (line_words place lines) ≡ joined lines
 unfolding code_lines line_words lowest_from
 printed_from place [] below e = refl
 printed_from place (bytes ∷ rest) below e = go (line_word place bytes) refl e (λ f. printed_from (suc place) rest (omega arith) f)
   where
-    go : (word : Option ℕ) → line_word place bytes ≡ word → ◌≡◌ {A = Option ℕ} (elim (no_word word) [ true ↦ some place | false ↦ lowest_from (suc place) bad rest ]) none
-        → (lowest_from (suc place) bad rest ≡ none → code_lines (suc place) (line_words (suc place) rest) ≡ joined rest)
+    go : (word : Option ℕ) → line_word place bytes ≡ word → ◌≡◌ {A = Option ℕ} (elim (no_word word) [ true ↦ Some place | false ↦ lowest_from (suc place) bad rest ]) None
+        → (lowest_from (suc place) bad rest ≡ None → code_lines (suc place) (line_words (suc place) rest) ≡ joined rest)
         → code_lines place (add_word word (line_words (suc place) rest)) ≡ bytes ++ joined rest
-    go none is e more = let clash : ◌≡◌ {A = ℕ} 0 1 = cc in absurd (omega arith)
-    go (some word) is e more =
+    go None is e more = let clash : ◌≡◌ {A = ℕ} 0 1 = cc in absurd (omega arith)
+    go (Some word) is e more =
         let told = line_says place bytes (omega arith) is in
         let fields : take 4 (split word_widths word) ≡ told.fields.operation ∷ told.fields.a ∷ told.fields.b ∷ told.fields.n ∷ [] =
         ap (λ (word : ℕ). take 4 (split word_widths word)) told.spells ∙ fields_split told.fields in

@@ -4,7 +4,7 @@ use mathlib.Core.Path.{◌≡◌, refl, ◌∙◌, ap}
 use mathlib.Core.Logic.Iff
 use mathlib.Core.Logic.{◌↔◌, ◌≢◌}
 use mathlib.Core.Bool.{Bool, true, false}
-use mathlib.Core.Option.{Option, none, some}
+use Rattle.std.specs.Prelude.{Option, None, Some}
 use mathlib.Core.List.{List}
 use native.Mathlib.Omega.{arith}
 use borrow.Author.Tests.{eq-eqb, ne_eqb}
@@ -21,28 +21,28 @@ use Rattle.promises.specs.ReadingsForC.{ReadComes, ReadingsForC}
 use Rattle.promises.proofs.ForC.{below}
 
 -- what is answered of bytes that are not whole words
-not_whole_15 : (found : Option ℕ) (line : ℕ) → ((read_back_number (not_whole found) ≡ 15) × (read_back_place (not_whole found) ≡ line)) ↔ (found ≡ some line)
-not_whole_15 none line = (λ h. absurd (omega (arith, h.0)), λ e. let clash : ◌≡◌ {A = ℕ} 0 1 = cc in absurd (omega arith))
-not_whole_15 (some found) line = (λ h. ap some h.1, λ e. (refl, cc))
+not_whole_15 : (found : Option ℕ) (line : ℕ) → ((read_back_number (not_whole found) ≡ 15) × (read_back_place (not_whole found) ≡ line)) ↔ (found ≡ Some line)
+not_whole_15 None line = (λ h. absurd (omega (arith, h.0)), λ e. let clash : ◌≡◌ {A = ℕ} 0 1 = cc in absurd (omega arith))
+not_whole_15 (Some found) line = (λ h. ap Some h.1, λ e. (refl, cc))
 
-not_whole_1 : (found : Option ℕ) → ((read_back_number (not_whole found) ≡ 1) × (read_back_place (not_whole found) ≡ 0)) ↔ (found ≡ none)
-not_whole_1 none = (λ h. refl, λ e. (refl, refl))
-not_whole_1 (some line) = (λ h. absurd (omega (arith, h.0)), λ e. let clash : ◌≡◌ {A = ℕ} 0 1 = cc in absurd (omega arith))
+not_whole_1 : (found : Option ℕ) → ((read_back_number (not_whole found) ≡ 1) × (read_back_place (not_whole found) ≡ 0)) ↔ (found ≡ None)
+not_whole_1 None = (λ h. refl, λ e. (refl, refl))
+not_whole_1 (Some line) = (λ h. absurd (omega (arith, h.0)), λ e. let clash : ◌≡◌ {A = ℕ} 0 1 = cc in absurd (omega arith))
 
 not_whole_0 : (found : Option ℕ) → read_back_number (not_whole found) ≢ 0
-not_whole_0 none e = omega arith
-not_whole_0 (some line) e = omega arith
+not_whole_0 None e = omega arith
+not_whole_0 (Some line) e = omega arith
 
 module _ (text kinds code : List ℕ) (lent : LentText text) where
   of_words : Whole 4 code → (number place : ℕ) → ReadComes text kinds code number place ↔ ReadsAs (read_code text kinds (elements 4 code)) number place
   unfolding read_entry
   of_words w number place = rw (eq-eqb (length code % 4) 0 w) Iff.rfl
 
-  bad_line_lem : (Whole 4 code → ⊥) → (line : ℕ) → ReadComes text kinds code 15 line ↔ (bad_line text ≡ some line)
+  bad_line_lem : (Whole 4 code → ⊥) → (line : ℕ) → ReadComes text kinds code 15 line ↔ (bad_line text ≡ Some line)
   unfolding read_entry
   bad_line_lem n line = rw (ne_eqb (length code % 4) 0 n) (not_whole_15 (bad_line text) line)
 
-  not_words : (Whole 4 code → ⊥) → ReadComes text kinds code 1 0 ↔ (bad_line text ≡ none)
+  not_words : (Whole 4 code → ⊥) → ReadComes text kinds code 1 0 ↔ (bad_line text ≡ None)
   unfolding read_entry
   not_words n = rw (ne_eqb (length code % 4) 0 n) (not_whole_1 (bad_line text))
 

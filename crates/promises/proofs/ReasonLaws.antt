@@ -3,7 +3,7 @@ use Prim.Native.Nat.{ℕ, zero, suc, ◌<◌, ◌≤◌}
 use mathlib.Core.Path.{◌≡◌, refl, sym, ◌∙◌, ap, subst}
 use mathlib.Core.Logic.{◌↔◌, ◌≢◌, ◌⊎◌, inl, inr}
 use mathlib.Core.Bool.{Bool, true, false, ◌&&◌, ◌||◌}
-use mathlib.Core.Option.{Option, none, some}
+use Rattle.std.specs.Prelude.{Option, None, Some}
 use mathlib.Core.List.{List, [], ◌∷◌, map}
 use native.Mathlib.Decide.{dec_lt}
 use native.Mathlib.Omega.{arith}
@@ -37,14 +37,14 @@ use Rattle.theory.proofs.RowsRunAsTerms.{Held, HasTag, ValidState}
 use Rattle.promises.specs.Reasons.{Unset, cells, reads, row_at, tag, number, shape, GoesWith, NoRow, Sticks, unset, other_kind, differs, part_count, no_certificate, not_opened, not_verified, Fills, no_name, name, byte, public_key, encryption, signature, hash, tuple}
 
 -- no certificate, and none found
-uncertified : (certificates : List ℕ) (agent : ℕ) → (Certificates.certified certificates agent ≡ none) ↔ All (λ word. Certificates.agent_of word ≢ agent) certificates
+uncertified : (certificates : List ℕ) (agent : ℕ) → (Certificates.certified certificates agent ≡ None) ↔ All (λ word. Certificates.agent_of word ≢ agent) certificates
 unfolding Certificates.certified
 uncertified [] agent = (λ e. tt, λ a. refl)
 uncertified (word ∷ rest) agent = by (eqb (Certificates.agent_of word) agent) (equals (Certificates.agent_of word) agent) (uncertified rest agent)
   where
     by : (b : Bool) → T b ↔ (Certificates.agent_of word ≡ agent)
-        → (Certificates.certified rest agent ≡ none) ↔ All (λ word. Certificates.agent_of word ≢ agent) rest
-        → (◌≡◌ {A = Option ℕ} (elim b [ true ↦ some (Certificates.key_of word) | false ↦ Certificates.certified rest agent ]) none)
+        → (Certificates.certified rest agent ≡ None) ↔ All (λ word. Certificates.agent_of word ≢ agent) rest
+        → (◌≡◌ {A = Option ℕ} (elim b [ true ↦ Some (Certificates.key_of word) | false ↦ Certificates.certified rest agent ]) None)
         ↔ ((Certificates.agent_of word ≢ agent) × All (λ word. Certificates.agent_of word ≢ agent) rest)
     by true e r = (λ q. let z : ◌≡◌ {A = ℕ} 0 1 = cc in absurd (omega arith), λ a. absurd (a.0 (e.0 tt)))
     by false e r = (λ q. (λ is. e.1 is, r.0 q), λ a. r.1 a.1)
@@ -101,12 +101,12 @@ module _ (s : State row_world) where
     now i = step row_world kind place i s
 
     -- 1
-    one : (cell : Option ℕ) (f : ℕ → Outcome (State row_world)) → cell ≡ none → bind (need place cell) f ≡ stuck place 1
+    one : (cell : Option ℕ) (f : ℕ → Outcome (State row_world)) → cell ≡ None → bind (need place cell) f ≡ stuck place 1
     one cell f e = rw e
 
     past : (cell : Option ℕ) (f : ℕ → Outcome (State row_world)) → ((m : ℕ) → f m ≡ stuck place 1) → bind (need place cell) f ≡ stuck place 1
-    past none f h = refl
-    past (some m) f h = h m
+    past None f h = refl
+    past (Some m) f h = h m
 
     unset_cells : (b n : ℕ) → Unset (cells s b n) → messages row_world place s b n ≡ stuck place 1
     unfolding messages
@@ -116,8 +116,8 @@ module _ (s : State row_world) where
       where
         go : (cell : Option ℕ) → messages row_world place s (suc b) n ≡ stuck place 1
             → bind (need place cell) (λ m. bind (messages row_world place s (suc b) n) λ ms. done (m ∷ ms)) ≡ stuck place 1
-        go none e = refl
-        go (some m) e = rw e
+        go None e = refl
+        go (Some m) e = rw e
 
     unset_stuck : (i : Instruction) → Unset (reads s i) → now i ≡ stuck place 1
     unset_stuck (Load r) (inl e) = one (message row_world s r.0) _ e
@@ -181,7 +181,7 @@ module _ (s : State row_world) where
     verified_not k b (hashed c) d = refl
     verified_not k b (tupled ms) d = refl
 
-    by_cell : (cell : Option ℕ) (f : ℕ → Outcome (State row_world)) (m : ℕ) → cell ≡ some m → bind (need place cell) f ≡ f m
+    by_cell : (cell : Option ℕ) (f : ℕ → Outcome (State row_world)) (m : ℕ) → cell ≡ Some m → bind (need place cell) f ≡ f m
     by_cell cell f m e = rw e
 
     sticks_so : {i : Instruction} {why : ℕ} → Sticks s kind i why → now i ≡ stuck place why
@@ -200,10 +200,10 @@ module _ (s : State row_world) where
       sticks : {why : ℕ} → Sticks s kind i why → Ends i (stuck place why)
       fills : Fills s kind i → Ends i (room place)
 
-    read : {i : Instruction} (cell : Option ℕ) (f : ℕ → Outcome (State row_world)) → (cell ≡ none → Unset (reads s i)) → ((m : ℕ) → cell ≡ some m → Ends i (f m))
+    read : {i : Instruction} (cell : Option ℕ) (f : ℕ → Outcome (State row_world)) → (cell ≡ None → Unset (reads s i)) → ((m : ℕ) → cell ≡ Some m → Ends i (f m))
         → Ends i (bind (need place cell) f)
-    read none f un next = sticks (unset (un refl))
-    read (some m) f un next = next m refl
+    read None f un next = sticks (unset (un refl))
+    read (Some m) f un next = next m refl
 
     check : {i : Instruction} (why : ℕ) (b : Bool) (o : Outcome (State row_world)) → (T b → Ends i o) → ((T b → ⊥) → Sticks s kind i why)
         → Ends i (bind (at place (sure why b)) λ _. o)
@@ -222,23 +222,23 @@ module _ (s : State row_world) where
       make_full term y f (absent, l) = rw (locate_full x.rows x.used (row_of term) ((equal_absent x.rows x.used (row_of term) (used_inside v.table)).1 absent) l)
 
       -- a set object cell's row has the variable's kind
-      typed : (o m : ℕ) → s.stores.σ o ≡ some m → tag s m ≡ kind o
+      typed : (o m : ℕ) → s.stores.σ o ≡ Some m → tag s m ≡ kind o
       typed o m e = (subst (Held (HasTag x (kind o))) e (v.objects o)).1
 
       -- all of several cells are set, or some is not
-      all_read : (b n : ℕ) → ((ms : List ℕ) × (cells s b n ≡ map some ms) × (messages row_world place s b n ≡ done ms)) ⊎ Unset (cells s b n)
+      all_read : (b n : ℕ) → ((ms : List ℕ) × (cells s b n ≡ map Some ms) × (messages row_world place s b n ≡ done ms)) ⊎ Unset (cells s b n)
       unfolding messages
       all_read b zero = inl ([], refl, refl)
       all_read b (suc n) = go (message row_world s b) refl (all_read (suc b) n)
         where
           go : (cell : Option ℕ) → message row_world s b ≡ cell
-              → ((ms : List ℕ) × (cells s (suc b) n ≡ map some ms) × (messages row_world place s (suc b) n ≡ done ms)) ⊎ Unset (cells s (suc b) n)
-              → ((ms : List ℕ) × (message row_world s b ∷ cells s (suc b) n ≡ map some ms)
+              → ((ms : List ℕ) × (cells s (suc b) n ≡ map Some ms) × (messages row_world place s (suc b) n ≡ done ms)) ⊎ Unset (cells s (suc b) n)
+              → ((ms : List ℕ) × (message row_world s b ∷ cells s (suc b) n ≡ map Some ms)
               × (bind (need place (message row_world s b)) (λ m. bind (messages row_world place s (suc b) n) λ ms. done (m ∷ ms)) ≡ done ms))
-              ⊎ ((message row_world s b ≡ none) ⊎ Unset (cells s (suc b) n))
-          go none e rest = inr (inl e)
-          go (some m) e (inl (ms, c, q)) = inl (m ∷ ms, rw (e, c), rw (e, q))
-          go (some m) e (inr u) = inr (inr u)
+              ⊎ ((message row_world s b ≡ None) ⊎ Unset (cells s (suc b) n))
+          go None e rest = inr (inl e)
+          go (Some m) e (inl (ms, c, q)) = inl (m ∷ ms, rw (e, c), rw (e, q))
+          go (Some m) e (inr u) = inr (inr u)
 
       -- a variable of the one kind that an operand wants
       one_kind : (o : Object) (n : ℕ) → T (has_kind kind o (n ∷ [])) → kind o.0 ≡ n
@@ -248,7 +248,7 @@ module _ (s : State row_world) where
       opposite_as : (m : ℕ) → tag s m ≡ 5 → row_world.apply (op m) x ≡ placed x (locate x.rows x.used (row_of (atom 4 (number s m))))
       opposite_as m e = rw (tag_kind (row_at s m), eq-eqb (tag s m) 5 e, atom_number (row_at s m) (omega arith))
 
-      tuple_ends : (t : Object) (b : Raw) (n m : ℕ) (ms : List ℕ) → shape s m ≡ tupled ms → s.stores.σ t.0 ≡ some m → (f : (ℕ → ℕ) → State row_world)
+      tuple_ends : (t : Object) (b : Raw) (n m : ℕ) (ms : List ℕ) → shape s m ≡ tupled ms → s.stores.σ t.0 ≡ Some m → (f : (ℕ → ℕ) → State row_world)
           → Ends (AnalyzeTuple t b n) (bind (at place (taken row_model m n (tupled ms))) λ g. done (f g))
       tuple_ends t b n m ms e q f = by (eqb (length ms) n) (equals (length ms) n)
         where
@@ -256,7 +256,7 @@ module _ (s : State row_world) where
           by true h = goes
           by false h = sticks (part_count q λ same. h.1 (sym (ap (λ sh. length (parts_of sh)) e) ∙ same))
 
-      opened_ends : (o : Object) (k m : ℕ) (sh : Shape ℕ) → shape s m ≡ sh → s.stores.σ o.0 ≡ some k → s.accumulator ≡ some m → (f : ℕ × Table → State row_world)
+      opened_ends : (o : Object) (k m : ℕ) (sh : Shape ℕ) → shape s m ≡ sh → s.stores.σ o.0 ≡ Some k → s.accumulator ≡ Some m → (f : ℕ × Table → State row_world)
           → Ends (Decrypt o) (bind (at place (opened row_model k sh x)) λ r. done (f r))
       opened_ends o k m (encrypted l b) e p q f = by (goes_with row_model k l x) (goes_iff k l)
         where
@@ -268,7 +268,7 @@ module _ (s : State row_world) where
       opened_ends o k m (hashed b) e p q f = sticks (not_opened p q λ l b e' g. let z : ◌≡◌ {A = ℕ} 0 1 = cc in absurd (omega arith))
       opened_ends o k m (tupled ms) e p q f = sticks (not_opened p q λ l b e' g. let z : ◌≡◌ {A = ℕ} 0 1 = cc in absurd (omega arith))
 
-      verified_ends : (o : Object) (c : Raw) (k b m : ℕ) (sh : Shape ℕ) → shape s m ≡ sh → s.stores.σ o.0 ≡ some k → message row_world s c.0 ≡ some b → s.accumulator ≡ some m
+      verified_ends : (o : Object) (c : Raw) (k b m : ℕ) (sh : Shape ℕ) → shape s m ≡ sh → s.stores.σ o.0 ≡ Some k → message row_world s c.0 ≡ Some b → s.accumulator ≡ Some m
           → Ends (Verify o c) (bind (at place (verified row_model k b sh x)) λ _. done s)
       verified_ends o c k b m (signed l body) e p r q = by (goes_with row_model l k x && eqb b body) (both (goes_with row_model l k x) (eqb b body)).1
         where
@@ -285,16 +285,16 @@ module _ (s : State row_world) where
       verified_ends o c k b m (hashed body) e p r q = sticks (not_verified p r q λ l e' g. let z : ◌≡◌ {A = ℕ} 0 1 = cc in absurd (omega arith))
       verified_ends o c k b m (tupled ms) e p r q = sticks (not_verified p r q λ l e' g. let z : ◌≡◌ {A = ℕ} 0 1 = cc in absurd (omega arith))
 
-      certified_ends : (a : ℕ) (found : Option ℕ) → Certificates.certified x.certificates a ≡ found → s.accumulator ≡ some a → (f : ℕ × Table → State row_world)
+      certified_ends : (a : ℕ) (found : Option ℕ) → Certificates.certified x.certificates a ≡ found → s.accumulator ≡ Some a → (f : ℕ × Table → State row_world)
           → Ends KeyOf (bind (at place (certified row_model found x)) λ r. done (f r))
-      certified_ends a (some k) e q f = goes
-      certified_ends a none e q f = sticks (no_certificate q ((uncertified x.certificates a).0 e))
+      certified_ends a (Some k) e q f = goes
+      certified_ends a None e q f = sticks (no_certificate q ((uncertified x.certificates a).0 e))
 
       tuple_made : (t : Object) (b : Raw) (n : ℕ) (f : ℕ × Table → State row_world)
           → Ends (CreateTuple t b n) (bind (messages row_world place s b.0 n) λ ms. bind (at place (placed x (locate x.rows x.used (row_of (tupled ms))))) λ r. done (f r))
       tuple_made t b n f = go (all_read b.0 n)
         where
-          go : ((ms : List ℕ) × (cells s b.0 n ≡ map some ms) × (messages row_world place s b.0 n ≡ done ms)) ⊎ Unset (cells s b.0 n)
+          go : ((ms : List ℕ) × (cells s b.0 n ≡ map Some ms) × (messages row_world place s b.0 n ≡ done ms)) ⊎ Unset (cells s b.0 n)
               → Ends (CreateTuple t b n) (bind (messages row_world place s b.0 n) λ ms. bind (at place (placed x (locate x.rows x.used (row_of (tupled ms))))) λ r. done (f r))
           go (inl (ms, c, q)) = rw q (make (tupled ms) x f λ out. tuple ms c out)
           go (inr u) = rw (unset_cells b.0 n u) (sticks (unset u))
@@ -329,14 +329,14 @@ module _ (s : State row_world) where
           verified_ends o r k b m (shape s m) refl e q w
       ends (Hash o) h = read s.accumulator _ inl λ m e. make (hashed m) x _ λ out. hash e out
 
-      cells_done : (b n : ℕ) (ms : List ℕ) → cells s b n ≡ map some ms → messages row_world place s b n ≡ done ms
+      cells_done : (b n : ℕ) (ms : List ℕ) → cells s b n ≡ map Some ms → messages row_world place s b n ≡ done ms
       unfolding messages
       cells_done b zero [] e = refl
       cells_done b zero (m ∷ ms) e = let z : ◌≡◌ {A = ℕ} 0 1 = cc in absurd (omega arith)
       cells_done b (suc n) [] e = let z : ◌≡◌ {A = ℕ} 0 1 = cc in absurd (omega arith)
       cells_done b (suc n) (m ∷ ms) e =
-          let here : message row_world s b ≡ some m = cc in
-          let there : cells s (suc b) n ≡ map some ms = cc in
+          let here : message row_world s b ≡ Some m = cc in
+          let there : cells s (suc b) n ≡ map Some ms = cc in
           rw (here, cells_done (suc b) n ms there)
 
       fills_so : {i : Instruction} → T (operands_fit kind i) → Fills s kind i → now i ≡ room place

@@ -3,7 +3,7 @@ use Prim.Native.Nat.{ℕ}
 use mathlib.Core.Path.{◌≡◌, refl, sym, ◌∙◌, ap}
 use mathlib.Core.Logic.{◌↔◌, inl, inr}
 use mathlib.Core.Bool.{Bool, true, false, not}
-use mathlib.Core.Option.{Option, none, some}
+use Rattle.std.specs.Prelude.{Option, None, Some}
 use mathlib.Core.List.{List}
 use native.Mathlib.Omega.{arith}
 use lib.Dec.{T, eqb}
@@ -44,14 +44,14 @@ emission_refused create pattern kinds objects named slice (inr e) =
     record { checks = c; answer = _; refused = q }
 
 -- compile sees of the cells what the rules see of the terms
-set_known : (cell : ℕ) (o : Option Term) → (o ≡ none) ↔ (cell ≡ unset) → is_set cell ≡ is_some o
+set_known : (cell : ℕ) (o : Option Term) → (o ≡ None) ↔ (cell ≡ unset) → is_set cell ≡ is_some o
 set_known cell o says = go (eqb cell unset) (equals cell unset) o says
   where
-    go : (b : Bool) → T b ↔ (cell ≡ unset) → (o : Option Term) → (o ≡ none) ↔ (cell ≡ unset) → not b ≡ is_some o
-    go true same none says = refl
-    go true same (some m) says = absurd (let e : some m ≡ none = says.1 (same.0 tt) in let z : ◌≡◌ {A = ℕ} 0 1 = cc in omega arith)
-    go false same none says = absurd (same.1 (says.0 refl))
-    go false same (some m) says = refl
+    go : (b : Bool) → T b ↔ (cell ≡ unset) → (o : Option Term) → (o ≡ None) ↔ (cell ≡ unset) → not b ≡ is_some o
+    go true same None says = refl
+    go true same (Some m) says = absurd (let e : Some m ≡ None = says.1 (same.0 tt) in let z : ◌≡◌ {A = ℕ} 0 1 = cc in omega arith)
+    go false same None says = absurd (same.1 (says.0 refl))
+    go false same (Some m) says = refl
 
 entry_known : (objects named : List ℕ) (n : TermStores) → SetAs objects named n → entry objects named ≡ known term_world n
 entry_known objects named n s =
@@ -62,7 +62,7 @@ module _ (pattern kinds objects named slice : List ℕ) where
   pub no_match : Refused (compile false pattern kinds objects named slice) → {n n' : TermStores} {m : Term} → SetAs objects named n → Matches (kind_in kinds) n (pattern_of pattern) m n' → ⊥
   no_match r {n} {n'} {m} s h =
       let E = emission_refused false pattern kinds objects named slice r in
-      refused_matching term_world (kind_in kinds) (pattern_of pattern) (raws_below pattern) n (ap (compile↓ (pattern_of pattern)) (sym (entry_known objects named n s)) ∙ E.refused) (some m) n'
+      refused_matching term_world (kind_in kinds) (pattern_of pattern) (raws_below pattern) n (ap (compile↓ (pattern_of pattern)) (sym (entry_known objects named n s)) ∙ E.refused) (Some m) n'
       (figure2_then_match (kind_in kinds) (checked_right false pattern kinds objects named (kinds_long false pattern kinds objects named slice E.checks) E.checks) h)
 
   pub no_creation : Refused (compile true pattern kinds objects named slice) → {n n' : TermStores} {m : Term} → SetAs objects named n → Creates (kind_in kinds) n (pattern_of pattern) m n' → ⊥

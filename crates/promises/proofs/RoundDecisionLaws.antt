@@ -3,7 +3,7 @@ use Prim.Native.Nat.{ℕ, ◌+◌, ◌≤◌}
 use mathlib.Core.Path.{◌≡◌, refl, sym, ◌∙◌, ap, subst}
 use mathlib.Core.Logic.{◌≢◌, ◌⊎◌, inl, inr}
 use mathlib.Core.Bool.{true, false}
-use mathlib.Core.Option.{some}
+use Rattle.std.specs.Prelude.{Some}
 use mathlib.Core.List.{List}
 use native.Mathlib.Omega.{arith}
 use lib.ListN.{length}
@@ -50,7 +50,7 @@ unfolding left_by
 zero_answers x code e = rw (finished x code e).left (refl, refl, refl)
 
 -- a set message
-waits : (terms : List ℕ) (message row : ℕ) → held message ≡ some row → message ≢ unset
+waits : (terms : List ℕ) (message row : ℕ) → held message ≡ Some row → message ≢ unset
 unfolding held
 waits terms message row h e = let z : ◌≡◌ {A = ℕ} 0 1 = cc in omega arith
 
@@ -115,7 +115,7 @@ module _ (x : RoundLent) {set next : Env} {r : RoundHalves} (c : RoundCode x.kin
   pub second_prepared : run_number (matched x r.first) ≡ 0 → Prepared true r.creating (between x r.first) r.second
   second_prepared e = half_prepared (between x r.first) (second_code x c ready.cells e) (run_valid_again (received x) r.first e) (room_second e)
 
-  module _ {m : Term} (message : message_before (received x) ≡ some m) where
+  module _ {m : Term} (message : message_before (received x) ≡ Some m) where
     due : Due x (round_words r)
     due = record {
       checked = record {

@@ -4,7 +4,8 @@ use mathlib.Core.Path.{◌≡◌, refl, sym, ◌∙◌, ap, subst}
 use mathlib.Core.Logic.Iff
 use mathlib.Core.Logic.{◌↔◌, ◌≢◌}
 use mathlib.Core.Bool.{Bool, true, false, cond, not}
-use mathlib.Core.Option.{Option, none, some, map}
+use Rattle.std.specs.Prelude.{Option, None, Some}
+use Rattle.std.specs.Option.{option_map}
 use mathlib.Core.List.{List, [], ◌∷◌}
 use native.Mathlib.Omega.{arith}
 use lib.Dec.{T, eqb, leb}
@@ -57,9 +58,9 @@ module _ (x : RoundLent) (code : List ℕ) where
   -- nothing is refused by 1, 2, 3 and 9
   record Passed : Type 0 where
     lengths : T (round_lengths_fit x code)
-    rows : bad_term x.terms x.session.counter ≡ none
+    rows : bad_term x.terms x.session.counter ≡ None
     stores : T (record_fits x code)
-    words : bad_round_word (kind_in x.kinds) code ≡ none
+    words : bad_round_word (kind_in x.kinds) code ≡ None
 
   -- nor by 14, 13 and 12
   record Turn : Type 0 where
@@ -71,10 +72,10 @@ module _ (x : RoundLent) (code : List ℕ) where
   -- what each answer says
   abbrev RoundGives : Rounded → Type 0
   RoundGives (Ran Ran.Limit) = T (round_lengths_fit x code) → ⊥
-  RoundGives (Ran (Ran.BadTerm row)) = T (round_lengths_fit x code) × (bad_term x.terms x.session.counter ≡ some row)
-  RoundGives (Ran Ran.BadStore) = T (round_lengths_fit x code) × (bad_term x.terms x.session.counter ≡ none) × (T (record_fits x code) → ⊥)
+  RoundGives (Ran (Ran.BadTerm row)) = T (round_lengths_fit x code) × (bad_term x.terms x.session.counter ≡ Some row)
+  RoundGives (Ran Ran.BadStore) = T (round_lengths_fit x code) × (bad_term x.terms x.session.counter ≡ None) × (T (record_fits x code) → ⊥)
   RoundGives (Ran (Ran.BadWord word)) =
-      T (round_lengths_fit x code) × (bad_term x.terms x.session.counter ≡ none) × T (record_fits x code) × (bad_round_word (kind_in x.kinds) code ≡ some word)
+      T (round_lengths_fit x code) × (bad_term x.terms x.session.counter ≡ None) × T (record_fits x code) × (bad_round_word (kind_in x.kinds) code ≡ Some word)
   RoundGives RoleEnded = Passed × T overdue
   RoundGives NotTaken = Passed × T (not overdue) × T (is_set x.session.answer)
   RoundGives NoMessage = Passed × T (not overdue) × T (not (is_set x.session.answer)) × T (not (is_set x.session.message))
@@ -108,22 +109,22 @@ module _ (x : RoundLent) (code : List ℕ) where
       → RoundLeaves
       (round_by x code
       (first
-      (when (not a) (Ran Ran.Limit) ∷ map (λ row. Ran (Ran.BadTerm row)) rows ∷ when (not b) (Ran Ran.BadStore) ∷ map (λ word. Ran (Ran.BadWord word)) words
+      (when (not a) (Ran Ran.Limit) ∷ option_map (λ row. Ran (Ran.BadTerm row)) rows ∷ when (not b) (Ran Ran.BadStore) ∷ option_map (λ word. Ran (Ran.BadWord word)) words
       ∷ when c RoleEnded ∷ when d NotTaken ∷ when (not e) NoMessage ∷ [])))
   unfolding first
   by_looks false b c d e rows words p q r s u v w = refused (Ran Ran.Limit) (λ z. omega arith) (rw p λ n. n) λ turn. rw p at turn.passed.lengths
-  by_looks true b c d e (some row) words p q r s u v w =
+  by_looks true b c d e (Some row) words p q r s u v w =
       refused (Ran (Ran.BadTerm row)) (λ z. omega arith) (rw p tt, q) λ turn. let n = turn.passed.rows in let z : ◌≡◌ {A = ℕ} 0 1 = cc in omega arith
-  by_looks true false c d e none words p q r s u v w = refused (Ran Ran.BadStore) (λ z. omega arith) (rw p tt, q, rw r λ n. n) λ turn. rw r at turn.passed.stores
-  by_looks true true c d e none (some word) p q r s u v w =
+  by_looks true false c d e None words p q r s u v w = refused (Ran Ran.BadStore) (λ z. omega arith) (rw p tt, q, rw r λ n. n) λ turn. rw r at turn.passed.stores
+  by_looks true true c d e None (Some word) p q r s u v w =
       refused (Ran (Ran.BadWord word)) (λ z. omega arith) (rw p tt, q, rw r tt, s) λ turn. let n = turn.passed.words in let z : ◌≡◌ {A = ℕ} 0 1 = cc in omega arith
-  by_looks true true true d e none none p q r s u v w =
+  by_looks true true true d e None None p q r s u v w =
       refused RoleEnded (λ z. omega arith) (record { lengths = rw p tt; rows = q; stores = rw r tt; words = s }, rw u tt) λ turn. rw u at turn.goes_on
-  by_looks true true false true e none none p q r s u v w =
+  by_looks true true false true e None None p q r s u v w =
       refused NotTaken (λ z. omega arith) (record { lengths = rw p tt; rows = q; stores = rw r tt; words = s }, rw u tt, rw v tt) λ turn. rw v at turn.taken
-  by_looks true true false false false none none p q r s u v w =
+  by_looks true true false false false None None p q r s u v w =
       refused NoMessage (λ z. omega arith) (record { lengths = rw p tt; rows = q; stores = rw r tt; words = s }, rw u tt, rw v tt, rw w tt) λ turn. rw w at turn.waiting
-  by_looks true true false false true none none p q r s u v w =
+  by_looks true true false false true None None p q r s u v w =
       by_steps (record { passed = record { lengths = rw p tt; rows = q; stores = rw r tt; words = s }; goes_on = rw u tt; taken = rw v tt; waiting = rw w tt }) steps_in refl
 
   round_leaves : RoundLeaves (round x code)
@@ -161,8 +162,8 @@ module _ (x : RoundLent) (code : List ℕ) where
   -- and what is said is answered
   passed_steps : Passed → first (when overdue RoleEnded ∷ when (is_set x.session.answer) NotTaken ∷ when (not (is_set x.session.message)) NoMessage ∷ [])
       ≡ first
-      (when (not (round_lengths_fit x code)) (Ran Ran.Limit) ∷ map (λ row. Ran (Ran.BadTerm row)) (bad_term x.terms x.session.counter)
-      ∷ when (not (record_fits x code)) (Ran Ran.BadStore) ∷ map (λ word. Ran (Ran.BadWord word)) (bad_round_word (kind_in x.kinds) code) ∷ when overdue RoleEnded
+      (when (not (round_lengths_fit x code)) (Ran Ran.Limit) ∷ option_map (λ row. Ran (Ran.BadTerm row)) (bad_term x.terms x.session.counter)
+      ∷ when (not (record_fits x code)) (Ran Ran.BadStore) ∷ option_map (λ word. Ran (Ran.BadWord word)) (bad_round_word (kind_in x.kinds) code) ∷ when overdue RoleEnded
       ∷ when (is_set x.session.answer) NotTaken ∷ when (not (is_set x.session.message)) NoMessage ∷ [])
   unfolding first
   passed_steps p =
@@ -273,11 +274,11 @@ module _ (x : RoundLent) (code : List ℕ) where
     test_says : place < length code → T (not (not (good_round_word (kind_in x.kinds) (length code) place word_at))) ↔ GoodRoundWord (kind_in x.kinds) code place
     test_says inside = Iff.trans (twice (good_round_word (kind_in x.kinds) (length code) place word_at)) word_says
 
-  words_good : (bad_round_word (kind_in x.kinds) code ≡ none) ↔ AllGood (GoodRoundWord (kind_in x.kinds) code) (length code)
+  words_good : (bad_round_word (kind_in x.kinds) code ≡ None) ↔ AllGood (GoodRoundWord (kind_in x.kinds) code) (length code)
   unfolding bad_round_word
   words_good = none_bad (λ place word. not (good_round_word (kind_in x.kinds) (length code) place word)) (GoodRoundWord (kind_in x.kinds) code) code 0 test_says
 
-  word_bad : (word : ℕ) → (bad_round_word (kind_in x.kinds) code ≡ some word) ↔ LowestBad (GoodRoundWord (kind_in x.kinds) code) (length code) word
+  word_bad : (word : ℕ) → (bad_round_word (kind_in x.kinds) code ≡ Some word) ↔ LowestBad (GoodRoundWord (kind_in x.kinds) code) (length code) word
   unfolding bad_round_word
   word_bad = lowest_bad (λ place word. not (good_round_word (kind_in x.kinds) (length code) place word)) (GoodRoundWord (kind_in x.kinds) code) code 0 test_says
 

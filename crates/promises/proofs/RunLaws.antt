@@ -3,7 +3,8 @@ use Prim.Native.Nat.{ℕ}
 use mathlib.Core.Path.{◌≡◌, refl, sym, ◌∙◌, ap, subst}
 use mathlib.Core.Logic.{◌≢◌}
 use mathlib.Core.Bool.{Bool, true, false, not}
-use mathlib.Core.Option.{Option, none, some, map}
+use Rattle.std.specs.Prelude.{Option, None, Some}
+use Rattle.std.specs.Option.{option_map}
 use mathlib.Core.List.{List, [], ◌∷◌}
 use native.Mathlib.Omega.{arith}
 use lib.Dec.{T}
@@ -29,9 +30,9 @@ use Rattle.promises.proofs.StepLaws.{exec_reasoned, reason_back}
 -- what each answer says
 abbrev pub RunGives : Lent → List ℕ → Ran → Type 0
 RunGives x code Limit = T (lengths_fit x code) → ⊥
-RunGives x code (BadTerm row) = T (lengths_fit x code) × (bad_term x.terms x.counter ≡ some row)
-RunGives x code BadStore = T (lengths_fit x code) × (bad_term x.terms x.counter ≡ none) × (T (stores_fit x) → ⊥)
-RunGives x code (BadWord word) = T (lengths_fit x code) × (bad_term x.terms x.counter ≡ none) × T (stores_fit x) × (bad_word (kind_in x.kinds) code ≡ some word)
+RunGives x code (BadTerm row) = T (lengths_fit x code) × (bad_term x.terms x.counter ≡ Some row)
+RunGives x code BadStore = T (lengths_fit x code) × (bad_term x.terms x.counter ≡ None) × (T (stores_fit x) → ⊥)
+RunGives x code (BadWord word) = T (lengths_fit x code) × (bad_term x.terms x.counter ≡ None) × T (stores_fit x) × (bad_word (kind_in x.kinds) code ≡ Some word)
 RunGives x code (Stuck word reason) = Passed x code × (steps_of x code ≡ stuck word (reason_number reason))
 RunGives x code (NoRoom word) = Passed x code × (steps_of x code ≡ room word)
 RunGives x code (Done words) = Passed x code × (words ≡ length code) × ((t : State row_world) × (steps_of x code ≡ done t))
@@ -55,13 +56,13 @@ module _ (x : Lent) (code : List ℕ) where
 
   -- one look after another
   by_looks : (a b : Bool) (rows words : Option ℕ) → lengths_fit x code ≡ a → bad_term x.terms x.counter ≡ rows → stores_fit x ≡ b → bad_word (kind_in x.kinds) code ≡ words
-      → RunLeaves x code (run_by x code (first (when (not a) Limit ∷ map BadTerm rows ∷ when (not b) BadStore ∷ map BadWord words ∷ [])))
+      → RunLeaves x code (run_by x code (first (when (not a) Limit ∷ option_map BadTerm rows ∷ when (not b) BadStore ∷ option_map BadWord words ∷ [])))
   unfolding first
   by_looks false b rows words e f g h = refused Limit (λ z. omega arith) (rw e λ n. n)
-  by_looks true b (some row) words e f g h = refused (BadTerm row) (λ z. omega arith) (rw e tt, f)
-  by_looks true false none words e f g h = refused BadStore (λ z. omega arith) (rw e tt, f, rw g λ n. n)
-  by_looks true true none (some word) e f g h = refused (BadWord word) (λ z. omega arith) (rw e tt, f, rw g tt, h)
-  by_looks true true none none e f g h = by_steps (record { lengths = rw e tt; rows = f; stores = rw g tt; words = h }) (steps_of x code) refl
+  by_looks true b (Some row) words e f g h = refused (BadTerm row) (λ z. omega arith) (rw e tt, f)
+  by_looks true false None words e f g h = refused BadStore (λ z. omega arith) (rw e tt, f, rw g λ n. n)
+  by_looks true true None (Some word) e f g h = refused (BadWord word) (λ z. omega arith) (rw e tt, f, rw g tt, h)
+  by_looks true true None None e f g h = by_steps (record { lengths = rw e tt; rows = f; stores = rw g tt; words = h }) (steps_of x code) refl
 
   run_leaves : RunLeaves x code (run x code)
   unfolding run

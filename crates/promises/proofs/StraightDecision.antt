@@ -3,7 +3,7 @@ use Prim.Native.Nat.{ℕ, zero, suc, ◌≤◌}
 use mathlib.Core.Path.{◌≡◌, refl, sym, ◌∙◌, ap, subst}
 use mathlib.Core.Logic.{◌≢◌, inl, inr}
 use mathlib.Core.Bool.{Bool, true, false}
-use mathlib.Core.Option.{some}
+use Rattle.std.specs.Prelude.{Some}
 use mathlib.Core.List.{List, [], ◌∷◌, ◌++◌}
 use native.Mathlib.Omega.{arith}
 use lib.ListN.{length, take, replicate, length-append, length-replicate, length-map}
@@ -137,7 +137,7 @@ module _ (creates : Bool) (pattern : List ℕ) (x : Lent) where
       (run_gives (lent_to_run x) (compiled_code (compiled_first creates pattern x)) refl)
       λ word g.
       let good = (no_bad_word_iff (kind_in x.kinds) (code_words w.lines)).1 w.good in
-      let named : bad_word (kind_in x.kinds) (code_words w.lines) ≡ some word = ap (bad_word (kind_in x.kinds)) (sym (used_words w)) ∙ g.3 in
+      let named : bad_word (kind_in x.kinds) (code_words w.lines) ≡ Some word = ap (bad_word (kind_in x.kinds)) (sym (used_words w)) ∙ g.3 in
       let z : ◌≡◌ {A = ℕ} 0 1 = cc in
       omega arith
 
@@ -278,7 +278,7 @@ pub direct_valid_again : (creates : Bool) (pattern : List ℕ) (x : Lent) → di
 direct_valid_again creates pattern x e =
     valid_back creates pattern x ((asked creates pattern x).0 (direct_answered creates pattern x (done_answers (direct creates pattern x) e)).0) e
 
-pub direct_match : {pattern : List ℕ} {x : Lent} {m : Term} → Roomy false pattern x → message_before x ≡ some m → DecidesDirectMatch pattern x m
+pub direct_match : {pattern : List ℕ} {x : Lent} {m : Term} → Roomy false pattern x → message_before x ≡ Some m → DecidesDirectMatch pattern x m
 direct_match {pattern} {x} {m} r message =
     let q = r.asked in
     let d = decided_match (prepared false pattern x q r.room) message in

@@ -3,7 +3,8 @@ use Prim.Native.Nat.{ℕ}
 use mathlib.Core.Path.{◌≡◌, refl, sym, ◌∙◌, ap, subst}
 use mathlib.Core.Logic.{◌↔◌, ◌≢◌, ◌⊎◌, inl, inr}
 use mathlib.Core.Bool.{Bool, true, false, not}
-use mathlib.Core.Option.{Option, none, some, map}
+use Rattle.std.specs.Prelude.{Option, None, Some}
+use Rattle.std.specs.Option.{option_map}
 use mathlib.Core.List.{List, [], ◌∷◌}
 use native.Mathlib.Omega.{arith}
 use lib.Dec.{T}
@@ -81,16 +82,16 @@ module _ (creates : Bool) (pattern : List ℕ) (x : Lent) where
   pub record Tried : Type 0 where
     pub accepts : Accepts
     pub lengths : T (table_fits x)
-    pub rows : bad ≡ none
+    pub rows : bad ≡ None
     pub stores : T (stores_fit x)
 
   -- what each answer says
   abbrev pub DirectGives : Direct → Type 0
   DirectGives Limit = (T fit → ⊥) ⊎ (Accepts × (T (table_fits x) → ⊥))
-  DirectGives (BadTerm row) = Accepts × T (table_fits x) × (bad ≡ some row)
-  DirectGives BadStore = (T fit × (T declares → ⊥)) ⊎ (Accepts × T (table_fits x) × (bad ≡ none) × (T (stores_fit x) → ⊥))
-  DirectGives (BadPattern row) = T fit × T declares × (bad_pattern pattern ≡ some row)
-  DirectGives (WrongKind row) = T fit × T declares × (bad_pattern pattern ≡ none) × (wrong ≡ some row)
+  DirectGives (BadTerm row) = Accepts × T (table_fits x) × (bad ≡ Some row)
+  DirectGives BadStore = (T fit × (T declares → ⊥)) ⊎ (Accepts × T (table_fits x) × (bad ≡ None) × (T (stores_fit x) → ⊥))
+  DirectGives (BadPattern row) = T fit × T declares × (bad_pattern pattern ≡ Some row)
+  DirectGives (WrongKind row) = T fit × T declares × (bad_pattern pattern ≡ None) × (wrong ≡ Some row)
   DirectGives (WrittenWhileSet row) = Checked creates pattern x.kinds x.objects x.messages × (emits ≡ refuse (Compiled.WrittenWhileSet row))
   DirectGives (ReadWhileUnset row) = Checked creates pattern x.kinds x.objects x.messages × (emits ≡ refuse (Compiled.ReadWhileUnset row))
   DirectGives (Stuck row reason) = Tried × (rule ≡ stuck row (reason_number reason))
@@ -119,12 +120,12 @@ module _ (creates : Bool) (pattern : List ℕ) (x : Lent) where
 
   -- one look after another: run's
   by_stores : Accepts → (f g : Bool) (terms : Option ℕ) → table_fits x ≡ f → bad ≡ terms → stores_fit x ≡ g
-      → DirectLeaves (direct_by creates pattern x (first (when (not f) Limit ∷ map BadTerm terms ∷ when (not g) BadStore ∷ [])))
+      → DirectLeaves (direct_by creates pattern x (first (when (not f) Limit ∷ option_map BadTerm terms ∷ when (not g) BadStore ∷ [])))
   unfolding first
   by_stores a false g terms e h s = refused Limit (λ z. omega arith) (inr (a, rw e λ n. n))
-  by_stores a true g (some row) e h s = refused (BadTerm row) (λ z. omega arith) (a, rw e tt, h)
-  by_stores a true false none e h s = refused BadStore (λ z. omega arith) (inr (a, rw e tt, h, rw s λ n. n))
-  by_stores a true true none e h s = by_rules (record { accepts = a; lengths = rw e tt; rows = h; stores = rw s tt }) rule refl
+  by_stores a true g (Some row) e h s = refused (BadTerm row) (λ z. omega arith) (a, rw e tt, h)
+  by_stores a true false None e h s = refused BadStore (λ z. omega arith) (inr (a, rw e tt, h, rw s λ n. n))
+  by_stores a true true None e h s = by_rules (record { accepts = a; lengths = rw e tt; rows = h; stores = rw s tt }) rule refl
 
   by_refusal : (answer : Compiled) → Checked creates pattern x.kinds x.objects x.messages → Refusal answer → emits ≡ refuse answer
       → DirectLeaves (as_given (refused_as answer) x)
@@ -132,7 +133,7 @@ module _ (creates : Bool) (pattern : List ℕ) (x : Lent) where
   by_refusal answer c (read {row = row}) q = refused (ReadWhileUnset row) (λ z. omega arith) (c, q)
 
   by_emission : Checked creates pattern x.kinds x.objects x.messages → (E : Emitted) → emits ≡ E
-      → DirectLeaves (direct_by creates pattern x (first (map refused_as (first (refused_by E ∷ [])) ∷ store_refusals x)))
+      → DirectLeaves (direct_by creates pattern x (first (option_map refused_as (first (refused_by E ∷ [])) ∷ store_refusals x)))
   unfolding first
   by_emission c (ok lines env) q =
       by_stores (record { checks = c; lines = lines; env = env; emitting = q }) (table_fits x) (stores_fit x) bad refl refl refl
@@ -144,15 +145,15 @@ module _ (creates : Bool) (pattern : List ℕ) (x : Lent) where
   -- and compile's before them
   by_looks : (a b : Bool) (rows right : Option ℕ) → fit ≡ a → declares ≡ b → bad_pattern pattern ≡ rows → wrong ≡ right
       → DirectLeaves (direct_by creates pattern x
-      (first (map refused_as
-      (first (when (not a) Compiled.Limit ∷ when (not b) Compiled.BadStore ∷ map Compiled.BadPattern rows ∷ map Compiled.WrongKind right ∷ refused_by emits ∷ []))
+      (first (option_map refused_as
+      (first (when (not a) Compiled.Limit ∷ when (not b) Compiled.BadStore ∷ option_map Compiled.BadPattern rows ∷ option_map Compiled.WrongKind right ∷ refused_by emits ∷ []))
       ∷ store_refusals x)))
   unfolding first
   by_looks false b rows right e f g h = refused Limit (λ z. omega arith) (inl (rw e λ n. n))
   by_looks true false rows right e f g h = refused BadStore (λ z. omega arith) (inl (rw e tt, rw f λ n. n))
-  by_looks true true (some row) right e f g h = refused (BadPattern row) (λ z. omega arith) (rw e tt, rw f tt, g)
-  by_looks true true none (some row) e f g h = refused (WrongKind row) (λ z. omega arith) (rw e tt, rw f tt, g, h)
-  by_looks true true none none e f g h = by_emission (record { lengths = rw e tt; cells = rw f tt; rows = g; right = h }) emits refl
+  by_looks true true (Some row) right e f g h = refused (BadPattern row) (λ z. omega arith) (rw e tt, rw f tt, g)
+  by_looks true true None (Some row) e f g h = refused (WrongKind row) (λ z. omega arith) (rw e tt, rw f tt, g, h)
+  by_looks true true None None e f g h = by_emission (record { lengths = rw e tt; cells = rw f tt; rows = g; right = h }) emits refl
 
   abbrev outcome : DirectOutcome
   outcome = direct creates pattern x
@@ -169,7 +170,7 @@ module _ (creates : Bool) (pattern : List ℕ) (x : Lent) where
 
   -- what is said is answered
   emission_asked : Checked creates pattern x.kinds x.objects x.messages
-      → outcome ≡ direct_by creates pattern x (first (map refused_as (first (refused_by emits ∷ [])) ∷ store_refusals x))
+      → outcome ≡ direct_by creates pattern x (first (option_map refused_as (first (refused_by emits ∷ [])) ∷ store_refusals x))
   unfolding direct first
   emission_asked c = rw (passes_when fit Compiled.Limit c.lengths, passes_when declares Compiled.BadStore c.cells, c.rows, c.right)
 

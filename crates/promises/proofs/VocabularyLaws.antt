@@ -3,7 +3,7 @@ use Prim.Native.Nat.{ℕ, suc, ◌<◌}
 use mathlib.Core.Path.{◌≡◌, refl, sym, ap}
 use mathlib.Core.Logic.{◌↔◌, inl, inr}
 use mathlib.Core.Bool.{Bool, true, false, ◌&&◌}
-use mathlib.Core.Option.{Option, none, some}
+use Rattle.std.specs.Prelude.{Option, None, Some}
 use native.Mathlib.Decide.{dec_lt}
 use native.Mathlib.Omega.{arith}
 use lib.Dec.{T, eqb}
@@ -132,9 +132,9 @@ module _ (n : Names) where
     λ h. absurd (l h.0),
   )
 
-  certifies_iff : (k : Term) (n' : Names) (found : Option Term) → (◌≡◌ {A = Answer (Term × Names)} (certified term_model found n) (got (k, n'))) ↔ ((found ≡ some k) × (n' ≡ n))
-  certifies_iff k n' (some l) = (λ e. let it = (made_only l k n n').0 e in (ap some (sym it.0), it.1), λ h. let same : k ≡ l = cc in (made_only l k n n').1 (same, h.1))
-  certifies_iff k n' none = (λ e. absurd (never e), λ h. let z : ◌≡◌ {A = ℕ} 0 1 = cc in absurd (omega arith))
+  certifies_iff : (k : Term) (n' : Names) (found : Option Term) → (◌≡◌ {A = Answer (Term × Names)} (certified term_model found n) (got (k, n'))) ↔ ((found ≡ Some k) × (n' ≡ n))
+  certifies_iff k n' (Some l) = (λ e. let it = (made_only l k n n').0 e in (ap Some (sym it.0), it.1), λ h. let same : k ≡ l = cc in (made_only l k n n').1 (same, h.1))
+  certifies_iff k n' None = (λ e. absurd (never e), λ h. let z : ◌≡◌ {A = ℕ} 0 1 = cc in absurd (omega arith))
 
   parts_there : (m : Term) (count : ℕ) (g : ℕ → Term) → term_world.parts m count n ≡ got g
       → (ts : Terms) × (m ≡ tupled ts) × (length (listed ts) ≡ count) × ((i : ℕ) → i < count → g i ≡ get_or (listed ts) i m)

@@ -1,7 +1,7 @@
 -- The steps of a code are one word after another.
 use Prim.Native.Nat.{ℕ, zero, suc, ◌+◌, ◌<◌, ◌≤◌}
 use mathlib.Core.Path.{◌≡◌, refl, sym, ◌∙◌, ap, subst}
-use mathlib.Core.Option.{some}
+use Rattle.std.specs.Prelude.{Some}
 use mathlib.Core.List.{List, [], ◌∷◌}
 use native.Mathlib.Omega.{arith}
 use lib.ListN.{length, get_or, drop, drop_of_length-le}
@@ -27,7 +27,7 @@ module _ (x : Lent) (code : List ℕ) where
   abbrev rest : ℕ → List Line
   rest place = lines_from place (drop place code)
 
-  first_line : (place : ℕ) (i : Instruction) → place < length code → instruction_of (get_or code place 0) ≡ some i → rest place ≡ line_at place i ∷ rest (suc place)
+  first_line : (place : ℕ) (i : Instruction) → place < length code → instruction_of (get_or code place 0) ≡ Some i → rest place ≡ line_at place i ∷ rest (suc place)
   unfolding lines_from
   first_line place i inside says = rw (drop-cons code place 0 inside, says)
 
@@ -70,7 +70,7 @@ module _ (x : Lent) (code : List ℕ) where
         rw (first_line place word.instruction inside word.says)
         (by_step (step_ends calm_rows kind place s word.instruction) word.instruction inside word.says refl λ t b. walk more (suc place) (omega arith) t b)
       where
-        by_step : {o : Outcome (State row_world)} → Ends place (KeptPast row_world s) o → (i : Instruction) → place < length code → instruction_of (get_or code place 0) ≡ some i
+        by_step : {o : Outcome (State row_world)} → Ends place (KeptPast row_world s) o → (i : Instruction) → place < length code → instruction_of (get_or code place 0) ≡ Some i
             → step row_world kind place i s ≡ o → ((t : State row_world) → After x code (suc place) t → Walked (exec row_world kind (rest (suc place)) t))
             → Walked (bind o (exec row_world kind (rest (suc place))))
         by_step (goes {a = t} h) i inside says q onward = onward t (next a (record { inside = inside; instruction = i; says = says; steps = q }))

@@ -3,7 +3,7 @@ use Prim.Native.Nat.{ℕ, ◌+◌, ◌^◌, ◌<◌, ◌≤◌}
 use mathlib.Core.Path.{◌≡◌, refl, sym, ◌∙◌, ap, subst}
 use mathlib.Core.Logic.{◌⊎◌, inl, inr}
 use mathlib.Core.Bool.{◌&&◌}
-use mathlib.Core.Option.{Option, none, some}
+use Rattle.std.specs.Prelude.{Option, None, Some}
 use mathlib.Core.List.{List, [], ◌∷◌}
 use native.Mathlib.Omega.{arith}
 use lib.Dec.{T, leb, ltb}
@@ -30,8 +30,8 @@ use Rattle.promises.specs.Words as Words
 
 -- A, B and n of what a word says have room in their fields
 abbrev Fitting : Option Instruction → Type 0
-Fitting (some i) = FieldsFit i
-Fitting none = Unit {0}
+Fitting (Some i) = FieldsFit i
+Fitting None = Unit {0}
 
 room : (i : Instruction) → at 1 (fields_of i) < 256 → at 2 (fields_of i) < 256 → at 3 (fields_of i) < 8 → FieldsFit i
 room i a b n = record { a = a; b = b; n = n }
@@ -39,14 +39,14 @@ room i a b n = record { a = a; b = b; n = n }
 fits_by : (operation a b n : ℕ) → a < 256 → b < 256 → n < 8 → Fitting (instruction_by operation a b n)
 fits_by operation a b n A B N =
     all_get_d Fitting
-    (none ∷ none
-    ∷ some (Load (as_raw a)) ∷ some (Store (as_raw a)) ∷ some (StoreConst (as_object a) b)
-    ∷ some (Decode (as_object a)) ∷ some (Encode (as_object a)) ∷ some (Create (as_object a))
-    ∷ some (AnalyzeTuple (as_object a) (as_raw b) n) ∷ some (CreateTuple (as_object a) (as_raw b) n)
-    ∷ some (Opposite (as_object a) (as_object b)) ∷ some KeyOf ∷ some (Match (as_raw a))
-    ∷ some (Encrypt (as_object a)) ∷ some (Decrypt (as_object a)) ∷ some (Sign (as_object a))
-    ∷ some (Verify (as_object a) (as_raw b)) ∷ some (Hash (as_object a)) ∷ [])
-    none (
+    (None ∷ None
+    ∷ Some (Load (as_raw a)) ∷ Some (Store (as_raw a)) ∷ Some (StoreConst (as_object a) b)
+    ∷ Some (Decode (as_object a)) ∷ Some (Encode (as_object a)) ∷ Some (Create (as_object a))
+    ∷ Some (AnalyzeTuple (as_object a) (as_raw b) n) ∷ Some (CreateTuple (as_object a) (as_raw b) n)
+    ∷ Some (Opposite (as_object a) (as_object b)) ∷ Some KeyOf ∷ Some (Match (as_raw a))
+    ∷ Some (Encrypt (as_object a)) ∷ Some (Decrypt (as_object a)) ∷ Some (Sign (as_object a))
+    ∷ Some (Verify (as_object a) (as_raw b)) ∷ Some (Hash (as_object a)) ∷ [])
+    None (
       tt,
       (
         tt,

@@ -1,6 +1,6 @@
 -- Demand 3: the run of compiled code is the rules of figures 2 and 3.
 use Rattle.std.specs.Prelude.{ℕ, ◌≡◌, ◌↔◌, ◌≢◌, ◌⊎◌, Bool, true, false, List, length, take, get_or}
-use Rattle.std.proofs.Math.Option.{none, some}
+use Rattle.std.specs.Prelude.{None, Some}
 use Rattle.answers.specs.Numbers.{ran_reason}
 use Rattle.stores.specs.Cells.{unset}
 use Rattle.patterns.specs.Tree.{pattern_of}
@@ -48,21 +48,21 @@ pub record DecidesMatch (pattern : List ℕ) (x : Lent) (code : List ℕ) (m : T
 -- The same for figure 3, with the message in the accumulator; the name counter is among the stores.
 pub record DecidesCreation (pattern : List ℕ) (x : Lent) (code : List ℕ) : Type 0 where
   pub finishes : (m : Term) (n : TermStores)
-      → CreatesTo pattern x m n ↔ (RunAnswers (run x code) 0 (length code) 0 × (message_after (run x code) ≡ some m) × (after x (run x code) ≡ n))
+      → CreatesTo pattern x m n ↔ (RunAnswers (run x code) 0 (length code) 0 × (message_after (run x code) ≡ Some m) × (after x (run x code) ≡ n))
   pub stuck : (run_number (run x code) ≡ 10) ↔ ((m : Term) (n : TermStores) → CreatesTo pattern x m n → ⊥)
   pub room : run_number (run x code) ≢ 11
 
 -- Terms in exactly the cells that are set.
 pub record SetAs (objects named : List ℕ) (n : TermStores) : Type 0 where
-  pub object_cells : (v : ℕ) → (n.σ v ≡ none) ↔ (get_or objects v unset ≡ unset)
-  pub named_cells_lem : (r : ℕ) → (n.ρ r ≡ none) ↔ (get_or named r unset ≡ unset)
+  pub object_cells : (v : ℕ) → (n.σ v ≡ None) ↔ (get_or objects v unset ≡ unset)
+  pub named_cells_lem : (r : ℕ) → (n.ρ r ≡ None) ↔ (get_or named r unset ≡ unset)
 
 -- 6 or 7
 abbrev pub Refused : CompileOutcome → Type 0
 Refused o = (compile_number o ≡ 6) ⊎ (compile_number o ≡ 7)
 
 pub record Demand3 : Type 0 where
-  pub matching : {pattern code : List ℕ} {x : Lent} {m : Term} → Prepared false pattern x code → message_before x ≡ some m → DecidesMatch pattern x code m
+  pub matching : {pattern code : List ℕ} {x : Lent} {m : Term} → Prepared false pattern x code → message_before x ≡ Some m → DecidesMatch pattern x code m
   pub creating : {pattern code : List ℕ} {x : Lent} → Prepared true pattern x code → DecidesCreation pattern x code
   -- a pattern refused with 6 or 7 has no match or creation from any stores with those set cells
   pub refused_matching : (pattern kinds objects named slice : List ℕ) → Refused (compile false pattern kinds objects named slice)
@@ -72,5 +72,5 @@ pub record Demand3 : Type 0 where
   -- after a finished run of any code what was lent is valid again
   pub valid_again : (x : Lent) (code : List ℕ) → run_number (run x code) ≡ 0 → Valid (lent_after x (run x code))
   -- compiled code never reads what is unset: in a match with a set accumulator, in a creation always
-  pub reads_matching : {pattern code : List ℕ} {x : Lent} {m : Term} → CodeFor false pattern x code → message_before x ≡ some m → ran_reason (run x code).answer ≢ 1
+  pub reads_matching : {pattern code : List ℕ} {x : Lent} {m : Term} → CodeFor false pattern x code → message_before x ≡ Some m → ran_reason (run x code).answer ≢ 1
   pub reads_creating : {pattern code : List ℕ} {x : Lent} → CodeFor true pattern x code → ran_reason (run x code).answer ≢ 1

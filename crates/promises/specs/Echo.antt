@@ -1,6 +1,6 @@
 -- A round by the figures, worked: a nonce is received and sent back. The premises of the halves' promises are met.
 use Rattle.std.specs.Prelude.{◌≡◌, [], ◌∷◌, replicate}
-use Rattle.std.proofs.Math.Option.{some}
+use Rattle.std.specs.Prelude.{Some}
 use Rattle.answers.specs.declared.Compiled.TheVariants.{Done}
 use Rattle.terms.specs.Shape as Shape
 use Rattle.terms.specs.Row.{row_of}
@@ -42,7 +42,7 @@ pub record Echo : Type 0 where
   pub next : Env
   pub code : RoundCode echo_lent.kinds (set_cells (received echo_lent)) echo next
   pub ready : ReadyRound (set_cells (received echo_lent)) echo_lent (round_words echo)
-  pub message_held : message_before (received echo_lent) ≡ some echoed
+  pub message_held : message_before (received echo_lent) ≡ Some echoed
   -- done after its four words, and the figures lead from the nonce to the nonce
   pub done : RoundAnswers (round echo_lent (round_words echo)) 0 4 0
   pub leads : Leads echo echo_lent echoed echoed (stores_after echo_lent (round echo_lent (round_words echo)))

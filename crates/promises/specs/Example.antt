@@ -1,6 +1,6 @@
 -- Demand 3 on worked cases: its premises are met, and the figures lead to what the runs leave, or nowhere.
 use Rattle.std.specs.Prelude.{ℕ, ◌≡◌, true, false, List, [], ◌∷◌, replicate}
-use Rattle.std.proofs.Math.Option.{some}
+use Rattle.std.specs.Prelude.{Some}
 use Rattle.terms.specs.Shape as Shape
 use Rattle.terms.specs.Row.{row_of}
 use Rattle.stores.specs.Cells.{unset}
@@ -47,12 +47,12 @@ P9_message = tupled (cons (atom 3 0) nil)
 
 pub record Example : Type 0 where
   pub P1_prepared : Prepared false P1_pattern P1_lent P1_code
-  pub P1_message_held : message_before P1_lent ≡ some P1_message
+  pub P1_message_held : message_before P1_lent ≡ Some P1_message
   pub P1_matches : MatchesTo P1_pattern P1_lent P1_message (after P1_lent (run P1_lent P1_code))
   pub P2_prepared : Prepared true P2_pattern P2_lent P2_code
   pub P2_creates : CreatesTo P2_pattern P2_lent P2_message (after P2_lent (run P2_lent P2_code))
   pub P9_prepared : Prepared false P9_pattern P9_lent P9_code
-  pub P9_message_held : message_before P9_lent ≡ some P9_message
+  pub P9_message_held : message_before P9_lent ≡ Some P9_message
   -- stuck at word 1 with reason 4, and figure 2 leads nowhere
   pub P9_stuck : RunAnswers (run P9_lent P9_code) 10 1 4
   pub P9_nowhere : (n : TermStores) → MatchesTo P9_pattern P9_lent P9_message n → ⊥

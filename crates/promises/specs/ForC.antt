@@ -1,6 +1,6 @@
 -- What firmware calls: the entries over bytes, fields high byte first. Demands 1, 2 and 3 for them.
 use Rattle.std.specs.Prelude.{ℕ, ◌*◌, ◌<◌, ◌≤◌, ◌%◌, ◌≡◌, ◌↔◌, ◌≢◌, List, ◌++◌, eqb, length, take, drop}
-use Rattle.std.proofs.Math.Option.{some}
+use Rattle.std.specs.Prelude.{Some}
 use Rattle.word.specs.All.{All}
 use Rattle.word.specs.Bytes.{elements, spelled}
 use Rattle.numbers.specs.Limits.{named_cells}
@@ -111,6 +111,6 @@ pub record ForC : Type 0 where
   pub compiles : (create : ℕ) (pattern kinds objects named code : List ℕ) → Bytes code → CompileForC create pattern kinds objects named code
   pub runs : (x : Lent) (code : List ℕ) → Bytes x.objects → Bytes x.messages → Bytes x.terms → RunForC x code
   -- demand 3, from the bytes that compile leaves to what run does: it decides as figures 2 and 3 do
-  pub matching : {pattern code : List ℕ} {x : Lent} {m : Term} → PreparedForC 0 pattern x code → message_before (lent_elements x) ≡ some m
+  pub matching : {pattern code : List ℕ} {x : Lent} {m : Term} → PreparedForC 0 pattern x code → message_before (lent_elements x) ≡ Some m
       → DecidesMatch (elements 8 pattern) (lent_elements x) (elements 4 code) m
   pub creating : {pattern code : List ℕ} {x : Lent} → PreparedForC 1 pattern x code → DecidesCreation (elements 8 pattern) (lent_elements x) (elements 4 code)

@@ -1,7 +1,7 @@
 -- Halves: a round is the run of one half and then of the other. Each half is decided by its figure, the second from the stores that the first left,
 -- and the set cells that compile carries on are those that a finished half leaves, so that a role compiled once serves every round.
 use Rattle.std.specs.Prelude.{ℕ, suc, ◌+◌, ◌<◌, ◌≤◌, ◌≡◌, ◌↔◌, ◌≢◌, Bool, true, false, List, [], ◌∷◌, ◌++◌, map, length, take, drop}
-use Rattle.std.proofs.Math.Option.{Option, some}
+use Rattle.std.specs.Prelude.{Option, Some}
 use Rattle.numbers.specs.Kinds.{kind_in}
 use Rattle.numbers.specs.Limits.{named_cells, most_code_words, most_rounds}
 use Rattle.answers.specs.Numbers.{compiled_number}
@@ -132,7 +132,7 @@ pub record DecidesRound (r : RoundHalves) (x : RoundLent) (m : Term) : Type 0 wh
   pub finishes : (a : Term) (n : TermStores)
       → Leads r x m a n
       ↔ (RoundAnswers (round x (round_words r)) 0 (length (round_words r)) 0
-      × (answer_after (round x (round_words r)) ≡ some a) × (stores_after x (round x (round_words r)) ≡ n))
+      × (answer_after (round x (round_words r)) ≡ Some a) × (stores_after x (round x (round_words r)) ≡ n))
   pub stuck : (rounded_number (round x (round_words r)).answer ≡ 10) ↔ ((a : Term) (n : TermStores) → Leads r x m a n → ⊥)
   pub room : rounded_number (round x (round_words r)).answer ≢ 11
 
@@ -173,7 +173,7 @@ pub data RoleCode (kinds : List ℕ) : Env → List RoundHalves → Type 0 where
 -- the set cells that the next round is compiled for.
 pub record RoundPlays (kinds : List ℕ) (set : Env) (r : RoundHalves) (next : Env) : Type 0 where
   pub few_words : length (round_words r) ≤ 1536
-  pub decides : (x : RoundLent) {m : Term} → x.kinds ≡ kinds → ReadyRound set x (round_words r) → message_before (received x) ≡ some m → DecidesRound r x m
+  pub decides : (x : RoundLent) {m : Term} → x.kinds ≡ kinds → ReadyRound set x (round_words r) → message_before (received x) ≡ Some m → DecidesRound r x m
   pub leaves : (x : RoundLent) → x.kinds ≡ kinds → set_cells (received x) ≡ set → rounded_number (round x (round_words r)).answer ≡ 0
       → set_cells (received (round_after x (round x (round_words r)))) ≡ next
 

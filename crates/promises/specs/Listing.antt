@@ -1,6 +1,6 @@
 -- Demand 1 for the bundle and the listing: what is read, what is refused, what is printed.
 use Rattle.std.specs.Prelude.{ℕ, zero, ◌≤◌, ◌≡◌, ◌↔◌, ◌≢◌, List, [], ◌∷◌, ◌++◌, length, take, drop, replicate}
-use Rattle.std.proofs.Math.Option.{none, some}
+use Rattle.std.specs.Prelude.{None, Some}
 use Rattle.word.specs.All.{All}
 use Rattle.word.specs.Bytes.{spelled}
 use Rattle.text.specs.Lines.{line, word_line}
@@ -53,8 +53,8 @@ pub record Program : Type 0 where
       → (take end after ≡ listing bytes) × (drop end after ≡ drop end before)
 
 pub record ListingTable (bytes : List ℕ) : Type 0 where
-  pub unread : (read_bundle bytes ≡ none) ↔ (BundleWithin bytes → ⊥)
-  pub read : (read_bundle bytes ≡ some (bundle_in bytes)) ↔ BundleWithin bytes
+  pub unread : (read_bundle bytes ≡ None) ↔ (BundleWithin bytes → ⊥)
+  pub read : (read_bundle bytes ≡ Some (bundle_in bytes)) ↔ BundleWithin bytes
   pub limit : (BundleWithin bytes → ⊥) → listing bytes ≡ refused_line 1 0
   pub spare_bit : BundleWithin bytes → (CertificatesClear (bundle_in bytes) → ⊥) → listing bytes ≡ refused_line 3 0
   pub refused : BundleWithin bytes → CertificatesClear (bundle_in bytes) → compile_number (compiled_from (bundle_in bytes)) ≢ 0

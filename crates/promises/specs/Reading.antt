@@ -1,6 +1,7 @@
 -- What lent words mean: a row is a term, a cell is the term of its row, and the cells together are the stores of the figures.
 use Rattle.std.specs.Prelude.{ℕ, List, get_or, take}
-use Rattle.std.proofs.Math.Option.{Option, map}
+use Rattle.std.specs.Prelude.{Option}
+use Rattle.std.specs.Option.{option_map}
 use Rattle.stores.specs.Cells.{unset, held}
 use Rattle.theory.specs.TermModel.{Term}
 use Rattle.numbers.specs.Limits.{named_cells}
@@ -10,7 +11,7 @@ use Rattle.theory.specs.Meaning.{meaning, certified_term}
 
 -- the term in a cell, where it is set
 abbrev pub term_in : List ℕ → ℕ → Option Term
-term_in terms cell = map (meaning terms) (held cell)
+term_in terms cell = option_map (meaning terms) (held cell)
 
 -- σ, ρ, the name counter and ν
 abbrev pub stores_in : List ℕ → List ℕ → List ℕ → List ℕ → ℕ → TermStores

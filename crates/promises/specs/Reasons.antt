@@ -1,6 +1,6 @@
 -- The reasons of 10 and the causes of 11: what is so in the state before the word.
 use Rattle.std.specs.Prelude.{ℕ, zero, suc, ◌<◌, ◌≤◌, ◌≡◌, ◌↔◌, ◌≢◌, ◌⊎◌, List, [], ◌∷◌, map, length, get_or}
-use Rattle.std.proofs.Math.Option.{Option, none, some}
+use Rattle.std.specs.Prelude.{Option, None, Some}
 use Rattle.word.specs.All.{All}
 use Rattle.word.specs.Fields.{split, at}
 use Rattle.numbers.specs.Kinds.{kind_in}
@@ -23,7 +23,7 @@ use Rattle.promises.specs.Steps.{After}
 -- some cell of several is unset
 abbrev pub Unset : List (Option ℕ) → Type 0
 Unset [] = ⊥
-Unset (cell ∷ rest) = (cell ≡ none) ⊎ Unset rest
+Unset (cell ∷ rest) = (cell ≡ None) ⊎ Unset rest
 
 module _ (s : State row_world) where
   abbrev pub object : ℕ → Option ℕ
@@ -79,18 +79,18 @@ module _ (s : State row_world) where
       -- 1: what the step reads is not all set
       unset : {i : Instruction} → Unset (reads i) → Sticks i 1
       -- 2: DECODE of another kind
-      other_kind : {v : Object} {m : ℕ} → s.accumulator ≡ some m → tag m ≢ kind v.0 → Sticks (Decode v) 2
+      other_kind : {v : Object} {m : ℕ} → s.accumulator ≡ Some m → tag m ≢ kind v.0 → Sticks (Decode v) 2
       -- 3: MATCH of another row
-      differs : {r : Raw} {a b : ℕ} → s.accumulator ≡ some a → message row_world s r.0 ≡ some b → a ≢ b → Sticks (Match r) 3
+      differs : {r : Raw} {a b : ℕ} → s.accumulator ≡ Some a → message row_world s r.0 ≡ Some b → a ≢ b → Sticks (Match r) 3
       -- 4: not so many parts
-      part_count : {t : Object} {b : Raw} {n m : ℕ} → object t.0 ≡ some m → length (parts_of (shape m)) ≢ n → Sticks (AnalyzeTuple t b n) 4
+      part_count : {t : Object} {b : Raw} {n m : ℕ} → object t.0 ≡ Some m → length (parts_of (shape m)) ≢ n → Sticks (AnalyzeTuple t b n) 4
       -- 5: no certificate for the accumulator
-      no_certificate : {a : ℕ} → s.accumulator ≡ some a → All (λ word. agent_of word ≢ a) s.stores.memory.certificates → Sticks KeyOf 5
+      no_certificate : {a : ℕ} → s.accumulator ≡ Some a → All (λ word. agent_of word ≢ a) s.stores.memory.certificates → Sticks KeyOf 5
       -- 6: not an encryption that the key opens
-      not_opened : {v : Object} {k m : ℕ} → object v.0 ≡ some k → s.accumulator ≡ some m
+      not_opened : {v : Object} {k m : ℕ} → object v.0 ≡ Some k → s.accumulator ≡ Some m
           → ((l b : ℕ) → shape m ≡ encrypted l b → GoesWith k l → ⊥) → Sticks (Decrypt v) 6
       -- 7: not a signature of this body that the key verifies
-      not_verified : {v : Object} {r : Raw} {k b m : ℕ} → object v.0 ≡ some k → message row_world s r.0 ≡ some b → s.accumulator ≡ some m
+      not_verified : {v : Object} {r : Raw} {k b m : ℕ} → object v.0 ≡ Some k → message row_world s r.0 ≡ Some b → s.accumulator ≡ Some m
           → ((l : ℕ) → shape m ≡ signed l b → GoesWith l k → ⊥) → Sticks (Verify v r) 7
 
     pub data Fills : Instruction → Type 0 where
@@ -99,11 +99,11 @@ module _ (s : State row_world) where
       -- a new row is needed and none is unused
       name : {v : Object} → s.stores.memory.counter < most_names → NoRow (atom (kind v.0) s.stores.memory.counter) → Fills (Create v)
       byte : {c : Object} {b : ℕ} → NoRow (atom 1 b) → Fills (StoreConst c b)
-      public_key : {K k : Object} {a : ℕ} → object K.0 ≡ some a → NoRow (atom 4 (number a)) → Fills (Opposite K k)
-      encryption : {v : Object} {k m : ℕ} → object v.0 ≡ some k → s.accumulator ≡ some m → NoRow (encrypted k m) → Fills (Encrypt v)
-      signature : {v : Object} {k m : ℕ} → object v.0 ≡ some k → s.accumulator ≡ some m → NoRow (signed k m) → Fills (Sign v)
-      hash : {h : Object} {m : ℕ} → s.accumulator ≡ some m → NoRow (hashed m) → Fills (Hash h)
-      tuple : {t : Object} {b : Raw} {n : ℕ} (ms : List ℕ) → cells b.0 n ≡ map some ms → NoRow (tupled ms) → Fills (CreateTuple t b n)
+      public_key : {K k : Object} {a : ℕ} → object K.0 ≡ Some a → NoRow (atom 4 (number a)) → Fills (Opposite K k)
+      encryption : {v : Object} {k m : ℕ} → object v.0 ≡ Some k → s.accumulator ≡ Some m → NoRow (encrypted k m) → Fills (Encrypt v)
+      signature : {v : Object} {k m : ℕ} → object v.0 ≡ Some k → s.accumulator ≡ Some m → NoRow (signed k m) → Fills (Sign v)
+      hash : {h : Object} {m : ℕ} → s.accumulator ≡ Some m → NoRow (hashed m) → Fills (Hash h)
+      tuple : {t : Object} {b : Raw} {n : ℕ} (ms : List ℕ) → cells b.0 n ≡ map Some ms → NoRow (tupled ms) → Fills (CreateTuple t b n)
 
 module _ (x : Lent) (code : List ℕ) where
   -- a word, and what is so of its instruction in the state before it
@@ -112,7 +112,7 @@ module _ (x : Lent) (code : List ℕ) where
     pub after : After x code place state
     pub inside : place < length code
     pub instruction : Instruction
-    pub says : instruction_of (get_or code place 0) ≡ some instruction
+    pub says : instruction_of (get_or code place 0) ≡ Some instruction
     pub so : So state instruction
 
   pub record ReasonTable : Type 0 where

@@ -1,6 +1,6 @@
 -- One instruction after another: the state after some words of a code, and the word that does not go on.
 use Rattle.std.specs.Prelude.{ℕ, zero, suc, ◌<◌, ◌≡◌, List, length, get_or}
-use Rattle.std.proofs.Math.Option.{some}
+use Rattle.std.specs.Prelude.{Some}
 use Rattle.code.specs.Instruction.{instruction_of}
 use Rattle.code.specs.declared.Instruction.{Instruction}
 use Rattle.theory.specs.Outcome.{Outcome, done}
@@ -14,7 +14,7 @@ module _ (x : Lent) (code : List ℕ) where
   pub record Word (place : ℕ) (s : State row_world) (o : Outcome (State row_world)) : Type 0 where
     pub inside : place < length code
     pub instruction : Instruction
-    pub says : instruction_of (get_or code place 0) ≡ some instruction
+    pub says : instruction_of (get_or code place 0) ≡ Some instruction
     pub steps : step row_world (kind_in x.kinds) place instruction s ≡ o
 
   -- the state after the first words

@@ -1,7 +1,7 @@
 -- Straight from the pattern: the engine is compile, then run. Its numbers come in the order of that path, each exactly where its condition holds:
 -- compile's 1, 3, 4, 5, then 6 and 7 over the whole pattern, run's 1, 2, 3, then the rules.
 use Rattle.std.specs.Prelude.{ℕ, ◌≤◌, ◌≡◌, ◌↔◌, ◌≢◌, ◌⊎◌, Bool, true, false, List, replicate}
-use Rattle.std.proofs.Math.Option.{Option, some}
+use Rattle.std.specs.Prelude.{Option, Some}
 use Rattle.numbers.specs.Limits.{most_code_words}
 use Rattle.answers.specs.DirectNumbers.{direct_number, direct_place, direct_reason}
 use Rattle.answers.specs.declared.Compiled.{Compiled}
@@ -123,7 +123,7 @@ pub record DecidesDirectMatch (pattern : List ℕ) (x : Lent) (m : Term) : Type 
 pub record DecidesDirectCreation (pattern : List ℕ) (x : Lent) : Type 0 where
   pub finishes : (m : Term) (n : TermStores)
       → CreatesTo pattern x m n
-      ↔ (DirectAnswers (direct true pattern x) 0 0 0 × (created_message (direct true pattern x) ≡ some m) × (after_direct x (direct true pattern x) ≡ n))
+      ↔ (DirectAnswers (direct true pattern x) 0 0 0 × (created_message (direct true pattern x) ≡ Some m) × (after_direct x (direct true pattern x) ≡ n))
   pub sticks : (direct_number (direct true pattern x).answer ≡ 10) ↔ ((m : Term) (n : TermStores) → CreatesTo pattern x m n → ⊥)
   pub room : direct_number (direct true pattern x).answer ≢ 11
 
@@ -134,5 +134,5 @@ pub record Straight : Type 0 where
   pub fits : (creates : Bool) (pattern : List ℕ) (x : Lent) → compile_number (compiled_first creates pattern x) ≢ 8
   pub good : (creates : Bool) (pattern : List ℕ) (x : Lent) → compile_number (compiled_first creates pattern x) ≡ 0 → run_number (ran_second creates pattern x) ≢ 9
   pub table : (creates : Bool) (pattern : List ℕ) (x : Lent) → StraightTable creates pattern x
-  pub matching : {pattern : List ℕ} {x : Lent} {m : Term} → Roomy false pattern x → message_before x ≡ some m → DecidesDirectMatch pattern x m
+  pub matching : {pattern : List ℕ} {x : Lent} {m : Term} → Roomy false pattern x → message_before x ≡ Some m → DecidesDirectMatch pattern x m
   pub creating : {pattern : List ℕ} {x : Lent} → Roomy true pattern x → DecidesDirectCreation pattern x

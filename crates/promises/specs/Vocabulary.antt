@@ -1,6 +1,6 @@
 -- What keys, names and certificates do, over abstract terms, as document 01 has it.
 use Rattle.std.specs.Prelude.{ℕ, suc, ◌<◌, ◌≡◌, ◌↔◌, List, length, get_or}
-use Rattle.std.proofs.Math.Option.{some}
+use Rattle.std.specs.Prelude.{Some}
 use Rattle.theory.specs.Outcome.{got}
 use Rattle.theory.specs.World as Voc
 use Rattle.theory.specs.TermModel.{Term, Terms, atom, encrypted, signed, hashed, tupled, listed, collected, Names, term_world}
@@ -63,7 +63,7 @@ pub record Vocabulary (n : Names) : Type 0 where
   pub creates : (kind : ℕ) (m : Term) (n' : Names) → Makes (Voc.create kind) n m n'
       ↔ ((n.counter < 65536) × (m ≡ atom kind n.counter) × (n'.counter ≡ suc n.counter) × (n'.ν ≡ n.ν))
   -- the certificate of an agent
-  pub certifies : (a k : Term) (n' : Names) → Makes (Voc.key_of a) n k n' ↔ ((n.ν a ≡ some k) × (n' ≡ n))
+  pub certifies : (a k : Term) (n' : Names) → Makes (Voc.key_of a) n k n' ↔ ((n.ν a ≡ Some k) × (n' ≡ n))
   -- what is sealed, signed, hashed, put together or written down is that
   pub encrypts : (k m e : Term) (n' : Names) → Makes (Voc.encrypt k m) n e n' ↔ ((e ≡ encrypted k m) × (n' ≡ n))
   pub signs : (k m e : Term) (n' : Names) → Makes (Voc.sign k m) n e n' ↔ ((e ≡ signed k m) × (n' ≡ n))

@@ -2,7 +2,7 @@
 use Prim.Native.Nat.{ℕ, ◌%◌}
 use mathlib.Core.Path.{◌≡◌, refl, sym, ◌∙◌, ap}
 use mathlib.Core.Bool.{Bool, true, false}
-use mathlib.Core.Option.{Option, none, some}
+use Rattle.std.specs.Prelude.{Option, None, Some, Result, Ok, Err}
 use mathlib.Core.List.{List}
 use borrow.Author.Tests.{eq-eqb, ne_eqb}
 use lib.Dec.{T, leb}
@@ -17,10 +17,7 @@ use Rattle.lending.specs.declared.CompileAnswer.{CompileAnswer}
 use Rattle.text.specs.Readers.{text_lines}
 use Rattle.code_reading.specs.Reading.{bad_line, read_words, read_into, word_refusals, comes_to, read_code}
 use Rattle.code_reading.specs.LineAnswers.{lines_read, looked_of}
-use Rattle.code_reading.specs.declared.lines.LinesRead.{LinesRead}
-use Rattle.code_reading.specs.declared.lines.LinesRead.TheVariants as LinesRead
-use Rattle.code_reading.specs.declared.Looked.{Looked}
-use Rattle.code_reading.specs.declared.Looked.TheVariants as Looked
+use Rattle.code_reading.specs.declared.lines.BadLine as wrong
 use Rattle.code_reading.specs.declared.answer.ReadBack.{ReadBack}
 use Rattle.code_reading.specs.declared.answer.ReadBack.TheVariants.{BadLine, Limit}
 use Rattle.code_reading.proofs.LinesLaws.{all_lines, one_bad}
@@ -44,11 +41,11 @@ module _ (refused : Option ReadBack) (lines : ℕ) (words code : List ℕ) where
   pub not_words : (length code % 4 ≡ 0 → ⊥) → bytes_kept Limit code ≡ bytes_read (whole 4 code) refused (take lines words) code
   not_words odd = rw (ne_eqb (length code % 4) 0 odd)
 
-  module _ (even : length code % 4 ≡ 0) {answer : Looked} (says : answer ≡ looked_of lines refused) where
-    pub refuses_bytes : {refusal : ReadBack} → answer ≡ Looked.Refused refusal → bytes_kept refusal code ≡ bytes_read (whole 4 code) refused (take lines words) code
+  module _ (even : length code % 4 ≡ 0) {answer : Result ℕ ReadBack} (says : answer ≡ looked_of lines refused) where
+    pub refuses_bytes : {refusal : ReadBack} → answer ≡ Err refusal → bytes_kept refusal code ≡ bytes_read (whole 4 code) refused (take lines words) code
     refuses_bytes e = rw (eq-eqb (length code % 4) 0 even, looked_refused refused lines says e)
 
-    pub fills_bytes : {count : ℕ} {left : ReadLeft} → answer ≡ Looked.Words count → left ≡ read_spelled (read_into (take count words) (elements 4 code))
+    pub fills_bytes : {count : ℕ} {left : ReadLeft} → answer ≡ Ok count → left ≡ read_spelled (read_into (take count words) (elements 4 code))
         → left ≡ bytes_read (whole 4 code) refused (take lines words) code
     fills_bytes e is = let told = looked_words refused says e in is ∙ rw (eq-eqb (length code % 4) 0 even, told.0, told.1)
 
@@ -58,26 +55,26 @@ module _ (text kinds code : List ℕ) (below : Below 256 code) where
   same_bytes : (is_whole : Bool) → whole 4 code ≡ is_whole → T is_whole → spelled 4 (elements 4 code) ≡ code
   same_bytes is_whole e t = spelled_elements 4 code (rw e t) below
 
-  bad_by : (is_whole : Bool) → whole 4 code ≡ is_whole → {line : ℕ} → bad_line text ≡ some line → bytes_kept (BadLine line) code ≡ read_entry text kinds code
+  bad_by : (is_whole : Bool) → whole 4 code ≡ is_whole → {line : ℕ} → bad_line text ≡ Some line → bytes_kept (BadLine line) code ≡ read_entry text kinds code
   unfolding read_entry read_code first
   bad_by true w {line} e = rw (w, e) (ap (λ (bytes : List ℕ). bytes_kept (BadLine line) bytes) (sym (same_bytes true w tt)))
   bad_by false w e = rw (w, e)
 
-  pub bad_line_bytes : {line : ℕ} {answer : LinesRead} → answer ≡ lines_read (bad_line text) (length (text_lines text)) → answer ≡ LinesRead.Bad line
+  pub bad_line_bytes : {line : ℕ} {answer : Result ℕ wrong.BadLine} → answer ≡ lines_read (bad_line text) (length (text_lines text)) → answer ≡ Err (record { 0 = line })
       → bytes_kept (BadLine line) code ≡ read_entry text kinds code
   bad_line_bytes says e = bad_by (whole 4 code) refl (one_bad (bad_line text) (length (text_lines text)) says e)
 
   -- words or a refusal, by whether the slice is whole
-  over_words : (is_whole : Bool) → whole 4 code ≡ is_whole → (refused : Option ReadBack) (words : List ℕ) → bad_line text ≡ none
+  over_words : (is_whole : Bool) → whole 4 code ≡ is_whole → (refused : Option ReadBack) (words : List ℕ) → bad_line text ≡ None
       → comes_to refused words (elements 4 code) ≡ read_code text kinds (elements 4 code) → bytes_read is_whole refused words code ≡ read_entry text kinds code
   unfolding read_entry
   over_words false w refused words none_bad same = rw (w, none_bad)
-  over_words true w (some answer) words none_bad same =
+  over_words true w (Some answer) words none_bad same =
       rw (w, ← same) (ap (λ (bytes : List ℕ). bytes_kept answer bytes) (sym (same_bytes true w tt)))
-  over_words true w none words none_bad same = rw (w, ← same)
+  over_words true w None words none_bad same = rw (w, ← same)
 
-  pub good_lines_bytes : {lines : ℕ} (buffer : List ℕ) {words : List ℕ} {answer : LinesRead} {left : ReadLeft} → answer ≡ lines_read (bad_line text) (length (text_lines text))
-      → words ≡ sets buffer 0 (read_words text) → answer ≡ LinesRead.All lines → length buffer ≡ 768
+  pub good_lines_bytes : {lines : ℕ} (buffer : List ℕ) {words : List ℕ} {answer : Result ℕ wrong.BadLine} {left : ReadLeft} → answer ≡ lines_read (bad_line text) (length (text_lines text))
+      → words ≡ sets buffer 0 (read_words text) → answer ≡ Ok lines → length buffer ≡ 768
       → left ≡ bytes_read (whole 4 code) (first (word_refusals lines (take lines words) kinds)) (take lines words) code → left ≡ read_entry text kinds code
   good_lines_bytes {lines} buffer {words} says kept e long is =
       is

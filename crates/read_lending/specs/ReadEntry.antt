@@ -1,6 +1,6 @@
 -- What the entry for C that reads a listing back leaves: plain numbers, and every lent byte afterwards.
 use Rattle.std.specs.Prelude.{ℕ, Bool, true, false, cond, List}
-use Rattle.std.proofs.Math.Option.{Option, none, some}
+use Rattle.std.specs.Prelude.{Option, None, Some}
 use Rattle.word.specs.Bytes.{whole, elements, spelled}
 use Rattle.code_reading.specs.ReadBackNumbers.{read_back_number, read_back_place}
 use Rattle.code_reading.specs.Reading.{bad_line, ReadOutcome, read_into, read_code}
@@ -26,13 +26,13 @@ read_spelled o = record { answer = read_back_numbers o.answer; code = spelled 4 
 -- code that is not whole words is 1, before 9 and 8
 abbrev pub bytes_read : Bool → Option ReadBack → List ℕ → List ℕ → ReadLeft
 bytes_read false refused words code = bytes_kept Limit code
-bytes_read true (some answer) words code = bytes_kept answer code
-bytes_read true none words code = read_spelled (read_into words (elements 4 code))
+bytes_read true (Some answer) words code = bytes_kept answer code
+bytes_read true None words code = read_spelled (read_into words (elements 4 code))
 
 -- but after 15
 abbrev pub not_whole : Option ℕ → ReadBack
-not_whole (some line) = BadLine line
-not_whole none = Limit
+not_whole (Some line) = BadLine line
+not_whole None = Limit
 
 -- reading back, lent bytes: as over words, and of a slice that is not whole words 15 or 1
 unfoldable pub read_entry : List ℕ → List ℕ → List ℕ → ReadLeft

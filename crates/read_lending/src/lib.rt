@@ -8,8 +8,8 @@ ghost use Rattle.answers.specs.First.{first};
 ghost use Rattle.code_reading.specs.Reading.{read_into, word_refusals};
 ghost use Rattle.read_lending.specs.ReadEntry.{read_back_numbers, read_spelled, bytes_read, read_entry};
 
-use code_reading::lines::{LinesRead, read_words};
-use code_reading::{Looked, ReadBack, look_words, no_words};
+use code_reading::lines::{BadLine, read_words};
+use code_reading::{ReadBack, look_words, no_words};
 
 #[repr(C)]
 #[derive(Clone, Copy)]
@@ -21,11 +21,9 @@ pub struct ReadAnswer {
 fn numbers(answer: ReadBack) -> ReadAnswer
     ensures { result ≡ read_back_numbers answer }
 {
-    let number = answer.number();
-    let place = answer.place();
     ReadAnswer {
-        number: number,
-        place: place,
+        number: answer.number(),
+        place: answer.place(),
     }
 }
 
@@ -50,13 +48,9 @@ fn deliver_bytes(lines: usize, words: &[u32], kinds: &[u8], code: &mut [u8]) -> 
     if code.len() % 4 != 0 {
         return numbers(ReadBack::Limit);
     }
-    let looked = look_words(lines, words, kinds);
-    match looked {
-        Looked::Words(count) => {
-            let read = &words[..count];
-            pack(read, code)
-        }
-        Looked::Refused(answer) => numbers(answer),
+    match look_words(lines, words, kinds) {
+        Ok(count) => pack(&words[..count], code),
+        Err(answer) => numbers(answer),
     }
 }
 
@@ -64,9 +58,8 @@ pub fn read_listing(text: &[u8], kinds: &[u8], code: &mut [u8]) -> ReadAnswer
     ensures { record { answer = result; code = code.new } ≡ read_entry text.now kinds.now code.old }
 {
     let mut words = no_words();
-    let read = read_words(text, &mut words);
-    match read {
-        LinesRead::Bad(line) => numbers(ReadBack::BadLine(line as u64)),
-        LinesRead::All(lines) => deliver_bytes(lines, &words, kinds, code),
+    match read_words(text, &mut words) {
+        Ok(lines) => deliver_bytes(lines, &words, kinds, code),
+        Err(BadLine(line)) => numbers(ReadBack::BadLine(line as u64)),
     }
 }

@@ -3,7 +3,7 @@ use Prim.Native.Nat.{ℕ, ◌<◌, ◌≤◌}
 use mathlib.Core.Path.{◌≡◌, refl, sym, ◌∙◌, ap, subst}
 use mathlib.Core.Logic.{◌≢◌}
 use mathlib.Core.Bool.{Bool, true, false}
-use mathlib.Core.Option.{some}
+use Rattle.std.specs.Prelude.{Some}
 use mathlib.Core.List.{List}
 use native.Mathlib.Omega.{arith}
 use borrow.Author.Tests.{eqb-true, eq-eqb, ne_eqb}
@@ -24,7 +24,7 @@ use Rattle.code_reading.proofs.ReadTableLaws.{lines_few, bad_line_iff, Gives, Co
 use Rattle.outcomes.proofs.Listed.{refused_short}
 use Rattle.reading.specs.Rereading.{most_input, outcome_lines, code_again}
 
-bad_word_inside : (kind : ℕ → ℕ) (words : List ℕ) {word : ℕ} → bad_word kind words ≡ some word → word < length words
+bad_word_inside : (kind : ℕ → ℕ) (words : List ℕ) {word : ℕ} → bad_word kind words ≡ Some word → word < length words
 unfolding bad_word
 bad_word_inside kind words {word} e = ((lowest_some _ 0 words word).0 e).inside
 
@@ -64,21 +64,35 @@ module _ (text kinds : List ℕ) {room : List ℕ} (zeros : room ≡ replicate m
       go (BadWord word) g z = absurd (omega arith)
       go (CodeTooShort words) g z = absurd (omega arith)
 
+  pub done_fits : {words : ℕ} → length code ≡ length room → answer ≡ Done words → (words ≤ length code) × (words ≤ most_code_words)
+  done_fits {words} kept done =
+      let few : words ≤ most_code_words = omega (arith, words_fit (ap read_back_number done), ap read_back_place done) in
+      (omega (arith, few, kept, long), few)
+
   again : code_again text kinds ≡ outcome_lines (record { answer = answer; code = code })
   unfolding code_again
   again = sym (ap outcome_lines (is ∙ ap (read_code text kinds) zeros))
 
-  module _ {number place : ℕ} (number_is : number ≡ read_back_number answer) (place_is : place ≡ read_back_place answer) {before after : List ℕ} {next : ℕ} where
-    pub refused_again : number ≢ 0 → Wrote (refused_line number place) before 0 after next → Wrote (code_again text kinds) before 0 after next
-    refused_again other wrote =
+  -- only the first answer has number 0
+  not_zero : (told : ReadBack) → ((words : ℕ) → told ≡ Done words → ⊥) → read_back_number told ≢ 0
+  not_zero (Done words) other e = other words refl
+  not_zero (BadLine line) other e = omega arith
+  not_zero Limit other e = omega arith
+  not_zero (BadWord word) other e = omega arith
+  not_zero (CodeTooShort words) other e = omega arith
+
+  module _ {before after : List ℕ} {next : ℕ} where
+    pub refused_again : {number place : ℕ} → number ≡ read_back_number answer → place ≡ read_back_place answer → ((words : ℕ) → answer ≡ Done words → ⊥)
+        → Wrote (refused_line number place) before 0 after next → Wrote (code_again text kinds) before 0 after next
+    refused_again {number} {place} number_is place_is other wrote =
         let lines : refused_line number place ≡ code_again text kinds =
-        sym (again ∙ rw (ne_eqb (read_back_number answer) 0 (λ z. other (number_is ∙ z)), outcome_lines, number_is, place_is)) in
+        sym (again ∙ rw (ne_eqb (read_back_number answer) 0 (not_zero answer other), outcome_lines, number_is, place_is)) in
         subst (λ l. Wrote l before 0 after next) lines wrote
 
-    pub printed_again : number ≡ 0 → Wrote (code_lines 0 (take place code)) before 0 after next → Wrote (code_again text kinds) before 0 after next
-    printed_again done wrote =
+    pub printed_again : {place : ℕ} → answer ≡ Done place → Wrote (code_lines 0 (take place code)) before 0 after next → Wrote (code_again text kinds) before 0 after next
+    printed_again {place} done wrote =
         let lines : code_lines 0 (take place code) ≡ code_again text kinds =
-        sym (again ∙ rw (eq-eqb (read_back_number answer) 0 (sym number_is ∙ done), outcome_lines, place_is)) in
+        sym (again ∙ rw (eq-eqb (read_back_number answer) 0 (ap read_back_number done), outcome_lines, ap read_back_place done)) in
         subst (λ l. Wrote l before 0 after next) lines wrote
 
 outcome_short : (o : ReadOutcome) → (read_back_number o.answer ≡ 0 → read_back_place o.answer ≤ most_code_words) → length (outcome_lines o) ≤ 65536

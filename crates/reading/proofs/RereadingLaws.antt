@@ -1,9 +1,9 @@
 -- Input that is whole, and what its bundle and its lines come to.
-use Prim.Native.Nat.{ℕ, ◌+◌, ◌-◌, ◌<◌, ◌≤◌}
+use Prim.Native.Nat.{ℕ, ◌+◌, ◌-◌, ◌≤◌}
 use mathlib.Core.Path.{◌≡◌, refl, sym, ◌∙◌}
 use mathlib.Core.Logic.{◌↔◌}
 use mathlib.Core.Bool.{Bool, true, false, cond, not}
-use mathlib.Core.Option.{Option, none, some}
+use Rattle.std.specs.Prelude.{Option, None, Some}
 use mathlib.Core.List.{List}
 use native.Mathlib.Omega.{arith}
 use borrow.Author.Tests.{le-leb, lt-leb, leb-true, leb-false, not-true, not-false}
@@ -17,7 +17,6 @@ use Rattle.printing.specs.Listing.{refused_line}
 use Rattle.bundles.specs.Bundle.{Bundle, read_bundle}
 use Rattle.bundles.specs.Opening.{bundle_in, opened}
 use Rattle.bundles.specs.declared.Header.{Header}
-use Rattle.bundles.specs.declared.Opened.TheVariants.{Refused, Is}
 use Rattle.bundles.proofs.OpeningLaws.{opened_is}
 use Rattle.outcomes.proofs.GivenLaws.{refused_none}
 use Rattle.outcomes.proofs.Listed.{refused_short}
@@ -32,11 +31,8 @@ module _ (input : List ℕ) where
       let two = both (leb (length input) most_input) (leb (8 + bundle_size input) (length input)) in
       (λ t. (few.0 (two.0 t).0, inside.0 (two.0 t).1), λ h. two.1 (few.1 h.0, inside.1 h.1))
 
-  pub too_short : length input < 8 → false ≡ whole_input input
-  too_short short = sym (is_false _ λ t. omega (arith, (whole_iff.0 t).1))
-
-  pub too_long : most_input < length input → false ≡ whole_input input
-  too_long many = sym (is_false _ λ t. omega (arith, (whole_iff.0 t).0))
+  pub not_there : ((8 ≤ length input) × (length input ≤ most_input) → ⊥) → false ≡ whole_input input
+  not_there bad = sym (is_false _ λ t. let both_fit = whole_iff.0 t in bad (omega arith, both_fit.0))
 
   pub as_told : {size : ℕ} → 8 ≤ length input → length input ≤ most_input → size ≡ bundle_size input → leb size (length input - 8) ≡ whole_input input
   as_told {size} long few is = rw (le-leb (length input) most_input few, ← is) (go (leb size (length input - 8)) refl)
@@ -66,17 +62,17 @@ module _ (input : List ℕ) where
 
 -- no bundle, or one with its kinds
 module _ (bundle text : List ℕ) {before after : List ℕ} {next : ℕ} where
-  pub not_opened : opened bundle ≡ Refused → Wrote (refused_line 1 0) before 0 after next → Wrote (reread_by (read_bundle bundle) text) before 0 after next
+  pub not_opened : opened bundle ≡ None → Wrote (refused_line 1 0) before 0 after next → Wrote (reread_by (read_bundle bundle) text) before 0 after next
   not_opened refuses wrote = rw (refused_none bundle refuses) wrote
 
-  pub is_opened : (header : Header) {kinds : List ℕ} → opened bundle ≡ Is header → kinds ≡ (bundle_in bundle).kinds → Wrote (code_again text kinds) before 0 after next
+  pub is_opened : (header : Header) {kinds : List ℕ} → opened bundle ≡ Some header → kinds ≡ (bundle_in bundle).kinds → Wrote (code_again text kinds) before 0 after next
       → Wrote (reread_by (read_bundle bundle) text) before 0 after next
   is_opened header opens kinds-are wrote = rw ((opened_is bundle header opens).bundle, ← kinds-are) wrote
 
 -- all that is printed fits its buffer
 by_short : (b : Option Bundle) (text : List ℕ) → length (reread_by b text) ≤ 65536
-by_short none text = refused_short 1 0
-by_short (some b) text = again_short text b.kinds
+by_short None text = refused_short 1 0
+by_short (Some b) text = again_short text b.kinds
 
 reread_short : (input : List ℕ) → length (reread input) ≤ 65536
 unfolding reread

@@ -1,6 +1,6 @@
 -- What the program `reading` prints: the code lines that are read back, or why they are refused.
 use Rattle.std.specs.Prelude.{ℕ, ◌+◌, Bool, true, false, cond, ◌&&◌, List, length, take, drop, replicate, eqb, leb}
-use Rattle.std.proofs.Math.Option.{Option, none, some}
+use Rattle.std.specs.Prelude.{Option, None, Some}
 use Rattle.word.specs.Bytes.{number}
 use Rattle.numbers.specs.Limits.{most_code_words}
 use Rattle.code_reading.specs.ReadBackNumbers.{read_back_number, read_back_place}
@@ -40,8 +40,8 @@ code_again text kinds = outcome_lines (read_code text kinds (replicate most_code
 
 -- no bundle is refused as 1; a bundle gives its kinds
 abbrev pub reread_by : Option Bundle → List ℕ → List ℕ
-reread_by none text = refused_line 1 0
-reread_by (some b) text = code_again text b.kinds
+reread_by None text = refused_line 1 0
+reread_by (Some b) text = code_again text b.kinds
 
 unfoldable pub reread : List ℕ → List ℕ
 reread input = cond (whole_input input) (reread_by (read_bundle (bundle_part input)) (lines_part input)) (refused_line 1 0)

@@ -1,34 +1,22 @@
 // From a bundle and code lines to the lines that are read back, or to why they are refused.
-ghost use Rattle.std.specs.Prelude.{◌≡◌, ◌≤◌, length, replicate};
+ghost use Rattle.std.specs.Prelude.{◌≡◌, ◌≤◌, length};
 ghost use Rattle.text.specs.Written.{Wrote};
-ghost use Rattle.numbers.specs.Limits.{most_code_words};
 ghost use Rattle.bundles.specs.Bundle.{read_bundle};
 ghost use Rattle.reading.specs.Rereading.{most_input, whole_input, code_again, reread_by, reread};
 
-use bundles::Opened;
-use code_reading::read_code;
+use code_reading::{ReadBack, read_code};
+use outcomes::rooms::code_room;
 
 // One byte less than fills the buffer of the program.
 const MOST_INPUT: usize = 65535;
-
-// Room for the words of the lines.
-fn code_room() -> [u32; 768]
-    ensures { result ≡ replicate most_code_words 0 }
-{
-    [0; 768]
-}
 
 // Nothing is cut, and the bundle is there to its end.
 fn is_whole(input: &[u8]) -> bool
     ensures { result ≡ whole_input input.now }
 {
-    if input.len() < 8 {
-        return false;
-    }
-    if input.len() > MOST_INPUT {
-        return false;
-    }
-    word::word_at(input, 0) <= (input.len() - 8) as u64
+    8 <= input.len()
+        && input.len() <= MOST_INPUT
+        && word::word_at(input, 0) <= (input.len() - 8) as u64
 }
 
 fn lines_again(text: &[u8], kinds: &[u8], out: &mut [u8]) -> usize
@@ -37,13 +25,17 @@ fn lines_again(text: &[u8], kinds: &[u8], out: &mut [u8]) -> usize
 {
     let mut code = code_room();
     let answer = read_code(text, kinds, &mut code);
-    let number = answer.number();
-    let place = answer.place();
-    if number != 0 {
-        return printing::refused(out, number, place as u32);
+    match answer {
+        ReadBack::Done(words) => {
+            let count = words as usize;
+            printing::code_lines(out, &code[..count])
+        }
+        _ => {
+            let number = answer.number();
+            let place = answer.place() as u32;
+            printing::refused(out, number, place)
+        }
     }
-    let words = place as usize;
-    printing::code_lines(out, &code[..words])
 }
 
 // The kinds are the bundle's.
@@ -51,13 +43,12 @@ fn bundle_again(bundle: &[u8], text: &[u8], out: &mut [u8]) -> usize
     requires { length text.now ≤ most_input }
     ensures { Wrote (reread_by (read_bundle bundle.now) text.now) out.old 0 out.new result }
 {
-    let opened = bundles::open(bundle);
-    match opened {
-        Opened::Refused => printing::refused(out, 1, 0),
-        Opened::Is(header) => {
+    match bundles::open(bundle) {
+        Some(header) => {
             let kinds = outcomes::parts::kinds(bundle, header);
             lines_again(text, &kinds, out)
         }
+        None => printing::refused(out, 1, 0),
     }
 }
 

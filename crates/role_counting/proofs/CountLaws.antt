@@ -3,9 +3,10 @@ use mathlib.Core.Path.{◌≡◌, refl, sym, ◌∙◌, ap}
 use mathlib.Core.Bool.{Bool, false, not}
 use mathlib.Core.List.{List, [], ◌∷◌, ◌++◌}
 use Prim.Native.Nat.{ℕ, ◌+◌, ◌-◌, ◌*◌, ◌/◌, ◌%◌, ◌<◌, ◌≤◌}
+use native.Mathlib.Nat.{add-zero, zero-add, add_assoc}
 use native.Mathlib.Numerals.{add-one}
 use native.Mathlib.Omega.{arith}
-use lib.ListN.{length, get_or, take, drop, length-append, drop_of_length-le}
+use lib.ListN.{length, get_or, take, drop, length-append}
 use Rattle.answers.specs.Numbers.{compiled_number, compiled_place}
 use Rattle.answers.specs.declared.Compiled.{Compiled}
 use Rattle.answers.specs.declared.Compiled.TheVariants.{Done}
@@ -13,28 +14,23 @@ use Rattle.theory.specs.Machine.{Line}
 use Rattle.theory.specs.Emission.{Env, Emitted, ok, refuse}
 use Rattle.calls.specs.Compile.{code_words}
 use Rattle.calls.specs.Half.{half}
+use Rattle.std.specs.List as Lists
 use Rattle.calls.specs.Role.{in_turn, sum}
+use Rattle.calls.proofs.CompileLaws.{NotDone}
 use Rattle.calls.proofs.HalfLaws.{half_refuses, half_words}
 use Rattle.compiler.specs.CompileKnown.{KnownOutcome, from_known, known_finished, compile_known}
 use Rattle.compiler.proofs.OverCells.{not_done}
 use Rattle.role_counting.specs.Counted.{HalfCounted, half_counted, counted_by}
-use Rattle.calls.proofs.RoleLaws.{turn_append, turn_one, rounds_words, sum_drop, whole, Reached, reached_none, reached_refused, reached_more, reached_all}
+use Rattle.calls.proofs.RoleLaws.{turn_append, turn_one, rounds_words, whole, Reached, reached_none, reached_refused, reached_more, reached_all}
 
--- the sum of the counts so far and of those that are left
-pub record Summed (counts : List ℕ) (half rows : ℕ) : Type 0 where
-  pub left : rows + sum (drop half counts) ≡ sum counts
-  pub few : rows ≤ 255 * half
+-- the sum as the library has it
+folded : (so_far : ℕ) (counts : List ℕ) → Lists.fold ◌+◌ so_far counts ≡ so_far + sum counts
+unfolding sum
+folded so_far [] = sym (add-zero so_far)
+folded so_far (count ∷ counts) = folded (so_far + count) counts ∙ add_assoc so_far count (sum counts)
 
-pub summed_none : (counts : List ℕ) → Summed counts 0 0
-summed_none counts = record { left = omega arith; few = omega arith }
-
-module _ {counts : List ℕ} {half rows : ℕ} (s : Summed counts half rows) where
-  pub summed_more : half < length counts → get_or counts half 0 < 256 → Summed counts (half + 1) (rows + get_or counts half 0)
-  summed_more inside small = record { left = rw (add-one half) (omega (arith, s.left, sum_drop counts half inside)); few = omega (arith, s.few) }
-
-  pub summed_all : length counts ≤ half → rows ≡ sum counts
-  unfolding sum
-  summed_all past = let none : sum (drop half counts) ≡ 0 = rw (drop_of_length-le counts {i = half} past) in omega (arith, s.left, none)
+pub same_sum : (counts : List ℕ) → Lists.sum counts ≡ sum counts
+same_sum counts = folded 0 counts ∙ zero-add (sum counts)
 
 -- a half without its words
 pub known_half : (create : Bool) (pattern kinds : List ℕ) (objects named : ℕ → Bool) (blank : List ℕ)
@@ -139,3 +135,19 @@ module _ (kinds counts rows : List ℕ) (start : Env) where
             by : (E : Emitted) → half create pattern kinds e ≡ E → Result E → record { answer = answer; half = n } ≡ counted_by (whole kinds counts rows start)
             by (ok lines env) q g = absurd (other (ap (λ (x : HalfCounted). compiled_number x.answer) g))
             by (refuse refusal) q g = rw (reached_refused kinds counts rows start c.reached inside refusal q, ap (λ (x : HalfCounted). x.answer) g)
+
+        -- a half that is done with so many words
+        module _ {more : ℕ} (is : answer ≡ Done more) where
+          done_zero : compiled_number answer ≡ 0
+          done_zero = rw is
+
+          pub done_few : more ≤ 767
+          done_few = let few : compiled_place answer ≤ 767 = counting_few done_zero in rw is at few
+
+          pub done_more : Counting kinds counts rows start (n + 1) (row + count) (not create) (from_known o r) (words + 1 + more)
+          done_more =
+              let next : Counting kinds counts rows start (n + 1) (row + count) (not create) (from_known o r) (words + 1 + compiled_place answer) = counting_more done_zero in
+              rw is at next
+
+        pub refused_half : NotDone answer → record { answer = answer; half = n } ≡ counted_by (whole kinds counts rows start)
+        refused_half other = counting_refused (not_done answer other)

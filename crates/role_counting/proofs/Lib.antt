@@ -1,3 +1,4 @@
 -- Laws of a role's lengths, and of its halves counted in turn.
 pub mod LengthLaws
 pub mod CountLaws
+pub mod RowLaws

@@ -5,7 +5,14 @@ use Rattle.answers.specs.declared.Compiled.TheVariants.{Done}
 use Rattle.theory.specs.Emission.{Env, Emitted, ok, refuse}
 use Rattle.calls.specs.Compile.{code_words}
 use Rattle.calls.specs.Role.{Halves, compiled, refused_in, rounds_of, in_turn}
+use Rattle.knowing.specs.Known.{known}
+use Rattle.compiler.specs.CompileKnown.{from_known}
 use Rattle.role_counting.specs.declared.RoleCompiled.{RoleCompiled}
+use Rattle.role_counting.specs.declared.SetCells.{SetCells}
+
+-- where emission begins, with these cells set
+abbrev pub set_env : SetCells → Env
+set_env set = from_known (known set.objects) (known set.named)
 
 -- a half's answer, and which cells are set after it
 pub record HalfCounted : Type 0 where

@@ -10,11 +10,7 @@ fn sum(counts: &[u8]) -> usize
     requires { length counts.now ≤ 65536 }
     ensures { result ≡ sum counts.now }
 {
-    let mut rows: usize = 0;
-    for half in 0..counts.len() {
-        rows = rows + counts[half] as usize;
-    }
-    rows
+    counts.iter().map(|count| *count as usize).sum()
 }
 
 fn lengths_fit(counts: usize, kinds: usize, objects: usize, named: usize, ends: usize) -> bool

@@ -1,11 +1,11 @@
 -- A role over lent bytes: lengths that fit, and an outcome in numbers and bytes.
 use mathlib.Core.Path.{◌≡◌, sym, ◌∙◌, ap}
 use mathlib.Core.Bool.{Bool, true, false, ◌&&◌}
-use mathlib.Core.List.{List}
-use Prim.Native.Nat.{ℕ, ◌*◌, ◌/◌, ◌%◌}
+use mathlib.Core.List.{List, ◌++◌}
+use Prim.Native.Nat.{ℕ, ◌*◌, ◌/◌, ◌%◌, ◌≤◌}
 use native.Mathlib.Omega.{arith}
 use lib.Dec.{T, eqb, leb}
-use lib.ListN.{length}
+use lib.ListN.{length, drop}
 use Rattle.word.specs.Bytes.{elements, spelled}
 use Rattle.word.proofs.ByteLaws.{Below, length_words, spelled_elements}
 use Rattle.word.proofs.TestLaws.{both, equals, is_true, is_false}
@@ -15,7 +15,8 @@ use Rattle.calls.specs.Role.{RoleLent, RoleOutcome, sum, role_fits, role}
 use Rattle.looking.proofs.LookLaws.{true_holds}
 use Rattle.lending.proofs.ChoiceLaws.{where_true, either_way}
 use Rattle.role_counting.proofs.LengthLaws.{RoleWithin}
-use Rattle.roles.proofs.AnswerLaws.{role_limit, fits_within}
+use Rattle.roles.proofs.AnswerLaws.{role_limit, fits_within, fits_sum}
+use Rattle.role_lending.proofs.BytesLaws.{laid_bytes}
 use Rattle.role_lending.specs.RoleEntry.{role_numbers, role_spelled, role_elements, role_untouched, role_whole, role_entry}
 
 module _ (ends code : List ℕ) (x : RoleLent) where
@@ -31,18 +32,18 @@ module _ (ends code : List ℕ) (x : RoleLent) where
   abbrev outcome : RoleOutcome
   outcome = role (elements 2 ends) (elements 4 code) (role_elements x)
 
-  -- the lengths of the bytes say whether the elements fit
-  pub fits_bytes : elements_fit
-      ≡ (eqb (length x.counts % 2) 0 && leb 1 (length x.counts / 2) && leb (length x.counts / 2) most_rounds
+  abbrev pub counts_fit : Bool
+  counts_fit =
+      eqb (length x.counts % 2) 0 && leb 1 (length x.counts / 2) && leb (length x.counts / 2) most_rounds
       && eqb (length x.kinds) variables && eqb (length x.objects / 2) variables && eqb (length x.named / 2) variables
-      && eqb (length ends / 2) (length x.counts / 2) && eqb (sum x.counts) (length x.rows / 8))
-  fits_bytes =
-      rw (
-        length_words 2 (length x.objects / 2) x.objects,
-        length_words 2 (length x.named / 2) x.named,
-        length_words 2 (length ends / 2) ends,
-        length_words 8 (length x.rows / 8) x.rows,
-      )
+      && eqb (length ends / 2) (length x.counts / 2) && eqb (sum x.counts) (length x.rows / 8)
+
+  end_count : length (elements 2 ends) ≡ length ends / 2
+  end_count = length_words 2 (length ends / 2) ends
+
+  -- the lengths of the bytes say whether the elements fit
+  pub fits_bytes : elements_fit ≡ counts_fit
+  fits_bytes = rw (length_words 2 (length x.objects / 2) x.objects, length_words 2 (length x.named / 2) x.named, end_count, length_words 8 (length x.rows / 8) x.rows)
 
   -- whole elements, and as many cells as there are variables
   pub record Fitting : Type 0 where
@@ -63,6 +64,32 @@ module _ (ends code : List ℕ) (x : RoleLent) where
         code_whole = t.1;
       }
 
+  -- both tests say that the role fits
+  pub record Tested : Type 0 where
+    pub bytes : Fitting
+    pub all_fit : elements_fit ≡ true
+    pub counts_even : length x.counts % 2 ≡ 0
+    pub counts_few : length x.counts / 2 ≤ most_rounds
+    pub two_bytes_an_end : length ends ≡ 2 * (length x.counts / 2)
+    pub all_rows : sum x.counts ≡ length (elements 8 x.rows)
+    pub word_count : length (elements 4 code) ≡ length code / 4
+
+  pub tested : bytes_fit ≡ true → counts_fit ≡ true → Tested
+  tested b c =
+      let bytes = fitting b in
+      let fits = fits_bytes ∙ c in
+      let lengths : RoleWithin (length x.counts) (length x.kinds) (length (elements 2 x.objects)) (length (elements 2 x.named)) (length (elements 2 ends)) =
+      fits_within (elements 2 ends) (elements 4 code) (role_elements x) fits in
+      record {
+        bytes = bytes;
+        all_fit = fits;
+        counts_even = lengths.even;
+        counts_few = lengths.few;
+        two_bytes_an_end = omega (arith, lengths.ends_length, end_count, bytes.ends_whole);
+        all_rows = fits_sum (elements 2 ends) (elements 4 code) (role_elements x) fits;
+        word_count = length_words 4 (length code / 4) code;
+      }
+
   module _ (ends_below : Below 256 ends) (code_below : Below 256 code) where
     -- what an outcome leaves as bytes
     module _ (all_whole : T (role_whole ends code x)) where
@@ -77,6 +104,10 @@ module _ (ends code : List ℕ) (x : RoleLent) where
       kept {answer} {half} h = (λ i. record { answer = role_numbers answer half; ends = sym ends_same i; code = sym code_same i }) ∙ ap role_spelled h
 
     module _ (f : Fitting) where
+      -- words in front of the code
+      pub laid_words : (words : List ℕ) → spelled 4 words ++ drop (length (spelled 4 words)) code ≡ spelled 4 (words ++ drop (length words) (elements 4 code))
+      laid_words words = laid_bytes 4 words code (code_same f.all_whole)
+
       entry : role_spelled outcome ≡ role_entry ends code x
       unfolding role_entry
       entry = where_true (role_whole ends code x) (role_spelled outcome) (role_untouched ends code x) f.all_whole

@@ -1,5 +1,3 @@
--- Laws of a role over lent bytes.
-pub mod RowLaws
+-- Laws of a role's bytes, and of its answer in numbers.
 pub mod BytesLaws
-pub mod PackLaws
 pub mod EntryLaws

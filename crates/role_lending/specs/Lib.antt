@@ -1,3 +1,2 @@
 -- The entry for C that compiles a role.
 pub mod RoleEntry
-pub mod Bytes

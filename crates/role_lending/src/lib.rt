@@ -6,13 +6,10 @@ ghost use Rattle.numbers.specs.Limits.{variables};
 ghost use Rattle.role_lending.specs.RoleEntry.{role_numbers, role_entry};
 
 use answers::Compiled;
-use counting::count_words;
 use lending::arrays;
 use numbers::limits::VARIABLES;
-use writing::write_rounds;
-
-mod counting;
-mod writing;
+use role_counting::{SetCells, count_words};
+use role_writing::write_rounds;
 
 #[repr(C)]
 #[derive(Clone, Copy)]
@@ -36,12 +33,10 @@ fn lengths_fit(rows: usize, objects: usize, named: usize, ends: usize, code: usi
 fn numbers(answer: Compiled, half: u32) -> RoleAnswer
     ensures { result ≡ role_numbers answer half }
 {
-    let number = answer.number();
-    let place = answer.place();
     RoleAnswer {
-        number: number,
-        place: place,
-        half: half,
+        number: answer.number(),
+        place: answer.place(),
+        half,
     }
 }
 
@@ -82,19 +77,19 @@ pub fn compile_role(
     ) {
         return numbers(Compiled::Limit, 0);
     }
-    let object_cells = arrays::cells(objects);
-    let named_cells = arrays::cells(named);
-    let seen = compiler::set_cells(&object_cells);
-    let heard = compiler::set_cells(&named_cells);
-    let counted = count_words(rows, counts, kinds, seen, heard);
-    let answer = counted.answer;
-    if answer.number() != 0 {
-        return numbers(answer, counted.half);
-    }
-    let words = answer.place();
+    let object_cells = arrays::cells::<VARIABLES>(objects);
+    let named_cells = arrays::cells::<VARIABLES>(named);
+    let set = SetCells {
+        objects: compiler::set_cells(&object_cells),
+        named: compiler::set_cells(&named_cells),
+    };
+    let counted = count_words(rows, counts, kinds, set);
+    let Compiled::Done(words) = counted.answer else {
+        return numbers(counted.answer, counted.half);
+    };
     if code.len() / 4 < words as usize {
         return numbers(Compiled::CodeTooShort(words), 0);
     }
-    write_rounds(rows, counts, kinds, seen, heard, ends, code);
-    numbers(answer, counted.half)
+    write_rounds(rows, counts, kinds, set, ends, code);
+    numbers(counted.answer, counted.half)
 }

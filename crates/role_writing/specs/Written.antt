@@ -1,5 +1,5 @@
 -- A role's words are written where nothing refuses and they fit.
-use Rattle.std.specs.Prelude.{ℕ, ◌+◌, ◌≤◌, Bool, true, false, List, [], length}
+use Rattle.std.specs.Prelude.{ℕ, ◌+◌, ◌*◌, ◌≤◌, Bool, true, false, List, [], length}
 use Rattle.std.proofs.lemmas.List.Edits.{sets}
 use Rattle.theory.specs.Emission.{Env, Emitted, ok, refuse, and_then}
 use Rattle.calls.specs.Compile.{code_words}
@@ -16,17 +16,18 @@ CodeFits frame place room (ok lines e) = place + length (frame (code_words lines
 CodeFits frame place room (refuse answer) = ⊥
 
 -- where the words end, which cells are set after them, and the code
-pub record CodeLeft : Type 0 where
+pub record CodeLeft (A : Type 0) : Type 0 where
   pub end : ℕ
   pub objects : ℕ → Bool
   pub named : ℕ → Bool
-  pub code : List ℕ
+  pub code : List A
 
-abbrev pub code_left : (List ℕ → List ℕ) → ℕ → List ℕ → Emitted → CodeLeft
-code_left frame place code (ok lines e) =
+-- code of so many elements a word
+abbrev pub code_left : {A : Type 0} → ℕ → (List ℕ → List A) → (List ℕ → List ℕ) → ℕ → List A → Emitted → CodeLeft A
+code_left size packed frame place code (ok lines e) =
     let words = frame (code_words lines) in
-    record { end = place + length words; objects = e.objects; named = e.raws; code = sets code place words }
-code_left frame place code (refuse answer) = record { end = place; objects = λ v. false; named = λ v. false; code = code }
+    record { end = place + length words; objects = e.objects; named = e.raws; code = sets code (size * place) (packed words) }
+code_left size packed frame place code (refuse answer) = record { end = place; objects = λ v. false; named = λ v. false; code = code }
 
 -- every half compiles, and the rounds fit
 abbrev pub RoundsFit : ℕ → Halves → Type 0

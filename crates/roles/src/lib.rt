@@ -8,7 +8,7 @@ ghost use Rattle.calls.specs.Role.{role};
 use answers::Compiled;
 pub use role_counting::RoleCompiled;
 use role_counting::checks::role_fits;
-use role_counting::count_words;
+use role_counting::{SetCells, count_words};
 use role_writing::write_rounds;
 pub use round_parts::round_part;
 
@@ -43,20 +43,20 @@ pub fn compile_role(
             half: 0,
         };
     }
-    let seen = compiler::set_cells(objects);
-    let heard = compiler::set_cells(named);
-    let counted = count_words(rows, counts, kinds, seen, heard);
-    let answer = counted.answer;
-    if answer.number() != 0 {
+    let set = SetCells {
+        objects: compiler::set_cells(objects),
+        named: compiler::set_cells(named),
+    };
+    let counted = count_words(rows, counts, kinds, set);
+    let Compiled::Done(words) = counted.answer else {
         return counted;
-    }
-    let words = answer.place();
+    };
     if code.len() < words as usize {
         return RoleCompiled {
             answer: Compiled::CodeTooShort(words),
             half: 0,
         };
     }
-    write_rounds(rows, counts, kinds, seen, heard, ends, code);
+    write_rounds(rows, counts, kinds, set, ends, code);
     counted
 }

@@ -1,7 +1,7 @@
 -- A round writes new rows alone: those from the used rows before it up to the record's used rows after it.
 use Prim.Native.Nat.{ℕ}
 use mathlib.Core.Path.{◌≡◌, refl, sym, ◌∙◌}
-use mathlib.Core.Option.{Option, none, some}
+use Rattle.std.specs.Prelude.{Option, None, Some}
 use mathlib.Core.List.{List}
 use lib.ListN.{length}
 use Rattle.numbers.specs.Kinds.{kind_in}
@@ -38,8 +38,8 @@ module _ (x : RoundLent) (code : List ℕ) where
   stepped p (room place) e = all_same x.terms _ _
 
   by : (o : Option Rounded) → first (round_refusals x code) ≡ o → NewRows (round_by x code o)
-  by (some answer) e = all_same x.terms _ _
-  by none e = stepped (round_passed x code e) (steps_from 1) refl
+  by (Some answer) e = all_same x.terms _ _
+  by None e = stepped (round_passed x code e) (steps_from 1) refl
 
   pub round_new_rows : SameBut x.terms (round x code).terms (used_rows x.terms) (round x code).session.used
   unfolding round

@@ -1,6 +1,6 @@
 -- Where code stops is one of its words.
 use mathlib.Core.Path.{◌≡◌}
-use mathlib.Core.Option.{Option, none, some}
+use Rattle.std.specs.Prelude.{Option, None, Some}
 use mathlib.Core.List.{List, [], ◌∷◌}
 use Prim.Native.Nat.{ℕ, suc, ◌+◌, ◌<◌}
 use native.Mathlib.Omega.{arith}
@@ -37,8 +37,8 @@ module _ (W : World) (kind : ℕ → ℕ) where
     where
       go : (o : Option Instruction) → place < end → ((t : State W) → StopsBefore end (exec W kind (lines_from (suc place) words) t))
           → StopsBefore end (exec W kind (add_line place o (lines_from (suc place) words)) s)
-      go none inside rest = rest s
-      go (some i) inside rest = stops_bind place end (exec W kind (lines_from (suc place) words)) rest inside (step W kind place i s) (moved_step W kind place place i s)
+      go None inside rest = rest s
+      go (Some i) inside rest = stops_bind place end (exec W kind (lines_from (suc place) words)) rest inside (step W kind place i s) (moved_step W kind place place i s)
 
   pub stops_before : (words : List ℕ) (s : State W) → StopsBefore (length words) (exec W kind (lines_from 0 words) s)
   stops_before words s = stops_from (length words) 0 words (omega arith) s

@@ -6,7 +6,6 @@ ghost use Rattle.calls.specs.Round.{round, taken_of};
 ghost use Rattle.looking.specs.Front.{Front};
 
 use answers::{NONE_WAITS, Rounded, Session};
-use turns::Finding;
 
 mod steps;
 
@@ -27,17 +26,12 @@ pub struct Taken {
 pub fn take_of(session: Session) -> Taken
     ensures { record { session = result.session; answer = result.answer } ≡ taken_of session }
 {
-    let answer = session.answer;
-    let left = Session {
-        used: session.used,
-        counter: session.counter,
-        round: session.round,
-        message: session.message,
-        answer: NONE_WAITS,
-    };
     Taken {
-        session: left,
-        answer: answer,
+        session: Session {
+            answer: NONE_WAITS,
+            ..session
+        },
+        answer: session.answer,
     }
 }
 
@@ -76,11 +70,8 @@ pub fn round_front(
         code,
     );
     match found {
-        Finding::Refused(refusal) => RoundEnded {
-            session: session,
-            answer: refusal,
-        },
-        Finding::Accepted(used) => steps::play(
+        Err(answer) => RoundEnded { session, answer },
+        Ok(used) => steps::play(
             session,
             rounds,
             used,
@@ -133,9 +124,9 @@ pub fn round_of(
 pub fn take(session: &mut Session) -> u32
     ensures { record { session = session.new; answer = result } ≡ taken_of session.old }
 {
-    let t = take_of(*session);
-    *session = t.session;
-    t.answer
+    let taken = take_of(*session);
+    *session = taken.session;
+    taken.answer
 }
 
 pub fn round(

@@ -1,15 +1,15 @@
 // The steps between INPUT and OUTPUT, on copies of the cells.
 ghost use Rattle.std.specs.Prelude.{◌≡◌};
-ghost use Rattle.std.proofs.Math.Option.{none};
-ghost use Rattle.answers.specs.First.{first};
-ghost use Rattle.terms.specs.Rules.{used_rows};
-ghost use Rattle.calls.specs.Round.{round_refusals, round};
+ghost use Rattle.calls.specs.Round.{round};
+ghost use Rattle.turns.specs.Found.{GoesOn};
 
 use crate::RoundEnded;
-use answers::{Rounded, Session};
+use answers::{Ran, Rounded, Session};
+use execution::Stepped;
 use machine::Registers;
 use numbers::TermRow;
-use running::cells::{copy, message_cells, object_cells};
+use running::cells::copied;
+use stores::cells::Cells;
 use turns::{in_round, session_after};
 
 // The steps of a round that nothing refuses: the cells are copied back where they are done.
@@ -24,7 +24,7 @@ pub fn play(
     terms: &mut [u64],
     code: &[u32],
 ) -> RoundEnded
-    requires code_value { first (round_refusals (record {
+    requires { GoesOn (record {
       session = session;
       rounds = rounds;
       kinds = kinds.now;
@@ -32,8 +32,7 @@ pub fn play(
       messages = messages.old;
       certificates = certificates.now;
       terms = terms.old;
-    }) code.now) ≡ none }
-    requires used_value { used ≡ used_rows terms.old }
+    }) code.now used }
     ensures { record { answer = result.answer; session = result.session; objects = objects.new; messages = messages.new; terms = terms.new }
         ≡ round (record {
           session = session;
@@ -48,34 +47,33 @@ pub fn play(
     let start = Registers {
         place: 0,
         accumulator: TermRow(session.message as u16),
-        used: used,
+        used,
         counter: session.counter,
     };
-    let mut new_objects = object_cells(objects);
-    let mut new_messages = message_cells(messages);
+    let mut cells = Cells {
+        objects: copied(objects),
+        messages: copied(messages),
+    };
     let output = code.len() - 1;
-    let left = execution::steps(
+    let Stepped {
+        answer: ran,
+        registers,
+    } = execution::steps(
         start,
         kinds,
-        &mut new_objects,
-        &mut new_messages,
+        &mut cells,
         certificates,
         terms,
         &code[1..output],
     );
-    let ran = left.answer;
     let answer = Rounded::Ran(in_round(ran));
-    if ran.number() != 0 {
-        return RoundEnded {
-            session: session,
-            answer: answer,
-        };
-    }
-    copy(&new_objects, objects);
-    copy(&new_messages, messages);
-    let registers = left.registers;
+    let Ran::Done(_) = ran else {
+        return RoundEnded { session, answer };
+    };
+    objects.copy_from_slice(&cells.objects);
+    messages.copy_from_slice(&cells.messages);
     RoundEnded {
         session: session_after(session, registers),
-        answer: answer,
+        answer,
     }
 }

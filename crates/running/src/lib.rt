@@ -7,11 +7,12 @@ ghost use Rattle.looking.specs.Found.{used_with};
 ghost use Rattle.looking.specs.Front.{Front};
 
 use answers::Ran;
-use cells::{copy, message_cells, object_cells};
-use looking::Finding;
+use cells::copied;
+use execution::Stepped;
 use machine::Registers;
 use numbers::TermRow;
 use numbers::limits::{MESSAGE_CELLS, VARIABLES};
+use stores::cells::Cells;
 
 pub mod cells;
 
@@ -28,8 +29,7 @@ pub struct Ended {
 #[derive(Drop)]
 pub struct Outcome {
     pub answer: Ran,
-    pub objects: [u16; VARIABLES],
-    pub messages: [u16; MESSAGE_CELLS],
+    pub cells: Cells,
     pub used: u16,
     pub accumulator: u32,
     pub counter: u32,
@@ -38,8 +38,7 @@ pub struct Outcome {
 // Run with the cells by value: those on entry come back unless it is done. The rows behind the front are zero, so that they are not looked at.
 pub fn run_cells(
     kinds: &[u8],
-    objects: [u16; VARIABLES],
-    messages: [u16; MESSAGE_CELLS],
+    cells: Cells,
     certificates: &[u64],
     accumulator: u32,
     terms: &mut [u64],
@@ -48,14 +47,13 @@ pub fn run_cells(
     code: &[u32],
 ) -> Outcome
     requires { Front terms.old front }
-    ensures { (record { answer = result.answer; objects = result.objects; messages = result.messages; accumulator = result.accumulator; terms = terms.new; counter = result.counter }
+    ensures { (record { answer = result.answer; objects = result.cells.objects; messages = result.cells.messages; accumulator = result.accumulator; terms = terms.new; counter = result.counter }
         ≡ run (record {
           kinds = kinds.now;
-          objects = objects;
-          messages = messages;
+          objects = cells.objects;
+          messages = cells.messages;
           certificates = certificates.now;
-          accumulator =
-              accumulator;
+          accumulator = accumulator;
           terms = terms.old;
           counter = counter;
         }) code.now)
@@ -63,63 +61,56 @@ pub fn run_cells(
 {
     let found = looking::look(
         kinds,
-        &objects,
-        &messages,
+        &cells.objects,
+        &cells.messages,
         certificates,
         accumulator,
         &terms[..front],
         counter,
         code,
     );
-    match found {
-        Finding::Refused(refusal, counted) => Outcome {
-            answer: refusal,
-            objects: objects,
-            messages: messages,
-            used: counted,
-            accumulator: accumulator,
-            counter: counter,
-        },
-        Finding::Accepted(used) => {
-            let start = Registers {
-                place: 0,
-                accumulator: TermRow(accumulator as u16),
-                used: used,
-                counter: counter,
+    let used = match found {
+        Ok(used) => used,
+        Err(refused) => {
+            return Outcome {
+                answer: refused.answer,
+                cells,
+                used: refused.used,
+                accumulator,
+                counter,
             };
-            let mut new_objects = objects;
-            let mut new_messages = messages;
-            let left = execution::steps(
-                start,
-                kinds,
-                &mut new_objects,
-                &mut new_messages,
-                certificates,
-                terms,
-                code,
-            );
-            let answer = left.answer;
-            let registers = left.registers;
-            let row = registers.accumulator;
-            if answer.number() != 0 {
-                return Outcome {
-                    answer: answer,
-                    objects: objects,
-                    messages: messages,
-                    used: registers.used,
-                    accumulator: row.0 as u32,
-                    counter: registers.counter,
-                };
-            }
-            Outcome {
-                answer: answer,
-                objects: new_objects,
-                messages: new_messages,
-                used: registers.used,
-                accumulator: row.0 as u32,
-                counter: registers.counter,
-            }
         }
+    };
+    let start = Registers {
+        place: 0,
+        accumulator: TermRow(accumulator as u16),
+        used,
+        counter,
+    };
+    let mut new_cells = cells;
+    let Stepped { answer, registers } = execution::steps(
+        start,
+        kinds,
+        &mut new_cells,
+        certificates,
+        terms,
+        code,
+    );
+    let Ran::Done(_) = answer else {
+        return Outcome {
+            answer,
+            cells,
+            used: registers.used,
+            accumulator: registers.accumulator.0 as u32,
+            counter: registers.counter,
+        };
+    };
+    Outcome {
+        answer,
+        cells: new_cells,
+        used: registers.used,
+        accumulator: registers.accumulator.0 as u32,
+        counter: registers.counter,
     }
 }
 
@@ -150,33 +141,37 @@ pub fn run(
         return Ended {
             answer: Ran::Limit,
             used: 0,
-            accumulator: accumulator,
-            counter: counter,
+            accumulator,
+            counter,
         };
     }
-    let given_objects = object_cells(objects);
-    let given_messages = message_cells(messages);
-    let rows = terms.len();
-    let left = run_cells(
+    let lent = Cells {
+        objects: copied(objects),
+        messages: copied(messages),
+    };
+    let front = terms.len();
+    let Outcome {
+        answer,
+        cells,
+        used,
+        accumulator,
+        counter,
+    } = run_cells(
         kinds,
-        given_objects,
-        given_messages,
+        lent,
         certificates,
         accumulator,
         terms,
-        rows,
+        front,
         counter,
         code,
     );
-    let left_objects = left.objects;
-    let left_messages = left.messages;
-    copy(&left_objects, objects);
-    copy(&left_messages, messages);
-    let answer = left.answer;
+    objects.copy_from_slice(&cells.objects);
+    messages.copy_from_slice(&cells.messages);
     Ended {
-        answer: answer,
-        used: left.used,
-        accumulator: left.accumulator,
-        counter: left.counter,
+        answer,
+        used,
+        accumulator,
+        counter,
     }
 }

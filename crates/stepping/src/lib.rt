@@ -1,7 +1,7 @@
 // One step of the machine: figure 4, an arm for each instruction.
 #![tactic(auto)]
 
-ghost use Rattle.std.specs.Prelude.{◌≡◌, length, T};
+ghost use Rattle.std.specs.Prelude.{T};
 ghost use Rattle.code.specs.Words.{operands_fit};
 ghost use Rattle.numbers.specs.Kinds.{kind_in};
 ghost use Rattle.theory.specs.RowModel.{row_world};
@@ -10,25 +10,24 @@ ghost use Rattle.machine.specs.Machine.{slices, state_at, Within, Agrees};
 
 use code::Instruction;
 use machine::{Registers, Step};
+use stores::cells::Cells;
 
 pub fn step(
     registers: Registers,
     instruction: Instruction,
     kinds: &[u8],
-    objects: &mut [u16],
-    messages: &mut [u16],
+    cells: &mut Cells,
     certificates: &[u64],
     rows: &mut [u64],
 ) -> Step
     requires t { T (operands_fit (kind_in kinds.now) instruction) }
-    requires objects_len { length objects.old ≡ 64 }
-    requires messages_len { length messages.old ≡ 256 }
     requires within { Within rows.old registers.used }
-    ensures { Agrees (slices objects.old messages.old rows.old certificates.now)
+    ensures { Agrees (slices cells.old.objects cells.old.messages rows.old certificates.now)
         (step row_world (kind_in kinds.now) registers.place instruction
-        (state_at registers (slices objects.old messages.old rows.old certificates.now)))
-        result (slices objects.new messages.new rows.new certificates.now) }
+        (state_at registers (slices cells.old.objects cells.old.messages rows.old certificates.now)))
+        result (slices cells.new.objects cells.new.messages rows.new certificates.now) }
 {
+    let Cells { objects, messages } = cells;
     match instruction {
         Instruction::Load(r) => registers.load(messages, r),
         Instruction::Store(r) => registers.store(messages, r),

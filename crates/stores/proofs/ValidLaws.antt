@@ -1,7 +1,7 @@
 -- The tests of refusal 3 say what document 01 says.
 use mathlib.Core.Path.{◌≡◌}
 use mathlib.Core.Logic.Iff
-use mathlib.Core.Logic.{◌↔◌, ◌⊎◌, ◌≢◌, inl, inr, ⊎_elim}
+use mathlib.Core.Logic.{◌↔◌, ◌≢◌, inl, inr, ⊎_elim}
 use mathlib.Core.Bool.{Bool, not, ◌&&◌, ◌||◌}
 use mathlib.Core.List.{List, [], ◌∷◌}
 use Prim.Native.Nat.{ℕ, zero, suc, ◌<◌, ◌≤◌}

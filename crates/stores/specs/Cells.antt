@@ -1,6 +1,6 @@
 -- Cells in a list: a row, or 65,535 for unset. A store is what the cells hold.
 use Rattle.std.specs.Prelude.{ℕ, zero, suc, Bool, cond, not, List, [], ◌∷◌, get_or, eqb}
-use Rattle.std.proofs.Math.Option.{Option, none, some}
+use Rattle.std.specs.Prelude.{Option, None, Some}
 
 abbrev pub unset : ℕ
 unset = 65535
@@ -10,11 +10,11 @@ is_set cell = not (eqb cell unset)
 
 -- what a cell holds, and back
 unfoldable pub held : ℕ → Option ℕ
-held cell = cond (eqb cell unset) none (some cell)
+held cell = cond (eqb cell unset) None (Some cell)
 
 unfoldable pub cell_of : Option ℕ → ℕ
-cell_of none = unset
-cell_of (some row) = row
+cell_of None = unset
+cell_of (Some row) = row
 
 -- a cell past the list is unset
 unfoldable pub store_of : List ℕ → ℕ → Option ℕ

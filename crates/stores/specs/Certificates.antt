@@ -1,6 +1,6 @@
 -- Certificates: agent row 12, public key row 12, zero 40. At most 32, no agent twice.
 use Rattle.std.specs.Prelude.{ℕ, Bool, true, false, not, ◌&&◌, List, [], ◌∷◌, eqb, ltb}
-use Rattle.std.proofs.Math.Option.{Option, none, some}
+use Rattle.std.specs.Prelude.{Option, None, Some}
 use Rattle.numbers.specs.Kinds.{agent_kind, public_key}
 use Rattle.word.specs.Fields.{split, at}
 use Rattle.word.specs.Lowest.{each}
@@ -20,8 +20,8 @@ spare_of word = at 2 (split certificate_widths word)
 
 -- the public key row of an agent row
 unfoldable pub certified : List ℕ → ℕ → Option ℕ
-certified [] agent = none
-certified (word ∷ rest) agent = elim (eqb (agent_of word) agent) [ true ↦ some (key_of word) | false ↦ certified rest agent ]
+certified [] agent = None
+certified (word ∷ rest) agent = elim (eqb (agent_of word) agent) [ true ↦ Some (key_of word) | false ↦ certified rest agent ]
 
 -- a pair of an agent row and a public key row, both used
 unfoldable pub pair_fits : List ℕ → ℕ → ℕ → Bool

@@ -1,13 +1,30 @@
 // Kinds and cells.
-ghost use Rattle.std.specs.Prelude.{◌≡◌, min, length};
+ghost use Rattle.std.specs.Prelude.{◌≡◌};
+ghost use Rattle.numbers.specs.Kinds.{kind_in};
 ghost use Rattle.word.specs.Lowest.{each};
 ghost use Rattle.stores.specs.Cells.{is_set};
 ghost use Rattle.stores.specs.Valid.{kinds_fit, each_variable, undeclared_unset, cell_fits, declared};
 
+use numbers::Object;
 use numbers::kinds::TUPLE;
+use numbers::limits::{MESSAGE_CELLS, VARIABLES};
 
 // What stands in a cell that holds no row.
 pub const UNSET: u16 = 65535;
+
+// The kind of a variable; one past the list is undeclared.
+pub fn kind_at(kinds: &[u8], v: Object) -> u8
+    ensures { result ≡ kind_in kinds.now v.0 }
+{
+    kinds.get(v.0 as usize).copied().unwrap_or(0)
+}
+
+// The cells of a terminal: of the objects, and of messages.
+#[derive(Clone, Copy)]
+pub struct Cells {
+    pub objects: [u16; VARIABLES],
+    pub messages: [u16; MESSAGE_CELLS],
+}
 
 pub fn is_set(cell: u32) -> bool
     ensures { result ≡ is_set cell }
@@ -27,8 +44,8 @@ pub fn cells_fit(used: u16, cells: &[u16]) -> bool
     ensures { result ≡ each (cell_fits used) cells.now }
 {
     let mut fit = true;
-    for i in 0..cells.len() {
-        fit = fit & cell_fits(used, cells[i] as u32);
+    for &cell in cells {
+        fit = fit & cell_fits(used, cell as u32);
     }
     fit
 }
@@ -38,21 +55,10 @@ pub fn kinds_fit(kinds: &[u8]) -> bool
     ensures { result ≡ kinds_fit kinds.now }
 {
     let mut fit = true;
-    for i in 0..kinds.len() {
-        fit = fit & (kinds[i] <= TUPLE);
+    for &kind in kinds {
+        fit = fit & (kind <= TUPLE);
     }
     fit
-}
-
-// The number of variables with a kind and a cell.
-pub fn variables(kinds: &[u8], objects: &[u16]) -> usize
-    ensures { result ≡ min (length kinds.now) (length objects.now) }
-{
-    if kinds.len() < objects.len() {
-        kinds.len()
-    } else {
-        objects.len()
-    }
 }
 
 // The cell of an undeclared variable is unset.
@@ -65,10 +71,9 @@ pub fn undeclared_unset(kind: u8, cell: u32) -> bool
 fn all_declared(kinds: &[u8], objects: &[u16]) -> bool
     ensures { result ≡ each_variable undeclared_unset kinds.now objects.now }
 {
-    let count = variables(kinds, objects);
     let mut declared = true;
-    for v in 0..count {
-        declared = declared & undeclared_unset(kinds[v], objects[v] as u32);
+    for (&kind, &cell) in kinds.iter().zip(objects) {
+        declared = declared & undeclared_unset(kind, cell as u32);
     }
     declared
 }

@@ -15,7 +15,7 @@ pub fn large_buffer() -> [u8; 65536]
     [0; 65536]
 }
 
-// Reads until the buffer is full or the input ends, and returns how many bytes it put at its start.
+// Reads until the buffer is full or the input ends, and returns how many bytes it put at its start: what a read gives says where the next one goes.
 pub fn read_full<R: Read>(input: &mut R, buf: &mut [u8]) -> io::Result<usize>
     ensures bound { ReadsAtMost result buf.new }
     ensures bytes { IfOk result (λ n. Consumes (R.remaining input.old) (R.remaining input.new) (take n buf.new)) }

@@ -18,9 +18,10 @@ use Rattle.knowing.specs.Meets.{Quiet}
 use Rattle.surveys.specs.Surveys.{Surveys}
 use Rattle.surveys.proofs.JoinLaws.{looks_seq, looks_read, looks_write, looks_free, looks_wrong, looks_read_raw, looks_write_raw}
 use Rattle.surveys.proofs.LeafLaws.{raw_low, as_row}
+use Rattle.knowing.specs.declared.Emission.{Emission}
 
 -- the looks of a direction
-module _ {create : Bool} {kind : ℕ → ℕ} (p : Pattern) {e e' : List ℕ} where
+module _ {create : Bool} {kind : ℕ → ℕ} (p : Pattern) {e e' : Emission} where
   pub as_created : create ≡ true → Surveys kind (creating_looks p) e e' → Surveys kind (looks_of create p) e e'
   as_created way s = rw way s
 
@@ -30,7 +31,7 @@ module _ {create : Bool} {kind : ℕ → ℕ} (p : Pattern) {e e' : List ℕ} wh
 -- e : E(key, p)
 module _ (rows : List ℕ) (row word : ℕ) (asked : StandsAt rows row word) (five : (pattern_fields word).tag ≡ 5)
     (child : ℕ) (first : child ≡ get_or (pattern_fields word).slots 0 0) {create : Bool} {kind : ℕ → ℕ} where
-  module _ (v : ℕ) (variable : v ≡ (pattern_fields word).v) {e e₁ e₂ e₃ : List ℕ} where
+  module _ (v : ℕ) (variable : v ≡ (pattern_fields word).v) {e e₁ e₂ e₃ : Emission} where
     pub encryption_created : create ≡ true → Surveys kind (creating_key_looks row (key_by (pattern_fields word))) e e₁ → Surveys kind (creating_looks (pattern_in rows child)) e₁ e₂
         → Quiet (write_object row v) 0 e₂ e₃ → Surveys kind (looks_of create (pattern_in rows row)) e e₃
     encryption_created way k s q =
@@ -46,7 +47,7 @@ module _ (rows : List ℕ) (row word : ℕ) (asked : StandsAt rows row word) (fi
         (looks_seq (looks_write q) (looks_seq (looks_read p) s)))
 
   -- only a plain key opens
-  pub encryption_wrong : (form : ℕ) {e e' : List ℕ} → form ≡ (pattern_fields word).f → create ≡ false → (form ≡ 0 → ⊥) → Quiet (λ env. refuse (WrongKind row)) 0 e e'
+  pub encryption_wrong : (form : ℕ) {e e' : Emission} → form ≡ (pattern_fields word).f → create ≡ false → (form ≡ 0 → ⊥) → Quiet (λ env. refuse (WrongKind row)) 0 e e'
       → Surveys kind (looks_of create (pattern_in rows row)) e e'
   encryption_wrong form {e} {e'} read way other q = as_matched (pattern_in rows row) way (by (pattern_fields word).f refl)
     where
@@ -65,7 +66,7 @@ module _ (rows : List ℕ) (row word : ℕ) (asked : StandsAt rows row word) (ni
   formed : pattern_in rows row ≡ let_in row r (pattern_in rows child) (pattern_in rows other)
   formed = let_row asked child first other second nine ∙ rw named
 
-  module _ {create : Bool} {kind : ℕ → ℕ} {e e₁ e₂ e₃ : List ℕ} where
+  module _ {create : Bool} {kind : ℕ → ℕ} {e e₁ e₂ e₃ : Emission} where
     pub let_created : create ≡ true → Surveys kind (creating_looks (pattern_in rows child)) e e₁ → Quiet (write_raw row r) 0 e₁ e₂
         → Surveys kind (creating_looks (pattern_in rows other)) e₂ e₃ → Surveys kind (looks_of create (pattern_in rows row)) e e₃
     let_created way s q t =
@@ -73,7 +74,7 @@ module _ (rows : List ℕ) (row word : ℕ) (asked : StandsAt rows row word) (ni
         (as_row creating_looks rows row (let_in row r (pattern_in rows child) (pattern_in rows other)) formed
         (looks_seq s (looks_seq (looks_write_raw (raw_low word r named) q) t)))
 
-    pub let_matched : {e₄ : List ℕ} → create ≡ false → Quiet (free_raw row r) 0 e e₁ → Surveys kind (matching_looks (pattern_in rows other)) e₁ e₂ → Quiet (read_raw row r) 0 e₂ e₃
+    pub let_matched : {e₄ : Emission} → create ≡ false → Quiet (free_raw row r) 0 e e₁ → Surveys kind (matching_looks (pattern_in rows other)) e₁ e₂ → Quiet (read_raw row r) 0 e₂ e₃
         → Surveys kind (matching_looks (pattern_in rows child)) e₃ e₄ → Surveys kind (looks_of create (pattern_in rows row)) e e₄
     let_matched way f s q t =
         as_matched (pattern_in rows row) way

@@ -17,17 +17,18 @@ use Rattle.knowing.specs.Steps.{read_object, write_object}
 use Rattle.knowing.specs.Meets.{env_of, Quiet}
 use Rattle.surveys.specs.Surveys.{Surveys}
 use Rattle.surveys.proofs.JoinLaws.{looks_by, looks_seq, looks_kept, looks_read, looks_write}
+use Rattle.knowing.specs.declared.Emission.{Emission}
 
-pub key_derived : {row key source : ℕ} {e e₁ e₂ : List ℕ} → Quiet (read_object row source) 0 e e₁ → Quiet (write_object row key) 0 e₁ e₂
+pub key_derived : {row key source : ℕ} {e e₁ e₂ : Emission} → Quiet (read_object row source) 0 e e₁ → Quiet (write_object row key) 0 e₁ e₂
     → (kind : ℕ → ℕ) → Surveys kind (reads row source ∷ writes row key ∷ []) e e₂
 key_derived q p kind = looks_seq (looks_read q) (looks_write p)
 
 -- t is what was seen of the variable, s of its kind
-module _ (kinds : List ℕ) {row v : ℕ} {e : List ℕ} {t : Bool} (seen : t ≡ known (get_or e 0 0) v) where
+module _ (kinds : List ℕ) {row v : ℕ} {e : Emission} {t : Bool} (seen : t ≡ known e.objects v) where
   pub variable_set : t ≡ true → Surveys (kind_in kinds) (reads_or_creates row v ∷ []) e e
   variable_set h = looks_kept (judged_one (kind_in kinds) (reads_or_creates row v) (known_in (env_of e)) ∙ rw (sym seen ∙ h))
 
-  module _ {s : Bool} (own : s ≡ creatable (get_or kinds v 0)) {e' : List ℕ} where
+  module _ {s : Bool} (own : s ≡ creatable (get_or kinds v 0)) {e' : Emission} where
     pub variable_created : t ≡ false → s ≡ true → Quiet (write_object row v) 0 e e' → Surveys (kind_in kinds) (reads_or_creates row v ∷ []) e e'
     variable_created h g q =
         looks_by q (sym (judged_one (kind_in kinds) (reads_or_creates row v) (known_in (env_of e)) ∙ rw (sym seen ∙ h, sym own ∙ g)))
@@ -36,12 +37,12 @@ module _ (kinds : List ℕ) {row v : ℕ} {e : List ℕ} {t : Bool} (seen : t �
     variable_refused h g q =
         looks_by q (sym (judged_one (kind_in kinds) (reads_or_creates row v) (known_in (env_of e)) ∙ rw (sym seen ∙ h, sym own ∙ g)))
 
-pub opposite_created : {kind : ℕ → ℕ} {row public private : ℕ} {e e₁ e₂ : List ℕ} → Surveys kind (reads_or_creates row private ∷ []) e e₁ → Quiet (write_object row public) 0 e₁ e₂
+pub opposite_created : {kind : ℕ → ℕ} {row public private : ℕ} {e e₁ e₂ : Emission} → Surveys kind (reads_or_creates row private ∷ []) e e₁ → Quiet (write_object row public) 0 e₁ e₂
     → Surveys kind (creating_key_looks row (op_key public private)) e e₂
 opposite_created s q = looks_seq s (looks_write q)
 
 -- a key by its form
-module _ {kind : ℕ → ℕ} (row word : ℕ) {e e' : List ℕ} where
+module _ {kind : ℕ → ℕ} (row word : ℕ) {e e' : Emission} where
   key_as : (k : Key) → key_by (pattern_fields word) ≡ k → Surveys kind (creating_key_looks row k) e e' → Surveys kind (creating_key_looks row (key_by (pattern_fields word))) e e'
   key_as k h s = rw h s
 

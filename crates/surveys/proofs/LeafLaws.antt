@@ -13,6 +13,7 @@ use Rattle.knowing.specs.Steps.{read_object, write_object, read_raw}
 use Rattle.knowing.specs.Meets.{Quiet}
 use Rattle.surveys.specs.Surveys.{Surveys}
 use Rattle.surveys.proofs.JoinLaws.{looks_seq, looks_read, looks_write, looks_read_raw}
+use Rattle.knowing.specs.declared.Emission.{Emission}
 
 -- R is one of the 64 raw variables
 pub raw_low : (word r : ℕ) → r ≡ (pattern_fields word).r → r < 64
@@ -20,11 +21,11 @@ unfolding pattern_fields
 raw_low word r e = rw e (omega arith)
 
 -- either direction's looks at a row whose pattern is known
-pub as_row : (f : Pattern → List Look) (rows : List ℕ) (row : ℕ) (p : Pattern) {kind : ℕ → ℕ} {e e' : List ℕ} → pattern_in rows row ≡ p → Surveys kind (f p) e e'
+pub as_row : (f : Pattern → List Look) (rows : List ℕ) (row : ℕ) (p : Pattern) {kind : ℕ → ℕ} {e e' : Emission} → pattern_in rows row ≡ p → Surveys kind (f p) e e'
     → Surveys kind (f (pattern_in rows row)) e e'
 as_row f rows row p h s = rw h s
 
-module _ (f : Pattern → List Look) (rows : List ℕ) (row word : ℕ) (asked : StandsAt rows row word) {tag : ℕ} (read : tag ≡ (pattern_fields word).tag) {kind : ℕ → ℕ} {e e' : List ℕ} where
+module _ (f : Pattern → List Look) (rows : List ℕ) (row word : ℕ) (asked : StandsAt rows row word) {tag : ℕ} (read : tag ≡ (pattern_fields word).tag) {kind : ℕ → ℕ} {e e' : Emission} where
   module _ (v : ℕ) (variable : v ≡ (pattern_fields word).v) where
     pub leaf_object : tag ≡ 0 → Surveys kind (f (object row v)) e e' → Surveys kind (f (pattern_in rows row)) e e'
     leaf_object h s = as_row f rows row (object row v) (object_row asked (sym read ∙ h) ∙ rw variable) s
@@ -50,7 +51,7 @@ module _ (f : Pattern → List Look) (rows : List ℕ) (row word : ℕ) (asked :
   pub leaf_raw : (r : ℕ) → r ≡ (pattern_fields word).r → tag ≡ 1 → Surveys kind (f (raw row r)) e e' → Surveys kind (f (pattern_in rows row)) e e'
   leaf_raw r second h s = as_row f rows row (raw row r) (raw_row asked (sym read ∙ h) ∙ rw second) s
 
-module _ {row : ℕ} {e e₁ e₂ : List ℕ} where
+module _ {row : ℕ} {e e₁ e₂ : Emission} where
   pub key_of_matched : {key agent : ℕ} → Quiet (write_object row key) 0 e e₁ → Quiet (read_object row agent) 0 e₁ e₂ → (kind : ℕ → ℕ) → Surveys kind (matching_looks (key_of row key agent)) e e₂
   key_of_matched q p kind = looks_seq (looks_write q) (looks_read p)
 
@@ -63,7 +64,7 @@ module _ {row : ℕ} {e e₁ e₂ : List ℕ} where
 
 -- s : S(key, r)
 module _ (rows : List ℕ) (row word : ℕ) (asked : StandsAt rows row word) (six : (pattern_fields word).tag ≡ 6) (v r : ℕ) (variable : v ≡ (pattern_fields word).v) (body : r ≡ (pattern_fields word).r)
-    {e e₁ e₂ e₃ : List ℕ} where
+    {e e₁ e₂ e₃ : Emission} where
   module _ (x form : ℕ) (key : x ≡ (pattern_fields word).x) (read : form ≡ (pattern_fields word).f) (written : Quiet (write_object row v) 0 e e₁) where
     pub signed_plain : form ≡ 0 → Quiet (read_object row x) 0 e₁ e₂ → Quiet (read_raw row r) 0 e₂ e₃ → (kind : ℕ → ℕ) → Surveys kind (matching_looks (pattern_in rows row)) e e₃
     signed_plain h q p kind =

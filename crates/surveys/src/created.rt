@@ -1,5 +1,5 @@
 // What the forms with no children look at when they are created.
-ghost use Rattle.std.specs.Prelude.{◌≡◌, ℕ, ◌<◌, length};
+ghost use Rattle.std.specs.Prelude.{◌≡◌, ℕ, ◌<◌};
 ghost use Rattle.numbers.specs.Kinds.{kind_in};
 ghost use Rattle.numbers.specs.Limits.{variables};
 ghost use Rattle.patterns.specs.Forms.{signature_form};
@@ -17,7 +17,7 @@ use patterns::forms as form;
 
 // h : H(r)
 fn create_hash(emission: &mut Emission, row: u8, h: Object, r: Raw)
-    requires { (length emission.old ≡ 5) × ((h.0 < variables) × (r.0 < variables)) }
+    requires { (h.0 < variables) × (r.0 < variables) }
     ensures { (kind : ℕ → ℕ) → Surveys kind (creating_looks (hash row h.0 r.0)) emission.old emission.new }
 {
     read_raw(emission, row, r);
@@ -27,7 +27,7 @@ fn create_hash(emission: &mut Emission, row: u8, h: Object, r: Raw)
 // s : S(key, r)
 fn create_signature(rows: &Rows, kinds: &Kinds, emission: &mut Emission, row: u8, word: u64)
     requires stands_at { StandsAt rows.now row word }
-    requires emission_len { (length emission.old ≡ 5) × ((pattern_fields word).tag ≡ signature_form) }
+    requires word_value { (pattern_fields word).tag ≡ signature_form }
     ensures { Surveys (kind_in kinds.now) (creating_looks (pattern_in rows.now row)) emission.old emission.new }
 {
     let s = patterns::variable(word);
@@ -40,7 +40,7 @@ fn create_signature(rows: &Rows, kinds: &Kinds, emission: &mut Emission, row: u8
 // The pattern of a row with no children.
 pub fn create_leaf(rows: &Rows, kinds: &Kinds, emission: &mut Emission, row: u8, word: u64)
     requires stands_at { StandsAt rows.now row word }
-    requires emission_len { (length emission.old ≡ 5) × Leaf (pattern_fields word).tag }
+    requires leaf { Leaf (pattern_fields word).tag }
     ensures { Surveys (kind_in kinds.now) (creating_looks (pattern_in rows.now row)) emission.old emission.new }
 {
     let tag = patterns::tag(word);

@@ -1,5 +1,5 @@
 // Variables and keys: what is read of them, and what is set.
-ghost use Rattle.std.specs.Prelude.{◌≡◌, [], ◌∷◌, ℕ, ◌<◌, length};
+ghost use Rattle.std.specs.Prelude.{◌≡◌, [], ◌∷◌, ℕ, ◌<◌};
 ghost use Rattle.numbers.specs.Kinds.{kind_in};
 ghost use Rattle.numbers.specs.Limits.{variables};
 ghost use Rattle.patterns.specs.Pattern.{op_key};
@@ -15,7 +15,7 @@ use patterns::forms as form;
 
 // A key made of another key, or of an agent: that is read, and then the key is set.
 pub fn derive_key(emission: &mut Emission, row: u8, key: Object, source: Object)
-    requires { (length emission.old ≡ 5) × (key.0 < variables) }
+    requires { key.0 < variables }
     ensures { (kind : ℕ → ℕ) → Surveys kind (reads row source.0 ∷ writes row key.0 ∷ []) emission.old emission.new }
 {
     read_object(emission, row, source);
@@ -24,10 +24,10 @@ pub fn derive_key(emission: &mut Emission, row: u8, key: Object, source: Object)
 
 // Created: a variable that is set is read, a creatable one is set, any other is 7.
 pub fn create_variable(kinds: &Kinds, emission: &mut Emission, row: u8, v: Object)
-    requires { (length emission.old ≡ 5) × (v.0 < variables) }
+    requires { v.0 < variables }
     ensures { Surveys (kind_in kinds.now) (reads_or_creates row v.0 ∷ []) emission.old emission.new }
 {
-    if object_known(emission, v) {} else {
+    if !object_known(emission, v) {
         if creatable(kinds, v) {
             write_object(emission, row, v);
         } else {
@@ -44,7 +44,7 @@ pub fn create_opposite(
     public: Object,
     private: Object,
 )
-    requires { (length emission.old ≡ 5) × ((public.0 < variables) × (private.0 < variables)) }
+    requires { (public.0 < variables) × (private.0 < variables) }
     ensures { Surveys (kind_in kinds.now) (creating_key_looks row (op_key public.0 private.0)) emission.old emission.new }
 {
     create_variable(kinds, emission, row, private);
@@ -53,8 +53,7 @@ pub fn create_opposite(
 
 // The key of a created E or S, by its form.
 pub fn create_key(kinds: &Kinds, emission: &mut Emission, row: u8, word: u64)
-    requires emission_len { length emission.old ≡ 5 }
-    requires word_bound { ((pattern_fields word).f < 3) × ((pattern_fields word).x < variables) }
+    requires { ((pattern_fields word).f < 3) × ((pattern_fields word).x < variables) }
     ensures { Surveys (kind_in kinds.now) (creating_key_looks row (key_by (pattern_fields word))) emission.old emission.new }
 {
     let key = patterns::key(word);

@@ -5,8 +5,8 @@ mod created;
 mod keys;
 mod matched;
 
-ghost use Rattle.std.specs.Prelude.{◌≡◌, length};
-ghost use Rattle.std.proofs.Math.Option.{none};
+ghost use Rattle.std.specs.Prelude.{◌≡◌};
+ghost use Rattle.std.specs.Prelude.{None};
 ghost use Rattle.answers.specs.First.{first};
 ghost use Rattle.patterns.specs.Forms.{encryption_form, tuple_form, let_form};
 ghost use Rattle.patterns.specs.Row.{pattern_fields};
@@ -17,11 +17,12 @@ ghost use Rattle.knowing.specs.Known.{known};
 ghost use Rattle.knowing.specs.Findings.{finding_of};
 ghost use Rattle.surveys.specs.Surveys.{SurveysRow, ChildrenAt, SurveysParts};
 
+use answers::Compiled;
 use knowing::{
-    Emission, Finding, found, free_raw, read_object, read_raw, write_object, write_raw, wrong_kind,
+    Emission, emission_from, found, free_raw, read_object, read_raw, write_object, write_raw,
+    wrong_kind,
 };
 use layout::{Kinds, Rows, all_kinds, lay_rows, no_rows};
-use numbers::limits::MOST_PARTS;
 use patterns::forms as form;
 
 // The pattern of a row with no children.
@@ -34,7 +35,7 @@ fn survey_leaf(
     word: u64,
 )
     requires stands_at { StandsAt rows.now row word }
-    requires emission_len { (length emission.old ≡ 5) × Leaf (pattern_fields word).tag }
+    requires leaf { Leaf (pattern_fields word).tag }
     ensures { SurveysRow create rows.now kinds.now row emission.old emission.new }
 {
     if create {
@@ -47,8 +48,7 @@ fn survey_leaf(
 // The pattern of a row.
 #[cycle(surveying)]
 fn survey_row(create: bool, rows: &Rows, kinds: &Kinds, emission: &mut Emission, row: u8)
-    requires stands { Stands rows.now row }
-    requires emission_len { length emission.old ≡ 5 }
+    requires { Stands rows.now row }
     ensures { SurveysRow create rows.now kinds.now row emission.old emission.new }
 {
     let word = rows[row as usize];
@@ -72,7 +72,7 @@ fn survey_encryption(
     word: u64,
 )
     requires stands_at { StandsAt rows.now row word }
-    requires emission_len { (length emission.old ≡ 5) × ((pattern_fields word).tag ≡ encryption_form) }
+    requires word_value { (pattern_fields word).tag ≡ encryption_form }
     ensures { SurveysRow create rows.now kinds.now row emission.old emission.new }
 {
     let e = patterns::variable(word);
@@ -81,14 +81,12 @@ fn survey_encryption(
         keys::create_key(kinds, emission, row, word);
         survey_row(true, rows, kinds, emission, children[0]);
         write_object(emission, row, e);
+    } else if patterns::key_form(word) == form::PLAIN_KEY {
+        write_object(emission, row, e);
+        read_object(emission, row, patterns::key(word));
+        survey_row(false, rows, kinds, emission, children[0]);
     } else {
-        if patterns::key_form(word) == form::PLAIN_KEY {
-            write_object(emission, row, e);
-            read_object(emission, row, patterns::key(word));
-            survey_row(false, rows, kinds, emission, children[0]);
-        } else {
-            wrong_kind(emission, row);
-        }
+        wrong_kind(emission, row);
     }
 }
 
@@ -103,17 +101,18 @@ fn survey_tuple(
     word: u64,
 )
     requires stands_at { StandsAt rows.now row word }
-    requires emission_len { (length emission.old ≡ 5) × ((pattern_fields word).tag ≡ tuple_form) }
+    requires word_value { (pattern_fields word).tag ≡ tuple_form }
     ensures { SurveysRow create rows.now kinds.now row emission.old emission.new }
 {
     let t = patterns::variable(word);
-    let children = patterns::slots(word);
+    let slots = patterns::slots(word);
     let n = patterns::count(word);
+    let children = &slots[..n as usize];
     if !create {
         write_object(emission, row, t);
-        survey_parts(false, rows, kinds, emission, row, children, n);
+        survey_parts(false, rows, kinds, emission, row, children);
     } else {
-        survey_parts(true, rows, kinds, emission, row, children, n);
+        survey_parts(true, rows, kinds, emission, row, children);
         write_object(emission, row, t);
     }
 }
@@ -126,17 +125,13 @@ fn survey_parts(
     kinds: &Kinds,
     emission: &mut Emission,
     row: u8,
-    children: [u8; MOST_PARTS],
-    n: u8,
+    children: &[u8],
 )
-    requires children_at { ChildrenAt rows.now row children n }
-    requires emission_len { length emission.old ≡ 5 }
-    ensures { SurveysParts create rows.now kinds.now children n emission.old emission.new }
+    requires { ChildrenAt rows.now row children.now }
+    ensures { SurveysParts create rows.now kinds.now children.now emission.old emission.new }
 {
-    let mut k: usize = 0;
-    while k < n as usize {
-        survey_row(create, rows, kinds, emission, children[k]);
-        k += 1;
+    for &child in children {
+        survey_row(create, rows, kinds, emission, child);
     }
 }
 
@@ -144,7 +139,7 @@ fn survey_parts(
 #[cycle(surveying)]
 fn survey_let(create: bool, rows: &Rows, kinds: &Kinds, emission: &mut Emission, row: u8, word: u64)
     requires stands_at { StandsAt rows.now row word }
-    requires emission_len { (length emission.old ≡ 5) × ((pattern_fields word).tag ≡ let_form) }
+    requires word_value { (pattern_fields word).tag ≡ let_form }
     ensures { SurveysRow create rows.now kinds.now row emission.old emission.new }
 {
     let r = patterns::raw(word);
@@ -162,14 +157,20 @@ fn survey_let(create: bool, rows: &Rows, kinds: &Kinds, emission: &mut Emission,
 }
 
 // What 6 and 7 find of a pattern in which 1, 3, 4 and 5 found nothing, from which cells are set: cell 0 at the most significant bit.
-pub fn survey(create: bool, pattern: &[u64], kinds: &[u8], objects: u64, named: u64) -> Finding
-    requires { first (known_refusals create pattern.now kinds.now (known objects)) ≡ none }
+pub fn survey(
+    create: bool,
+    pattern: &[u64],
+    kinds: &[u8],
+    objects: u64,
+    named: u64,
+) -> Result<(), Compiled>
+    requires { first (known_refusals create pattern.now kinds.now (known objects)) ≡ None }
     ensures { result ≡ finding_of (refused_by (known_emitted create pattern.now kinds.now (record { objects = known objects; raws = known named; next = 0 }))) }
 {
     let mut rows = no_rows();
     lay_rows(pattern, &mut rows);
     let root = (pattern.len() - 1) as u8;
-    let mut emission: Emission = [objects, named, 0, 0, 0];
+    let mut emission = emission_from(objects, named);
     let all = all_kinds(kinds);
     survey_row(create, &rows, &all, &mut emission, root);
     found(emission)

@@ -1,5 +1,5 @@
 // What the forms with no children look at when they are matched.
-ghost use Rattle.std.specs.Prelude.{◌≡◌, [], ◌∷◌, ℕ, ◌<◌, length};
+ghost use Rattle.std.specs.Prelude.{◌≡◌, [], ◌∷◌, ℕ, ◌<◌};
 ghost use Rattle.numbers.specs.Limits.{variables};
 ghost use Rattle.patterns.specs.Forms.{signature_form};
 ghost use Rattle.patterns.specs.Pattern.{key_of, hash};
@@ -16,27 +16,27 @@ use patterns::forms as form;
 
 // v: compared where it is set, set where it is not.
 fn match_object(emission: &mut Emission, row: u8, v: Object)
-    requires { (length emission.old ≡ 5) × (v.0 < variables) }
+    requires { v.0 < variables }
     ensures { (kind : ℕ → ℕ) → Surveys kind (sets v.0 ∷ []) emission.old emission.new }
 {
-    if object_known(emission, v) {} else {
+    if !object_known(emission, v) {
         write_object(emission, row, v);
     }
 }
 
 // r, likewise
 fn match_raw(emission: &mut Emission, row: u8, r: Raw)
-    requires { (length emission.old ≡ 5) × (r.0 < variables) }
+    requires { r.0 < variables }
     ensures { (kind : ℕ → ℕ) → Surveys kind (sets_raw r.0 ∷ []) emission.old emission.new }
 {
-    if raw_known(emission, r) {} else {
+    if !raw_known(emission, r) {
         write_raw(emission, row, r);
     }
 }
 
 // k : keyOf(a)
 fn match_key_of(emission: &mut Emission, row: u8, key: Object, agent: Object)
-    requires { (length emission.old ≡ 5) × (key.0 < variables) }
+    requires { key.0 < variables }
     ensures { (kind : ℕ → ℕ) → Surveys kind (matching_looks (key_of row key.0 agent.0)) emission.old emission.new }
 {
     write_object(emission, row, key);
@@ -45,7 +45,7 @@ fn match_key_of(emission: &mut Emission, row: u8, key: Object, agent: Object)
 
 // h : H(r)
 fn match_hash(emission: &mut Emission, row: u8, h: Object, r: Raw)
-    requires { (length emission.old ≡ 5) × ((h.0 < variables) × (r.0 < variables)) }
+    requires { (h.0 < variables) × (r.0 < variables) }
     ensures { (kind : ℕ → ℕ) → Surveys kind (matching_looks (hash row h.0 r.0)) emission.old emission.new }
 {
     write_object(emission, row, h);
@@ -55,7 +55,7 @@ fn match_hash(emission: &mut Emission, row: u8, h: Object, r: Raw)
 // s : S(key, r)
 fn match_signature(rows: &Rows, emission: &mut Emission, row: u8, word: u64)
     requires stands_at { StandsAt rows.now row word }
-    requires emission_len { (length emission.old ≡ 5) × ((pattern_fields word).tag ≡ signature_form) }
+    requires word_value { (pattern_fields word).tag ≡ signature_form }
     ensures { (kind : ℕ → ℕ) → Surveys kind (matching_looks (pattern_in rows.now row)) emission.old emission.new }
 {
     let key = patterns::key(word);
@@ -63,17 +63,16 @@ fn match_signature(rows: &Rows, emission: &mut Emission, row: u8, word: u64)
     write_object(emission, row, patterns::variable(word));
     if patterns::key_form(word) == form::PLAIN_KEY {
         read_object(emission, row, key);
-        read_raw(emission, row, r);
     } else {
         keys::derive_key(emission, row, key, patterns::y(word));
-        read_raw(emission, row, r);
     }
+    read_raw(emission, row, r);
 }
 
 // The pattern of a row with no children.
 pub fn match_leaf(rows: &Rows, emission: &mut Emission, row: u8, word: u64)
     requires stands_at { StandsAt rows.now row word }
-    requires emission_len { (length emission.old ≡ 5) × Leaf (pattern_fields word).tag }
+    requires leaf { Leaf (pattern_fields word).tag }
     ensures { (kind : ℕ → ℕ) → Surveys kind (matching_looks (pattern_in rows.now row)) emission.old emission.new }
 {
     let tag = patterns::tag(word);

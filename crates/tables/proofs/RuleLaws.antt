@@ -1,21 +1,19 @@
 -- The rules of a row, a way out of the code at a time.
+use Rattle.std.specs.Prelude.{Ok, Err}
+use Rattle.std.specs.Prelude.{None}
 use Prim.Native.Nat.{ℕ, suc, ◌+◌, ◌<◌, ◌≤◌}
 use mathlib.Core.Path.{◌≡◌, refl, sym, ◌∙◌, ap}
 use mathlib.Core.Bool.{Bool, true, false, not, ◌&&◌, and-true, and-false}
-use mathlib.Core.Option.{Option, some}
+use Rattle.std.specs.Prelude.{Option, Some}
 use mathlib.Core.List.{List, [], ◌∷◌}
 use native.Mathlib.Decide.{dec_lt}
 use native.Mathlib.Omega.{arith}
 use lib.ListN.{length, get_or, take, drop}
 use lib.Dec.{eqb, leb, ltb}
 use borrow.Author.Tests.{eq-eqb, ne_eqb, le-leb, lt-leb, lt-ltb, le-ltb}
-use Rattle.word.specs.Fields.{at}
-use Rattle.word.specs.Lowest.{each, one_of, lowest_from, place_of}
-use Rattle.word.specs.declared.Place.{Place}
-use Rattle.word.specs.declared.Place.TheVariants.{At, Nowhere}
+use Rattle.word.specs.Lowest.{each, one_of, lowest_from}
 use Rattle.word.proofs.OneOfLaws.{one_here, one_later, one_last}
 use Rattle.word.proofs.ScanLaws.{placed_at, placed_nowhere, Left, scan_hit, scan_miss, each_stop, each_next, each_end}
-use Rattle.terms.specs.declared.Checked.TheVariants.{Bad, Used}
 use Rattle.terms.specs.Shape.{Shape, atom, encrypted, signed, hashed, tupled, parts_of}
 use Rattle.terms.specs.Row.{row_of, tag_of, shape_of}
 use Rattle.terms.specs.Rules.{known_tag, is_packed, number_fits, parts_below, key_kind_fits, earlier_equal, used_rows, shape_fits, fits, bad_term_row, nonzero_row, bad_term, checked_by, checked}
@@ -150,7 +148,7 @@ pub ruleset kind-ways = (kind_first, kind_second)
 module _ (rows : List ℕ) (counter row word tag : ℕ) (is : tag ≡ tag_of word) (fit : Bool) where
   pub shape_atom_fits : tag < 7 → fit ≡ known_tag word && is_packed word && number_fits counter (shape_of word) → fit ≡ shape_fits rows counter row word
   shape_atom_fits low says =
-      let few : 0 ≡ length (parts_of (shape_of word)) = slots_atom word tag is (λ e. omega arith) (λ e. omega arith) (λ e. omega arith) (λ e. omega arith) in
+      let few : 0 ≡ length (parts_of (shape_of word)) = slots_atom word tag is (λ least most. omega arith) in
       let parts : true ≡ parts_below row (shape_of word) = below_end row word 0 (omega arith) refl in
       let keys : true ≡ key_kind_fits rows (shape_of word) = key_none rows word tag is (λ e. omega arith) (λ e. omega arith) in
       let alone = known_tag word && is_packed word && number_fits counter (shape_of word) in
@@ -185,7 +183,7 @@ module _ (rows : List ℕ) (counter used : ℕ) (is : used ≡ used_rows rows) w
     within : row < length rows
     within = omega (arith, used_inside rows is)
 
-    found_bad : not fit ≡ true → Bad row ≡ checked rows counter
+    found_bad : not fit ≡ true → Err row ≡ checked rows counter
     unfolding bad_term
     found_bad e = ap (λ (answer : Option ℕ). checked_by answer rows) (sym (scan_hit (bad_term_row rows counter) rows 0 row passed within (sym bad_used ∙ e)))
 
@@ -201,16 +199,17 @@ module _ (rows : List ℕ) (counter used : ℕ) (is : used ≡ used_rows rows) w
       fits_all : fit ≡ fits rows counter row (get_or rows row 0)
       fits_all = fitting ∙ rw (known.differs row inside) (sym (and-true (shape_fits rows counter row (get_or rows row 0))))
 
-      pub checked_bad : not fit ≡ true → Bad row ≡ checked rows counter
+      pub checked_bad : not fit ≡ true → Err row ≡ checked rows counter
       checked_bad = found_bad row passed (omega (arith, known.inside)) fit fits_all
 
       pub checked_more : not fit ≡ false → Left (bad_term_row rows counter) rows (row + 1)
       checked_more = found_good row passed (omega (arith, known.inside)) fit fits_all
 
-    pub checked_repeated : row ≡ distinct → row < used → Bad row ≡ checked rows counter
+    pub checked_repeated : row ≡ distinct → distinct < used → Err distinct ≡ checked rows counter
     checked_repeated end inside =
         let again : earlier_equal rows row (get_or rows row 0) ≡ true = rw end (known.repeats (omega arith)) in
-        found_bad row passed inside false (rw again (sym (and-false (shape_fits rows counter row (get_or rows row 0))))) refl
+        rw (← end)
+        (found_bad row passed (omega arith) false (rw again (sym (and-false (shape_fits rows counter row (get_or rows row 0))))) refl)
 
   bad_unused : (row word : ℕ) → used ≤ row → bad_term_row rows counter row word ≡ not (eqb word 0)
   unfolding bad_term_row
@@ -220,19 +219,19 @@ module _ (rows : List ℕ) (counter used : ℕ) (is : used ≡ used_rows rows) w
   unfolding lowest_from
   bad_behind row [] h = refl
   bad_behind row (word ∷ rest) h =
-      ap (λ (bad : Bool). elim bad [ true ↦ some row | false ↦ lowest_from (suc row) (bad_term_row rows counter) rest ]) (bad_unused row word h)
-      ∙ ap (λ (later : Option ℕ). elim (not (eqb word 0)) [ true ↦ some row | false ↦ later ]) (bad_behind (suc row) rest (omega arith))
+      ap (λ (bad : Bool). elim bad [ true ↦ Some row | false ↦ lowest_from (suc row) (bad_term_row rows counter) rest ]) (bad_unused row word h)
+      ∙ ap (λ (later : Option ℕ). elim (not (eqb word 0)) [ true ↦ Some row | false ↦ later ]) (bad_behind (suc row) rest (omega arith))
 
   -- and the rows behind them
   module _ (row : ℕ) (passed : Left (bad_term_row rows counter) rows row) (end : row ≡ used)
-      (behind : Place) (says : behind ≡ place_of (nonzero_row rows used)) where
+      (behind : Option ℕ) (says : behind ≡ (nonzero_row rows used)) where
     bad_term_lem : bad_term rows counter ≡ nonzero_row rows used
     unfolding bad_term nonzero_row
     bad_term_lem = rw (← end) (passed ∙ bad_behind row (drop row rows) (omega arith))
 
-    pub checked_behind : (place : ℕ) → behind ≡ At place → Bad place ≡ checked rows counter
+    pub checked_behind : (place : ℕ) → behind ≡ Some place → Err place ≡ checked rows counter
     checked_behind place e = ap (λ (answer : Option ℕ). checked_by answer rows) (sym (bad_term_lem ∙ placed_at (nonzero_row rows used) says e))
 
-    pub checked_good : behind ≡ Nowhere → Used used ≡ checked rows counter
+    pub checked_good : behind ≡ None → Ok used ≡ checked rows counter
     checked_good e =
-        ap Used is ∙ ap (λ (answer : Option ℕ). checked_by answer rows) (sym (bad_term_lem ∙ placed_nowhere (nonzero_row rows used) says e))
+        ap Ok is ∙ ap (λ (answer : Option ℕ). checked_by answer rows) (sym (bad_term_lem ∙ placed_nowhere (nonzero_row rows used) says e))

@@ -5,7 +5,7 @@ ghost use Rattle.std.specs.Prelude.{◌≡◌, ◌&&◌, [], ◌∷◌, ◌≤�
 ghost use Rattle.numbers.specs.Kinds.{shared_key};
 ghost use Rattle.numbers.specs.Limits.{most_term_rows};
 ghost use Rattle.word.specs.Fields.{split};
-ghost use Rattle.word.specs.Lowest.{each, one_of, place_of};
+ghost use Rattle.word.specs.Lowest.{each, one_of};
 ghost use Rattle.terms.specs.Row.{term_widths, tag_of, shape_of, row_at};
 ghost use Rattle.terms.specs.Rules.{used_rows, known_tag, is_packed, number_fits, parts_below, key_kind_fits, shape_fits, nonzero_row, checked};
 
@@ -13,23 +13,20 @@ use chains::distinct_rows;
 use finder::rows_passed;
 use numbers::{TermRow, kinds};
 use terms::{
-    Checked, atom_word, encrypted_word, hashed_word, number, part, row_at, signed_word, tag,
-    tuple_word, used_slots,
+    atom_word, encrypted_word, hashed_word, number, part, row_at, signed_word, tag, tuple_word,
+    used_slots,
 };
-use word::Place;
 
 // The used rows are those before the first zero row.
 pub fn used_rows(rows: &[u64]) -> usize
     ensures { result ≡ used_rows rows.now }
 {
-    let mut i = rows_passed(rows, rows.len(), 0);
-    while i < rows.len() {
-        if rows[i] == 0 {
-            return i;
+    for row in rows_passed(rows, rows.len(), 0)..rows.len() {
+        if rows[row] == 0 {
+            return row;
         }
-        i += 1;
     }
-    i
+    rows.len()
 }
 
 fn known_tag(word: u64) -> bool
@@ -60,7 +57,7 @@ fn is_packed(word: u64) -> bool
         kinds::ENCRYPTION => encrypted_word(part(word, 0), part(word, 1)) == word,
         kinds::SIGNATURE => signed_word(part(word, 0), part(word, 1)) == word,
         kinds::HASH => hashed_word(part(word, 0)) == word,
-        kinds::TUPLE => tuple_word(slots(word), used_slots(word)) == word,
+        kinds::TUPLE => tuple_word(&slots(word)[..used_slots(word)]) == word,
         _ => atom_word(t, number(word)) == word,
     }
 }
@@ -81,14 +78,11 @@ fn number_fits(word: u64, counter: u32) -> bool
 fn parts_below(word: u64, row: usize) -> bool
     ensures { result ≡ parts_below row (shape_of word) }
 {
-    let n = used_slots(word);
-    let mut slot: usize = 0;
-    while slot < n {
+    for slot in 0..used_slots(word) {
         let other = part(word, slot).0 as usize;
         if row <= other {
             return false;
         }
-        slot += 1;
     }
     true
 }
@@ -151,17 +145,14 @@ fn eight_zero(block: &[u64]) -> bool
     requires { length block.now ≡ 8 }
     ensures { result ≡ each (λ word. eqb word 0) block.now }
 {
-    (block[0] == 0)
-        & (block[1] == 0)
-        & (block[2] == 0)
-        & (block[3] == 0)
-        & (block[4] == 0)
-        & (block[5] == 0)
-        & (block[6] == 0)
-        & (block[7] == 0)
+    let mut zero = true;
+    for &row in block {
+        zero = zero & (row == 0);
+    }
+    zero
 }
 
-// How far zero rows reach from a place on, in blocks of eight.
+// How far zero rows reach from a place on. They are passed in blocks of eight, for speed.
 fn zeros_passed(rows: &[u64], from: usize) -> usize
     requires { from ≤ length rows.now }
     ensures { (result ≤ length rows.now) × (nonzero_row rows.now from ≡ nonzero_row rows.now result) }
@@ -177,40 +168,35 @@ fn zeros_passed(rows: &[u64], from: usize) -> usize
     i
 }
 
-fn nonzero_row(rows: &[u64], from: usize) -> Place
+fn nonzero_row(rows: &[u64], from: usize) -> Option<u32>
     requires { (from ≤ length rows.now) × (length rows.now ≤ most_term_rows) }
-    ensures { result ≡ place_of (nonzero_row rows.now from) }
+    ensures { result ≡ nonzero_row rows.now from }
 {
-    let mut i = zeros_passed(rows, from);
-    while i < rows.len() {
-        if rows[i] != 0 {
-            return Place::At(i as u32);
+    for row in zeros_passed(rows, from)..rows.len() {
+        if rows[row] != 0 {
+            return Some(row as u32);
         }
-        i += 1;
     }
-    Place::Nowhere
+    None
 }
 
-// A used row is bad where its shape breaks a rule or, of two equal rows, where it is the later; any other where it is not zero.
-pub fn first_bad_row(rows: &[u64], counter: u32) -> Checked
+// The number of used rows, or the lowest bad row. A used row is bad where its shape breaks a rule or, of two equal rows, where it is the later; any other where it is not zero.
+pub fn first_bad_row(rows: &[u64], counter: u32) -> Result<u32, u32>
     requires { length rows.now ≤ most_term_rows }
     ensures { result ≡ checked rows.now counter }
 {
     let used = used_rows(rows);
     let distinct = distinct_rows(rows, used);
-    let mut row: usize = 0;
-    while row < distinct {
+    for row in 0..distinct {
         if !shape_fits(rows, counter, row) {
-            return Checked::Bad(row as u32);
+            return Err(row as u32);
         }
-        row += 1;
     }
-    if row < used {
-        return Checked::Bad(row as u32);
+    if distinct < used {
+        return Err(distinct as u32);
     }
-    let behind = nonzero_row(rows, used);
-    match behind {
-        Place::At(place) => Checked::Bad(place),
-        Place::Nowhere => Checked::Used(used as u32),
+    match nonzero_row(rows, used) {
+        Some(place) => Err(place),
+        None => Ok(used as u32),
     }
 }

@@ -3,7 +3,7 @@ use Prim.Native.Nat.{ℕ, zero, suc, ◌+◌, ◌<◌, ◌≤◌}
 use mathlib.Core.Path.{◌≡◌, refl, sym, ◌∙◌, ap, subst}
 use mathlib.Core.Logic.{◌↔◌}
 use mathlib.Core.Bool.{Bool, not}
-use mathlib.Core.Option.{Option, none, some}
+use Rattle.std.specs.Prelude.{Option, None, Some}
 use mathlib.Core.List.{List}
 use native.Mathlib.Decide.{dec_lt, ℕ_discrete}
 use native.Mathlib.Omega.{arith}
@@ -14,11 +14,8 @@ use borrow.Author.Tests.{eq-eqb, ne_eqb, lt-ltb, le-ltb}
 use Rattle.word.proofs.TestLaws.{equals}
 use Rattle.word.proofs.LowestLaws.{lowest_none, lowest_some}
 use Rattle.word.proofs.ScanLaws.{placed_at, placed_nowhere}
-use Rattle.word.specs.Lowest.{lowest, place_of}
-use Rattle.word.specs.declared.Place.{Place}
-use Rattle.word.specs.declared.Place.TheVariants as places
-use Rattle.terms.specs.declared.Found.{Found}
-use Rattle.terms.specs.declared.Found.TheVariants.{At, Full}
+use Rattle.word.specs.Lowest.{lowest}
+use Rattle.terms.specs.Finder.{Found}
 use Rattle.terms.specs.Finder.{Located, located, equal_row, locate}
 use Rattle.numbers.specs.Sorts.{as_term_row}
 
@@ -43,11 +40,11 @@ last_of_distinct rows used word row distinct h e =
 
 module _ (rows : List ℕ) (word : ℕ) where
   -- the search looks at the newest row, and then at those before it
-  pub equal_end : equal_row rows 0 word ≡ none
+  pub equal_end : equal_row rows 0 word ≡ None
   unfolding equal_row
   equal_end = refl
 
-  pub equal_here : (row : ℕ) → get_or rows row 0 ≡ word → equal_row rows (suc row) word ≡ some row
+  pub equal_here : (row : ℕ) → get_or rows row 0 ≡ word → equal_row rows (suc row) word ≡ Some row
   unfolding equal_row
   equal_here row e = rw (eq-eqb (get_or rows row 0) word e, equal_row)
 
@@ -56,18 +53,18 @@ module _ (rows : List ℕ) (word : ℕ) where
   equal_lower row other = rw (ne_eqb (get_or rows row 0) word other, equal_row)
 
   abbrev Says : ℕ → Option ℕ → Type 0
-  Says used (some row) = Last rows used word row
-  Says used none = Absent rows used word
+  Says used (Some row) = Last rows used word row
+  Says used None = Absent rows used word
 
   -- one row more, which does not equal the term
   says_more : (used : ℕ) → (get_or rows used 0 ≡ word → ⊥) → (o : Option ℕ) → Says used o → Says (suc used) o
-  says_more used other (some row) s =
+  says_more used other (Some row) s =
       record { within = omega (arith, s.within); equals = s.equals; after = λ later l k e. go later l e (dec_lt later used) k }
     where
       go : (later : ℕ) → row < later → get_or rows later 0 ≡ word → Dec (later < used) → later < suc used → ⊥
       go later l e (yes h) k = s.after later l h e
       go later l e (no h) k = let newest : later ≡ used = omega arith in other (rw newest at e)
-  says_more used other none s = λ row l e. go row e (dec_lt row used) l
+  says_more used other None s = λ row l e. go row e (dec_lt row used) l
     where
       go : (row : ℕ) → get_or rows row 0 ≡ word → Dec (row < used) → row < suc used → ⊥
       go row e (yes h) k = s row h e
@@ -82,22 +79,22 @@ module _ (rows : List ℕ) (word : ℕ) where
       go (no other) before = rw (equal_lower used other) (says_more used other (equal_row rows used word) before)
 
 module _ (rows : List ℕ) (used word : ℕ) (fits : used ≤ length rows) where
-  pub equal_last : (row : ℕ) → (equal_row rows used word ≡ some row) ↔ Last rows used word row
+  pub equal_last : (row : ℕ) → (equal_row rows used word ≡ Some row) ↔ Last rows used word row
   equal_last row = (λ e. rw e at (says rows word used), λ last. go last (equal_row rows used word) (says rows word used))
     where
-      go : Last rows used word row → (o : Option ℕ) → Says rows word used o → o ≡ some row
-      go last none s = absurd (s row last.within last.equals)
-      go last (some other) s =
+      go : Last rows used word row → (o : Option ℕ) → Says rows word used o → o ≡ Some row
+      go last None s = absurd (s row last.within last.equals)
+      go last (Some other) s =
           let not_before : ¬ (other < row) = λ l. s.after row l last.within last.equals in
           let not_after : ¬ (row < other) = λ l. last.after other l s.within s.equals in
-          ap some (omega arith)
+          ap Some (omega arith)
 
-  pub equal_absent : (equal_row rows used word ≡ none) ↔ Absent rows used word
+  pub equal_absent : (equal_row rows used word ≡ None) ↔ Absent rows used word
   equal_absent = (λ e. rw e at (says rows word used), λ absent. go absent (equal_row rows used word) (says rows word used))
     where
-      go : Absent rows used word → (o : Option ℕ) → Says rows word used o → o ≡ none
-      go absent none s = refl
-      go absent (some row) s = absurd (absent row s.within s.equals)
+      go : Absent rows used word → (o : Option ℕ) → Says rows word used o → o ≡ None
+      go absent None s = refl
+      go absent (Some row) s = absurd (absent row s.within s.equals)
 
   length_used : length (take used rows) ≡ used
   length_used = length-take-le used rows fits
@@ -117,8 +114,8 @@ module _ (rows : List ℕ) (used word : ℕ) (fits : used ≤ length rows) where
   either_end distinct = go (equal_row rows used word) (says rows word used)
     where
       go : (o : Option ℕ) → Says rows word used o → o ≡ lowest same (take used rows)
-      go none absent = sym ((lowest_none same 0 (take used rows)).1 λ row l. let inside : row < used = omega (arith, length_used) in elsewhere row inside (absent row inside))
-      go (some row) last =
+      go None absent = sym ((lowest_none same 0 (take used rows)).1 λ row l. let inside : row < used = omega (arith, length_used) in elsewhere row inside (absent row inside))
+      go (Some row) last =
           let inside : row < used = last.within in
           sym ((lowest_some same 0 (take used rows) row).1 (record {
             inside = omega (arith, length_used);
@@ -128,47 +125,47 @@ module _ (rows : List ℕ) (used word : ℕ) (fits : used ≤ length rows) where
 
 -- the cases of `locate`
 module _ (rows : List ℕ) (used word : ℕ) where
-  pub locate_there : (row : ℕ) → equal_row rows used word ≡ some row → locate rows used word ≡ located (At (as_term_row row) used) rows
+  pub locate_there : (row : ℕ) → equal_row rows used word ≡ Some row → locate rows used word ≡ located (Some (as_term_row row, used)) rows
   unfolding locate
   locate_there row e = rw e
 
-  pub locate_new : equal_row rows used word ≡ none → used < length rows
-      → locate rows used word ≡ located (At (as_term_row used) (used + 1)) (set rows used word)
+  pub locate_new : equal_row rows used word ≡ None → used < length rows
+      → locate rows used word ≡ located (Some (as_term_row used, (used + 1))) (set rows used word)
   unfolding locate
   locate_new e h = rw (e, lt-ltb used (length rows) h)
 
-  pub locate_full : equal_row rows used word ≡ none → length rows ≤ used → locate rows used word ≡ located Full rows
+  pub locate_full : equal_row rows used word ≡ None → length rows ≤ used → locate rows used word ≡ located None rows
   unfolding locate
   locate_full e h = rw (e, le-ltb used (length rows) h)
 
 -- what holds of each answer that there can be holds of the finder's
 module _ (rows : List ℕ) (used word : ℕ) (fits : used ≤ length rows) (P : Located → Type 0)
-    (present : (row : ℕ) → row < used → get_or rows row 0 ≡ word → P (located (At (as_term_row row) used) rows))
-    (added : Absent rows used word → used < length rows → P (located (At (as_term_row used) (used + 1)) (set rows used word)))
-    (full : Absent rows used word → length rows ≤ used → P (located Full rows)) where
+    (present : (row : ℕ) → row < used → get_or rows row 0 ≡ word → P (located (Some (as_term_row row, used)) rows))
+    (added : Absent rows used word → used < length rows → P (located (Some (as_term_row used, (used + 1))) (set rows used word)))
+    (full : Absent rows used word → length rows ≤ used → P (located None rows)) where
   pub located_as : P (locate rows used word)
   located_as = go (equal_row rows used word) refl (dec_lt used (length rows))
     where
       go : (answer : Option ℕ) → equal_row rows used word ≡ answer → Dec (used < length rows) → P (locate rows used word)
-      go (some row) e room =
+      go (Some row) e room =
           let last = (equal_last rows used word fits row).0 e in
           rw (locate_there rows used word row e) (present row last.within last.equals)
-      go none e (yes h) = rw (locate_new rows used word e h) (added ((equal_absent rows used word fits).0 e) h)
-      go none e (no h) = rw (locate_full rows used word e (omega arith)) (full ((equal_absent rows used word fits).0 e) (omega arith))
+      go None e (yes h) = rw (locate_new rows used word e h) (added ((equal_absent rows used word fits).0 e) h)
+      go None e (no h) = rw (locate_full rows used word e (omega arith)) (full ((equal_absent rows used word fits).0 e) (omega arith))
 
 -- the same as the code meets them, after its search
-module _ (rows : List ℕ) (used word : ℕ) (place : Place) (is : place ≡ place_of (equal_row rows used word)) where
-  pub find_there : (row : ℕ) → place ≡ places.At row → located (At (as_term_row row) used) rows ≡ locate rows used word
+module _ (rows : List ℕ) (used word : ℕ) (place : Option ℕ) (is : place ≡ (equal_row rows used word)) where
+  pub find_there : (row : ℕ) → place ≡ Some row → located (Some (as_term_row row, used)) rows ≡ locate rows used word
   find_there row e = sym (locate_there rows used word row (placed_at _ is e))
 
-  pub find_new : place ≡ places.Nowhere → used < length rows
-      → located (At (as_term_row used) (used + 1)) (set rows used word) ≡ locate rows used word
+  pub find_new : place ≡ None → used < length rows
+      → located (Some (as_term_row used, (used + 1))) (set rows used word) ≡ locate rows used word
   find_new e h = sym (locate_new rows used word (placed_nowhere _ is e) h)
 
-  pub find_full : place ≡ places.Nowhere → length rows ≤ used → located Full rows ≡ locate rows used word
+  pub find_full : place ≡ None → length rows ≤ used → located None rows ≡ locate rows used word
   find_full e h = sym (locate_full rows used word (placed_nowhere _ is e) h)
 
-  pub find_below : used ≤ length rows → (row : ℕ) → place ≡ places.At row → row < used
+  pub find_below : used ≤ length rows → (row : ℕ) → place ≡ Some row → row < used
   find_below fits row e = ((equal_last rows used word fits row).0 (placed_at _ is e)).within
 
 pub ruleset find-ways = (find_there, find_new, find_full)
@@ -200,14 +197,14 @@ module _ (rows : List ℕ) (used word : ℕ) (fits : used ≤ length rows)
       let q = says ∙ e in
       (ap (λ (l : Located). l.found) q, subst P (ap (λ (l : Located). l.rows) (sym q)) p)
 
-  pub takes_equal_row : (row : ℕ) → Last rows used word row → (found ≡ At (as_term_row row) used) × Kept rows after
+  pub takes_equal_row : (row : ℕ) → Last rows used word row → (found ≡ Some (as_term_row row, used)) × Kept rows after
   takes_equal_row row last =
       parts _ rows (Kept rows) (locate_there rows used word row ((equal_last rows used word fits row).1 last)) (kept rows)
 
-  pub takes_unused_row : Absent rows used word → used < length rows → (found ≡ At (as_term_row used) (used + 1)) × Wrote rows used word after
+  pub takes_unused_row : Absent rows used word → used < length rows → (found ≡ Some (as_term_row used, (used + 1))) × Wrote rows used word after
   takes_unused_row absent h =
       parts _ (set rows used word) (Wrote rows used word) (locate_new rows used word ((equal_absent rows used word fits).1 absent) h)
       (wrote rows used word h)
 
-  pub takes_no_row : Absent rows used word → length rows ≤ used → (found ≡ Full) × Kept rows after
+  pub takes_no_row : Absent rows used word → length rows ≤ used → (found ≡ None) × Kept rows after
   takes_no_row absent h = parts _ rows (Kept rows) (locate_full rows used word ((equal_absent rows used word fits).1 absent) h) (kept rows)

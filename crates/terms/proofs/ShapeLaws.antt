@@ -1,11 +1,12 @@
 -- The shape of a row by its tag.
-use Prim.Native.Nat.{ℕ, zero, suc, ◌+◌, ◌<◌, ◌≤◌}
+use Prim.Native.Nat.{ℕ, zero, suc, ◌+◌, ◌<◌, ◌≤◌, min}
 use mathlib.Core.Path.{◌≡◌, refl, sym, ◌∙◌, ap}
 use mathlib.Core.List.{List, [], ◌∷◌}
 use native.Mathlib.Decide.{ℕ_discrete}
 use native.Mathlib.Omega.{arith}
 use lib.ListN.{length, get_or, take, drop}
-use lib.Seq.{get_or-take, get_or-drop, length-take-le, take_all}
+use Rattle.std.proofs.lemmas.List.{length-take}
+use lib.Seq.{get_or-take, get_or-drop}
 use borrow.Author.Tests.{ne_eqb}
 use Rattle.word.specs.Fields.{split, at}
 use Rattle.terms.specs.Shape.{Shape, atom, encrypted, signed, hashed, tupled, parts_of}
@@ -88,22 +89,18 @@ module _ (word : ℕ) where
 
 -- how many slots a row uses, by its tag
 module _ (word tag : ℕ) (is : tag ≡ tag_of word) where
-  pub slots_encrypted : tag ≡ 7 → 2 ≡ length (parts_of (shape_of word))
-  slots_encrypted e = rw (shape_encrypted word (sym is ∙ e))
-
-  pub slots_signed : tag ≡ 8 → 2 ≡ length (parts_of (shape_of word))
-  slots_signed e = rw (shape_signed word (sym is ∙ e))
+  pub slots_keyed : 7 ≤ tag → tag < 9 → 2 ≡ length (parts_of (shape_of word))
+  slots_keyed low high =
+      by_tag word (λ (shape : Shape ℕ). 2 ≡ length (parts_of shape)) (λ e. refl) (λ e. refl) (λ e. absurd (omega arith)) (λ e. absurd (omega arith))
+      (λ plain. absurd (plain (omega arith) (omega arith)))
 
   pub slots_hashed : tag ≡ 9 → 1 ≡ length (parts_of (shape_of word))
   slots_hashed e = rw (shape_hashed word (sym is ∙ e))
 
-  pub slots_tupled : (n : ℕ) → tag ≡ 10 → n ≡ field 1 word → n < 4 → n ≡ length (parts_of (shape_of word))
-  slots_tupled n e count h = rw (shape_tupled word (sym is ∙ e), ← count, length-take-le n (slots_of word) (omega arith))
+  pub slots_tupled : (n count : ℕ) → tag ≡ 10 → count ≡ field 1 word → n ≡ min 4 count → n ≡ length (parts_of (shape_of word))
+  slots_tupled n count e c h = rw (shape_tupled word (sym is ∙ e), length-take, ← c) (omega arith)
 
-  pub slots_full : (n : ℕ) → tag ≡ 10 → n ≡ field 1 word → 4 ≤ n → 4 ≡ length (parts_of (shape_of word))
-  slots_full n e count h = rw (shape_tupled word (sym is ∙ e), ← count, take_all n (slots_of word) h)
+  pub slots_atom : Plain tag → 0 ≡ length (parts_of (shape_of word))
+  slots_atom plain = rw (shape_atom word (λ low high. plain (omega arith) (omega arith)))
 
-  pub slots_atom : (tag ≡ 7 → ⊥) → (tag ≡ 8 → ⊥) → (tag ≡ 9 → ⊥) → (tag ≡ 10 → ⊥) → 0 ≡ length (parts_of (shape_of word))
-  slots_atom a b c d = rw (shape_atom word (λ low high. omega arith))
-
-pub ruleset slots-ways = (slots_encrypted, slots_signed, slots_hashed, slots_tupled, slots_full, slots_atom, arith)
+pub ruleset slots-ways = (slots_hashed, slots_tupled, arith)

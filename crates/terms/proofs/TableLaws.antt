@@ -3,7 +3,7 @@ use mathlib.Core.Path.{◌≡◌, refl, sym, ◌∙◌, ap}
 use mathlib.Core.Logic.Iff
 use mathlib.Core.Logic.{◌↔◌, ◌≢◌}
 use mathlib.Core.Bool.{Bool, true, false, cond, not}
-use mathlib.Core.Option.{none, some}
+use Rattle.std.specs.Prelude.{None, Some}
 use mathlib.Core.List.{List, [], ◌∷◌}
 use Prim.Native.Nat.{ℕ, zero, suc, ◌<◌, ◌≤◌}
 use native.Mathlib.Omega.{arith}
@@ -103,7 +103,7 @@ sound_at : (rows : List ℕ) (counter row : ℕ) → row < length rows → T (no
 sound_at rows counter row inside = sound_row rows counter row (get_or rows row 0) (omega arith)
 
 -- 2 is given exactly where the table is not valid
-pub valid_table : (rows : List ℕ) (counter : ℕ) → (bad_term rows counter ≡ none) ↔ ValidTable rows counter
+pub valid_table : (rows : List ℕ) (counter : ℕ) → (bad_term rows counter ≡ None) ↔ ValidTable rows counter
 unfolding bad_term
 valid_table rows counter =
     Iff.trans (none_bad (bad_term_row rows counter) (λ row. Sound rows counter row (get_or rows row 0)) rows 0 (sound_at rows counter)) (
@@ -116,7 +116,7 @@ valid_table rows counter =
     sound h row (no outside) = (λ l. absurd (omega (arith, (used_rows_lem rows).inside)), λ l. get_or-eq_default rows 0 (omega arith))
 
 -- 2, exactly: the lowest row that breaks a rule
-pub bad_term_at : (rows : List ℕ) (counter row : ℕ) → (bad_term rows counter ≡ some row) ↔ LowestBad (λ row. Sound rows counter row (get_or rows row 0)) (length rows) row
+pub bad_term_at : (rows : List ℕ) (counter row : ℕ) → (bad_term rows counter ≡ Some row) ↔ LowestBad (λ row. Sound rows counter row (get_or rows row 0)) (length rows) row
 unfolding bad_term
 bad_term_at rows counter = lowest_bad (bad_term_row rows counter) (λ row. Sound rows counter row (get_or rows row 0)) rows 0 (sound_at rows counter)
 

@@ -1,12 +1,11 @@
 -- The rules of a term table: refusal 2.
+use Rattle.std.specs.Prelude.{Result, Ok, Err}
 use Rattle.std.specs.Prelude.{ℕ, zero, suc, Bool, true, false, cond, not, ◌&&◌, List, [], ◌∷◌, take, drop, eqb, leb, ltb}
-use Rattle.std.proofs.Math.Option.{Option, none, some}
+use Rattle.std.specs.Prelude.{Option, None, Some}
 use Rattle.numbers.specs.Kinds.{byte_kind, agent_kind, public_key, private_key, shared_key, tuple_kind}
 use Rattle.word.specs.Lowest.{lowest_from, lowest, each, one_of}
 use Rattle.terms.specs.Shape.{Shape, atom, encrypted, signed, hashed, tupled, parts_of}
 use Rattle.terms.specs.Row.{row_of, tag_of, shape_of, row_at}
-use Rattle.terms.specs.declared.Checked.{Checked}
-use Rattle.terms.specs.declared.Checked.TheVariants.{Bad, Used}
 
 -- the used rows are those before the first zero row
 unfoldable pub used_rows : List ℕ → ℕ
@@ -66,9 +65,9 @@ unfoldable pub bad_term : List ℕ → ℕ → Option ℕ
 bad_term rows counter = lowest (bad_term_row rows counter) rows
 
 -- the answer of the check
-abbrev pub checked_by : Option ℕ → List ℕ → Checked
-checked_by (some row) rows = Bad row
-checked_by none rows = Used (used_rows rows)
+abbrev pub checked_by : Option ℕ → List ℕ → Result ℕ ℕ
+checked_by (Some row) rows = Err row
+checked_by None rows = Ok (used_rows rows)
 
-abbrev pub checked : List ℕ → ℕ → Checked
+abbrev pub checked : List ℕ → ℕ → Result ℕ ℕ
 checked rows counter = checked_by (bad_term rows counter) rows

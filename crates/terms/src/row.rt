@@ -1,5 +1,5 @@
 // A term row's fields, and the words of shapes.
-ghost use Rattle.std.specs.Prelude.{◌≡◌, ◌+◌, ◌<◌, ◌≤◌, length, take};
+ghost use Rattle.std.specs.Prelude.{◌≡◌, ◌+◌, ◌<◌, ◌≤◌, length};
 ghost use Rattle.word.specs.Fields.{split, at};
 ghost use Rattle.numbers.specs.Limits.{most_parts};
 ghost use Rattle.terms.specs.Shape.{atom, encrypted, signed, hashed, tupled, parts_of};
@@ -47,13 +47,9 @@ pub fn used_slots(word: u64) -> usize
 {
     let t = tag(word);
     match t {
-        kinds::ENCRYPTION => 2,
-        kinds::SIGNATURE => 2,
+        kinds::ENCRYPTION | kinds::SIGNATURE => 2,
         kinds::HASH => 1,
-        kinds::TUPLE => {
-            let n = part_count(word) as usize;
-            if n < MOST_PARTS { n } else { MOST_PARTS }
-        }
+        kinds::TUPLE => MOST_PARTS.min(part_count(word) as usize),
         _ => 0,
     }
 }
@@ -83,21 +79,24 @@ pub fn hashed_word(body: TermRow) -> u64
     ((kinds::HASH as u64) << 60) + ((body.0 as u64) << 36)
 }
 
-// A part of the first n, and zero past them.
-fn named_part(parts: [u16; 4], n: usize, slot: usize) -> u64
-    requires { slot < most_parts }
-    ensures { (result ≡ at slot (take n parts)) × (result < 65536) }
+// A part, and zero past the parts.
+fn named_part(parts: &[u16], slot: usize) -> u64
+    ensures { (result ≡ at slot parts.now) × (result < 65536) }
 {
-    if slot < n { parts[slot] as u64 } else { 0 }
+    if slot < parts.len() {
+        parts[slot] as u64
+    } else {
+        0
+    }
 }
 
-pub fn tuple_word(parts: [u16; 4], n: usize) -> u64
-    requires { n ≤ most_parts }
-    ensures { result ≡ row_of (tupled (take n parts)) }
+pub fn tuple_word(parts: &[u16]) -> u64
+    requires { length parts.now ≤ most_parts }
+    ensures { result ≡ row_of (tupled parts.now) }
 {
-    let first = named_part(parts, n, 0) << 36;
-    let second = named_part(parts, n, 1) << 24;
-    let third = named_part(parts, n, 2) << 12;
-    let fourth = named_part(parts, n, 3);
-    ((kinds::TUPLE as u64) << 60) + ((n as u64) << 56) + first + second + third + fourth
+    let first = named_part(parts, 0) << 36;
+    let second = named_part(parts, 1) << 24;
+    let third = named_part(parts, 2) << 12;
+    let fourth = named_part(parts, 3);
+    ((kinds::TUPLE as u64) << 60) + ((parts.len() as u64) << 56) + first + second + third + fourth
 }

@@ -72,11 +72,12 @@ spaced_length k [] few = omega arith
 spaced_length k (n ∷ []) few = omega arith
 spaced_length k (n ∷ m ∷ rest) few = simp length-append (omega (arith, few.0, spaced_length k (m ∷ rest) few.1))
 
--- the first few of any numbers
+-- any numbers, and the first few of them
+pub spaced_all : (numbers : List ℕ) → length (spaced numbers) ≤ 21 * length numbers
+spaced_all numbers = spaced_length 20 numbers (at_all _ numbers 0 λ i l. decimal_most (get_or numbers i 0))
+
 pub spaced_most : (numbers : List ℕ) (count : ℕ) → length (spaced (take count numbers)) ≤ 21 * count
-spaced_most numbers count =
-    let few = take count numbers in
-    omega (arith, length-take count numbers, spaced_length 20 few (at_all _ few 0 λ i l. decimal_most (get_or few i 0)))
+spaced_most numbers count = omega (arith, length-take count numbers, spaced_all (take count numbers))
 
 module _ (k : ℕ) (numbers : List ℕ) (below : All (λ n. n < 10 ^ suc k) numbers) where
   pub line_below : length (line numbers) ≤ suc (suc k) * length numbers + 1
@@ -92,4 +93,4 @@ module _ (k : ℕ) (numbers : List ℕ) (below : All (λ n. n < 10 ^ suc k) numb
 pub word_line_most : (word numbers : List ℕ) → length (word_line word numbers) ≤ length word + 21 * length numbers + 2
 unfolding line word_line
 word_line_most word numbers =
-    simp length-append (omega (arith, spaced_length 20 numbers (at_all _ numbers 0 λ i l. decimal_most (get_or numbers i 0))))
+    simp length-append (omega (arith, spaced_all numbers))

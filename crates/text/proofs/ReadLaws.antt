@@ -3,7 +3,7 @@ use Prim.Native.Nat.{ℕ, zero, suc, ◌+◌, ◌*◌, ◌-◌, ◌/◌, ◌%◌
 use mathlib.Core.Path.{◌≡◌, refl, sym, ◌∙◌, ap}
 use mathlib.Core.Logic.{◌⊎◌, inl, inr}
 use mathlib.Core.Bool.{Bool, true, false, not, ◌&&◌}
-use mathlib.Core.Option.{Option, none, some}
+use Rattle.std.specs.Prelude.{Option, None, Some}
 use mathlib.Core.List.{List, [], ◌∷◌, ◌++◌, append_assoc}
 use native.Mathlib.Omega.{arith}
 use borrow.Author.Tests.{le-leb, ne_eqb, eq-eqb, leb-true, eqb-true, eqb-false}
@@ -58,7 +58,7 @@ module _ (most end : ℕ) (ends : is_digit end ≡ false) where
           rw (more_digits (suc (suc k)) n (λ e. omega arith) large, fewer, append_assoc)
           (high (omega arith) (omega arith) ∙ digit_on (n / 10) (n % 10) rest (omega arith) (omega arith) (omega arith) ∙ rw worth)
 
-  pub number_printed : (n : ℕ) (rest : List ℕ) → n ≤ most → n < 10 ^ 20 → read_number most end (decimal n ++ (end ∷ rest)) ≡ some (front n rest)
+  pub number_printed : (n : ℕ) (rest : List ℕ) → n ≤ most → n < 10 ^ 20 → read_number most end (decimal n ++ (end ∷ rest)) ≡ Some (front n rest)
   unfolding decimal digits_on
   number_printed n rest fits below = digits_read 19 n (end ∷ rest) below fits ∙ rw (le-leb n most fits, eq-eqb end end refl, digits_on)
 
@@ -91,21 +91,21 @@ pub record Spelled (most end least : ℕ) (text : List ℕ) (number : TextFront 
   pub reaches : least ≤ number.value
 
 module _ (most end : ℕ) (below : most < 10 ^ 20) where
-  digits_went_on : (rest : List ℕ) (value : ℕ) {number : TextFront ℕ} → digits_on most end value rest ≡ some number → Spelled most end value (decimal value ++ rest) number
+  digits_went_on : (rest : List ℕ) (value : ℕ) {number : TextFront ℕ} → digits_on most end value rest ≡ Some number → Spelled most end value (decimal value ++ rest) number
   unfolding digits_on
   digits_went_on [] value e = let clash : ◌≡◌ {A = ℕ} 0 1 = cc in absurd (omega arith)
   digits_went_on (byte ∷ rest) value {number} e =
       go (leb value most) (eqb byte end) (is_digit byte) (eqb value 0) refl refl refl refl (λ f. digits_went_on rest (value * 10 + (byte - 48)) {number = number} f) e
     where
       go : (fits ended goes none_left : Bool) → leb value most ≡ fits → eqb byte end ≡ ended → is_digit byte ≡ goes → eqb value 0 ≡ none_left
-          → (digits_on most end (value * 10 + (byte - 48)) rest ≡ some number → Spelled most end (value * 10 + (byte - 48)) (decimal (value * 10 + (byte - 48)) ++ rest) number)
+          → (digits_on most end (value * 10 + (byte - 48)) rest ≡ Some number → Spelled most end (value * 10 + (byte - 48)) (decimal (value * 10 + (byte - 48)) ++ rest) number)
           → elim fits as (λ _. Option (TextFront ℕ)) [
             | true ↦ elim ended [
-              | true ↦ some (front value rest)
-              | false ↦ elim (goes && not none_left) [ true ↦ digits_on most end (value * 10 + (byte - 48)) rest | false ↦ none ]
+              | true ↦ Some (front value rest)
+              | false ↦ elim (goes && not none_left) [ true ↦ digits_on most end (value * 10 + (byte - 48)) rest | false ↦ None ]
             ]
-            | false ↦ none
-          ] ≡ some number
+            | false ↦ None
+          ] ≡ Some number
           → Spelled most end value (decimal value ++ (byte ∷ rest)) number
       go true true goes none_left fits ended is zeroes more e =
           let same : front value rest ≡ number = cc in
@@ -122,12 +122,12 @@ module _ (most end : ℕ) (below : most < 10 ^ 20) where
       go true false false none_left fits ended is zeroes more e = let clash : ◌≡◌ {A = ℕ} 0 1 = cc in absurd (omega arith)
       go false ended goes none_left fits e is zeroes more f = let clash : ◌≡◌ {A = ℕ} 0 1 = cc in absurd (omega arith)
 
-  pub number_read : (text : List ℕ) {number : TextFront ℕ} → read_number most end text ≡ some number → Spelled most end 0 text number
+  pub number_read : (text : List ℕ) {number : TextFront ℕ} → read_number most end text ≡ Some number → Spelled most end 0 text number
   unfolding read_number decimal
   number_read [] e = let clash : ◌≡◌ {A = ℕ} 0 1 = cc in absurd (omega arith)
   number_read (byte ∷ rest) {number} e = go (is_digit byte) refl e
     where
-      go : (is : Bool) → is_digit byte ≡ is → elim is as (λ _. Option (TextFront ℕ)) [ true ↦ digits_on most end (byte - 48) rest | false ↦ none ] ≡ some number → Spelled most end 0 (byte ∷ rest) number
+      go : (is : Bool) → is_digit byte ≡ is → elim is as (λ _. Option (TextFront ℕ)) [ true ↦ digits_on most end (byte - 48) rest | false ↦ None ] ≡ Some number → Spelled most end 0 (byte ∷ rest) number
       go true is e =
           let bounds = digit_bounds byte is in
           let told = digits_went_on rest (byte - 48) e in

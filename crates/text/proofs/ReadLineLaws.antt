@@ -2,7 +2,8 @@
 use Prim.Native.Nat.{ℕ, zero, suc, ◌/◌, ◌%◌, ◌^◌, ◌<◌, ◌≤◌}
 use mathlib.Core.Path.{◌≡◌, refl, sym, ◌∙◌, ap}
 use mathlib.Core.Bool.{Bool, true, false}
-use mathlib.Core.Option.{Option, none, some, map}
+use Rattle.std.specs.Prelude.{Option, None, Some}
+use Rattle.std.specs.Option.{option_map}
 use mathlib.Core.List.{List, [], ◌∷◌, ◌++◌, append_assoc}
 use native.Mathlib.Omega.{arith}
 use borrow.Author.Tests.{ne_eqb}
@@ -33,7 +34,7 @@ line_more n m numbers rest = simp append_assoc
 
 -- what is printed is read
 pub line_printed : (most n : ℕ) (more numbers rest : List ℕ) → Short (most ∷ more) → Within (n ∷ numbers) (most ∷ more)
-    → read_line (most ∷ more) (line (n ∷ numbers) ++ rest) ≡ some (front (n ∷ numbers) rest)
+    → read_line (most ∷ more) (line (n ∷ numbers) ++ rest) ≡ Some (front (n ∷ numbers) rest)
 unfolding read_line
 line_printed most n [] [] rest short within =
     rw (line_one n rest, number_printed most line_feed refl n rest within.0 (omega (arith, short.0, within.0)))
@@ -51,21 +52,21 @@ pub record Printed (limits text : List ℕ) (read : TextFront (List ℕ)) : Type
   pub bytes : text ≡ line read.value ++ read.rest
   pub within : Within read.value limits
 
-then_read : (first : Option (TextFront ℕ)) (others : List ℕ → Option (TextFront (List ℕ))) {read : TextFront (List ℕ)} → number_then first others ≡ some read
-    → (number : TextFront ℕ) × (first ≡ some number) × ((line : TextFront (List ℕ)) × (others number.rest ≡ some line) × (read ≡ front (number.value ∷ line.value) line.rest))
-then_read none others e = let clash : ◌≡◌ {A = ℕ} 0 1 = cc in absurd (omega arith)
-then_read (some number) others {read} e = go (others number.rest) refl e
+then_read : (first : Option (TextFront ℕ)) (others : List ℕ → Option (TextFront (List ℕ))) {read : TextFront (List ℕ)} → number_then first others ≡ Some read
+    → (number : TextFront ℕ) × (first ≡ Some number) × ((line : TextFront (List ℕ)) × (others number.rest ≡ Some line) × (read ≡ front (number.value ∷ line.value) line.rest))
+then_read None others e = let clash : ◌≡◌ {A = ℕ} 0 1 = cc in absurd (omega arith)
+then_read (Some number) others {read} e = go (others number.rest) refl e
   where
-    go : (line : Option (TextFront (List ℕ))) → others number.rest ≡ line → map (λ line. front (number.value ∷ line.value) line.rest) line ≡ some read
-        → (first : TextFront ℕ) × (some number ≡ some first) × ((line : TextFront (List ℕ)) × (others first.rest ≡ some line) × (read ≡ front (first.value ∷ line.value) line.rest))
-    go none is e = let clash : ◌≡◌ {A = ℕ} 0 1 = cc in absurd (omega arith)
-    go (some line) is e = (number, refl, (line, is, cc))
+    go : (line : Option (TextFront (List ℕ))) → others number.rest ≡ line → option_map (λ line. front (number.value ∷ line.value) line.rest) line ≡ Some read
+        → (first : TextFront ℕ) × (Some number ≡ Some first) × ((line : TextFront (List ℕ)) × (others first.rest ≡ Some line) × (read ≡ front (first.value ∷ line.value) line.rest))
+    go None is e = let clash : ◌≡◌ {A = ℕ} 0 1 = cc in absurd (omega arith)
+    go (Some line) is e = (number, refl, (line, is, cc))
 
-pub line_read : (limits text : List ℕ) {read : TextFront (List ℕ)} → Short limits → read_line limits text ≡ some read → Printed limits text read
+pub line_read : (limits text : List ℕ) {read : TextFront (List ℕ)} → Short limits → read_line limits text ≡ Some read → Printed limits text read
 unfolding read_line
 line_read [] text short e = let clash : ◌≡◌ {A = ℕ} 0 1 = cc in absurd (omega arith)
 line_read (most ∷ []) text {read} short e =
-    let parts = then_read (read_number most line_feed text) (λ rest. some (front [] rest)) e in
+    let parts = then_read (read_number most line_feed text) (λ rest. Some (front [] rest)) e in
     let number = parts.0 in
     let told = number_read most line_feed short.0 text parts.1 in
     let end : front [] number.rest ≡ parts.2.0 = cc parts.2.1 in

@@ -3,13 +3,11 @@
 
 pub mod reading;
 
-ghost use Rattle.std.specs.Prelude.{◌+◌, ◌≤◌, [], ◌∷◌, length, take};
+ghost use Rattle.std.specs.Prelude.{◌+◌, ◌≤◌, [], ◌∷◌, length};
 ghost use Rattle.text.specs.Lines.{digits, decimal, gap, spaced, line, word_line};
 ghost use Rattle.text.specs.Written.{Wrote};
 
-// The byte of the digit 0; a number of 64 bits has at most so many digits.
-const DIGIT_ZERO: u32 = 48;
-
+// A number of 64 bits has at most so many digits.
 const MOST_DIGITS: usize = 20;
 
 // One byte, where there is room for it.
@@ -33,10 +31,10 @@ fn put_digits(out: &mut [u8], at: usize, n: u32, most: usize) -> usize
         return at;
     }
     if n < 10 {
-        return put_byte(out, at, (DIGIT_ZERO + n) as u8);
+        return put_byte(out, at, b'0' + n as u8);
     }
     let next = put_digits(out, at, n / 10, most - 1);
-    put_byte(out, next, (DIGIT_ZERO + n % 10) as u8)
+    put_byte(out, next, b'0' + (n % 10) as u8)
 }
 
 // A number without leading zeros.
@@ -53,8 +51,8 @@ pub fn put_bytes(out: &mut [u8], at: usize, bytes: &[u8]) -> usize
     ensures { Wrote bytes.now out.old at out.new result }
 {
     let mut next = at;
-    for place in 0..bytes.len() {
-        next = put_byte(out, next, bytes[place]);
+    for &byte in bytes {
+        next = put_byte(out, next, byte);
     }
     next
 }
@@ -70,40 +68,34 @@ fn put_gap(out: &mut [u8], at: usize, place: usize) -> usize
     put_byte(out, at, b' ')
 }
 
-// The first few of the numbers, one space between.
-fn put_spaced(out: &mut [u8], at: usize, numbers: [u32; 6], count: usize) -> usize
-    requires { (at ≤ 65200) × (count ≤ 6) }
-    ensures { Wrote (spaced (take count numbers)) out.old at out.new result }
+// The numbers, one space between.
+fn put_spaced(out: &mut [u8], at: usize, numbers: &[u32]) -> usize
+    requires { (at ≤ 65200) × (length numbers.now ≤ 6) }
+    ensures { Wrote (spaced numbers.now) out.old at out.new result }
 {
     let mut next = at;
-    for place in 0..count {
+    for (place, &number) in numbers.iter().enumerate() {
         let there = put_gap(out, next, place);
-        next = put_decimal(out, there, numbers[place]);
+        next = put_decimal(out, there, number);
     }
     next
 }
 
-// A line of the first few of the numbers.
-pub fn put_line(out: &mut [u8], at: usize, numbers: [u32; 6], count: usize) -> usize
-    requires { (at ≤ 65200) × (count ≤ 6) }
-    ensures { Wrote (line (take count numbers)) out.old at out.new result }
+// A line of numbers.
+pub fn put_line(out: &mut [u8], at: usize, numbers: &[u32]) -> usize
+    requires { (at ≤ 65200) × (length numbers.now ≤ 6) }
+    ensures { Wrote (line numbers.now) out.old at out.new result }
 {
-    let next = put_spaced(out, at, numbers, count);
+    let next = put_spaced(out, at, numbers);
     put_byte(out, next, b'\n')
 }
 
 // A line that begins with a word.
-pub fn put_word_line(
-    out: &mut [u8],
-    at: usize,
-    word: &[u8],
-    numbers: [u32; 6],
-    count: usize,
-) -> usize
-    requires { (at + length word.now ≤ 65000) × (count ≤ 6) }
-    ensures { Wrote (word_line word.now (take count numbers)) out.old at out.new result }
+pub fn put_word_line(out: &mut [u8], at: usize, word: &[u8], numbers: &[u32]) -> usize
+    requires { (at + length word.now ≤ 65000) × (length numbers.now ≤ 6) }
+    ensures { Wrote (word_line word.now numbers.now) out.old at out.new result }
 {
     let after = put_bytes(out, at, word);
     let next = put_byte(out, after, b' ');
-    put_line(out, next, numbers, count)
+    put_line(out, next, numbers)
 }

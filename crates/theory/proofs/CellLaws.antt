@@ -2,7 +2,7 @@
 use Prim.Native.Nat.{ℕ, zero, suc, ◌+◌, ◌-◌, ◌<◌, ◌≤◌}
 use mathlib.Core.Path.{◌≡◌, refl, ◌∙◌, subst}
 use mathlib.Core.Bool.{Bool, true, false, cond}
-use mathlib.Core.Option.{some}
+use Rattle.std.specs.Prelude.{Some}
 use mathlib.Core.List.{List, ◌∷◌}
 use native.Mathlib.Nat.{add_assoc, add-suc, add-sub_cancel_left}
 use native.Mathlib.Decide.{dec_lt}
@@ -44,14 +44,14 @@ module _ (W : World) (s : State W) where
   -- the n scratch cells from b on
   abbrev pub with_scratches : ℕ → ℕ → (ℕ → W.Msg) → State W
   with_scratches b n g =
-      record { accumulator = s.accumulator; scratches = puts s.scratches b n (λ i. some (g i)); stores = s.stores }
+      record { accumulator = s.accumulator; scratches = puts s.scratches b n (λ i. Some (g i)); stores = s.stores }
 
   pub set_messages_scratch : (b n : ℕ) (g : ℕ → W.Msg) → set_messages W s (named_cells + b) n g ≡ with_scratches b n g
   unfolding set_messages puts
   set_messages_scratch b zero g = refl
   set_messages_scratch b (suc n) g = rw (add_assoc, set_messages_scratch b n g) (set_message_scratch W _ (b + n) (g n))
 
-  pub messages_scratch : (place b n : ℕ) (m : W.Msg) (ms : List W.Msg) → s.scratches b ≡ some m
+  pub messages_scratch : (place b n : ℕ) (m : W.Msg) (ms : List W.Msg) → s.scratches b ≡ Some m
       → messages W place s (named_cells + suc b) n ≡ done ms → messages W place s (named_cells + b) (suc n) ≡ done (m ∷ ms)
   unfolding messages
   messages_scratch place b n m ms p q = rw (message_scratch W s b, p, ← add-suc named_cells b, q)
@@ -77,7 +77,7 @@ module _ (W : World) (r : ℕ) (past : named_cells ≤ r) where
   set_past s cell m = go (dec_lt cell named_cells)
     where
       go : Dec (cell < named_cells) → (set_message W s cell m).stores.ρ r ≡ s.stores.ρ r
-      go (yes named) = rw (set_message_named W s cell m named) (put_other s.stores.ρ cell r (some m) λ e. omega arith)
+      go (yes named) = rw (set_message_named W s cell m named) (put_other s.stores.ρ cell r (Some m) λ e. omega arith)
       go (no other) =
           let e : named_cells + (cell - named_cells) ≡ cell = omega arith in
           subst (λ n. (set_message W s n m).stores.ρ r ≡ s.stores.ρ r) e (rw (set_message_scratch W s (cell - named_cells) m))
@@ -97,7 +97,7 @@ module _ (W : World) (i : ℕ) (past : scratch_cells ≤ i) where
       go (no other) =
           let e : named_cells + (cell - named_cells) ≡ cell = omega arith in
           subst (λ n. (set_message W s n m).scratches i ≡ s.scratches i) e
-          (rw (set_message_scratch W s (cell - named_cells) m) (put_other s.scratches (cell - named_cells) i (some m) λ e. omega arith))
+          (rw (set_message_scratch W s (cell - named_cells) m) (put_other s.scratches (cell - named_cells) i (Some m) λ e. omega arith))
 
   pub sets_beyond : (s : State W) (first n : ℕ) (g : ℕ → W.Msg) → first + n ≤ message_cells → (set_messages W s first n g).scratches i ≡ s.scratches i
   unfolding set_messages

@@ -1,7 +1,7 @@
 -- What is proved of compiled code, over any world.
 use Prim.Native.Nat.{ℕ, ◌<◌}
 use mathlib.Core.Path.{◌≡◌, refl, sym, ◌∙◌, subst}
-use mathlib.Core.Option.{Option, none, some}
+use Rattle.std.specs.Prelude.{Option, None, Some}
 use mathlib.Core.List.{List}
 use native.Mathlib.Nat.{le_refl}
 use Rattle.answers.specs.Numbers.{reason_number}
@@ -37,12 +37,12 @@ module _ (W : World) where
   message_of t = done (t.accumulator, t.stores)
 
   abbrev pub made_of : W.Msg × Stores W → Outcome (Option W.Msg × Stores W)
-  made_of b = done (some b.0, b.1)
+  made_of b = done (Some b.0, b.1)
 
   -- every variable that is set keeps its value, and so does every scratch cell below a number
   pub record Keeps (b : ℕ) (s t : State W) : Type 0 where
-    pub objects : (v : ℕ) (m : W.Msg) → s.stores.σ v ≡ some m → t.stores.σ v ≡ some m
-    pub raws : (r : ℕ) (m : W.Msg) → s.stores.ρ r ≡ some m → t.stores.ρ r ≡ some m
+    pub objects : (v : ℕ) (m : W.Msg) → s.stores.σ v ≡ Some m → t.stores.σ v ≡ Some m
+    pub raws : (r : ℕ) (m : W.Msg) → s.stores.ρ r ≡ Some m → t.stores.ρ r ≡ Some m
     pub scratch : (i : ℕ) → i < b → t.scratches i ≡ s.scratches i
 
 module _ {Allowed : ℕ → Type 0} {W : World} {calm : WorldWithin Allowed W} {kind : ℕ → ℕ} {B : Type 0}
@@ -75,7 +75,7 @@ module _ (W : World) (kind : ℕ → ℕ) (p : Pattern) (below : RawsBelow named
   -- what is refused matches no message
   pub matching_refused : (n : Stores W) {answer : Compiled} → compile↓ p (known W n) ≡ refuse answer
       → (m : Option W.Msg) (t : Stores W) → match W kind p m n ≡ done t → ⊥
-  matching_refused n q m t = no_end (matching_any 0 (record { accumulator = m; scratches = λ i. none; stores = n })) q
+  matching_refused n q m t = no_end (matching_any 0 (record { accumulator = m; scratches = λ i. None; stores = n })) q
 
   pub matching_keeps : (b : ℕ) (s t : State W) {c : List Line} {e : Env} → compile↓ p (known_from W b s.stores) ≡ ok c e
       → exec W kind c s ≡ done t → Keeps W b s t
@@ -99,7 +99,7 @@ module _ (W : World) (kind : ℕ → ℕ) (p : Pattern) (below : RawsBelow named
   matching_reasons calm s ready q r = reason (matching calm 0 s ready) q r
 
   -- so with a set accumulator it never reads an unset cell
-  pub matching_reads_set : Calm W → (s : State W) (m : W.Msg) {c : List Line} {e : Env} → s.accumulator ≡ some m
+  pub matching_reads_set : Calm W → (s : State W) (m : W.Msg) {c : List Line} {e : Env} → s.accumulator ≡ Some m
       → compile↓ p (known W s.stores) ≡ ok c e → (place : ℕ) → exec W kind c s ≡ stuck place (reason_number Unset) → ⊥
   matching_reads_set calm s m a q place r = matching_reasons calm s (rw a tt) q r
 
@@ -114,7 +114,7 @@ module _ (W : World) (kind : ℕ → ℕ) (p : Pattern) (below : RawsBelow named
 
   pub creating_refused : (n : Stores W) {answer : Compiled} → compile↑ kind p (known W n) ≡ refuse answer
       → (b : Made W kind) → create W kind p n ≡ done b → ⊥
-  creating_refused n q b = no_end (creating (any_world W) 0 (record { accumulator = none; scratches = λ i. none; stores = n })) q
+  creating_refused n q b = no_end (creating (any_world W) 0 (record { accumulator = None; scratches = λ i. None; stores = n })) q
 
   pub creating_keeps : (b : ℕ) (s t : State W) {c : List Line} {e : Env} → compile↑ kind p (known_from W b s.stores) ≡ ok c e
       → exec W kind c s ≡ done t → Keeps W b s t

@@ -1,7 +1,7 @@
 -- Creating: figure 6 does what figure 3 says, a lemma a form.
 use Prim.Native.Nat.{ℕ, suc, ◌+◌, ◌<◌, ◌≤◌}
 use mathlib.Core.Path.{◌≡◌, refl, ◌∙◌, subst}
-use mathlib.Core.Option.{some}
+use Rattle.std.specs.Prelude.{Some}
 use mathlib.Core.List.{List}
 use native.Mathlib.Nat.{le_refl}
 use native.Mathlib.Omega.{arith}
@@ -26,10 +26,10 @@ module _ (W : World) where
   With P s b = P s b.0 × (s.stores ≡ b.1)
 
   abbrev pub InAccumulator : State W → W.Msg → Type 0
-  InAccumulator s m = s.accumulator ≡ some m
+  InAccumulator s m = s.accumulator ≡ Some m
 
   abbrev pub InVariable : ℕ → State W → W.Msg → Type 0
-  InVariable v s m = s.stores.σ v ≡ some m
+  InVariable v s m = s.stores.σ v ≡ Some m
 
   abbrev pub InScratch : ℕ → ℕ → ℕ → State W → List W.Msg → Type 0
   InScratch row b n s ms = messages W row s (named_cells + b) n ≡ done ms

@@ -3,7 +3,7 @@ use Prim.Native.Nat.{ℕ}
 use mathlib.Core.Path.{◌≡◌, refl, sym, ◌∙◌, ap, subst}
 use mathlib.Core.Logic.{◌≢◌}
 use mathlib.Core.Bool.{Bool, true, false, cond, ◌&&◌}
-use mathlib.Core.Option.{Option, none, some}
+use Rattle.std.specs.Prelude.{Option, None, Some}
 use mathlib.Core.List.{List}
 use lib.Dec.{T, eqb}
 use Rattle.word.proofs.TestLaws.{both}
@@ -46,8 +46,8 @@ module _ (kind : ℕ → ℕ) where
   private_distinct (op_key k K) t = absurd t
   private_distinct (certified_key k a) t = tt
 
-  new_is_set : {n n' : TermStores} {v : ℕ} {o : Term} → CreatesNew kind n v o n' → n'.σ v ≡ some o
-  new_is_set (new {n} {v = v} {o = o} unset can gives after) = rw (← after) (put_same n.σ v (some o))
+  new_is_set : {n n' : TermStores} {v : ℕ} {o : Term} → CreatesNew kind n v o n' → n'.σ v ≡ Some o
+  new_is_set (new {n} {v = v} {o = o} unset can gives after) = rw (← after) (put_same n.σ v (Some o))
 
   new_is_done : {n n' : TermStores} {v : ℕ} {o : Term} (row : ℕ) → CreatesNew kind n v o n' → get_variable term_world kind row v (n.σ v) n ≡ done (o, n')
   new_is_done row (new unset can gives after) = rw (unset, can, gives, after)
@@ -55,7 +55,7 @@ module _ (kind : ℕ → ℕ) where
   -- a variable that is read or created leaves every other as it was
   other_kept : {n n' : TermStores} {v w : ℕ} {o : Term} → v ≢ w → KeyCreates kind n (plain_key v) o n' → n'.σ w ≡ n.σ w
   other_kept v≢w (key_set set) = refl
-  other_kept {w} v≢w (key_new (new {n} {v = v} {o = o} unset can gives after)) = rw (← after) (put_other n.σ v w (some o) v≢w)
+  other_kept {w} v≢w (key_new (new {n} {v = v} {o = o} unset can gives after)) = rw (← after) (put_other n.σ v w (Some o) v≢w)
 
   -- a created key leaves ρ
   key-ρ : {n n' : TermStores} {key : Key} {o : Term} → KeyCreates kind n key o n' → n'.ρ ≡ n.ρ
@@ -73,7 +73,7 @@ module _ (kind : ℕ → ℕ) where
 
   -- a made message is decoded into the variable of its form
   decoded_is_done : {n' : TermStores} {t m : Term} (row v : ℕ) (n : TermStores) → t ≡ m → v ∉ n.σ → Decodes kind n v m → set_object n v m ≡ n'
-      → decodes term_world kind row v (some t) n (made term_world kind) ≡ done (m, n')
+      → decodes term_world kind row v (Some t) n (made term_world kind) ≡ done (m, n')
   decoded_is_done row v n same unset fits after = rw (same, unset, fits, after)
 
   mutual
@@ -105,8 +105,8 @@ module _ (kind : ℕ → ℕ) where
 
   done_is_variable : (row v : ℕ) (n : TermStores) (o : Option Term) (r : Term × TermStores) → n.σ v ≡ o → get_variable term_world kind row v o n ≡ done r
       → KeyCreates kind n (plain_key v) r.0 r.1
-  done_is_variable row v n (some a) r set e = carried (KeyCreates kind n (plain_key v)) e (key_set set)
-  done_is_variable row v n none r unset e = go (creatable (kind v)) refl e
+  done_is_variable row v n (Some a) r set e = carried (KeyCreates kind n (plain_key v)) e (key_set set)
+  done_is_variable row v n None r unset e = go (creatable (kind v)) refl e
     where
       created : Outcome (Term × TermStores)
       created =

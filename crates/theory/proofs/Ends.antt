@@ -1,7 +1,7 @@
 -- How an operation answers and how a part of a run ends: a property of what there is, the reasons and the places at which it may be stuck, and whether it may be out of room.
 use Prim.Native.Nat.{ℕ}
 use mathlib.Core.Bool.{Bool, true, false}
-use mathlib.Core.Option.{Option, none, some}
+use Rattle.std.specs.Prelude.{Option, None, Some}
 use Rattle.answers.specs.Numbers.{reason_number}
 use Rattle.answers.specs.declared.Reason.TheVariants.{Unset}
 use Rattle.theory.specs.Outcome.{Outcome, done, stuck, room, bind, Answer, got, not, full, and_then, sure, at, need}
@@ -51,8 +51,8 @@ module _ {At Why : ℕ → Type 0} {Full : Type 0} where
   ends_at place here (fills f) = overflows here f
 
   pub ends_need : {A : Type 0} (place : ℕ) → At place → Why (reason_number Unset) → (cell : Option A) → Ends At Why Full Any (need place cell)
-  ends_need place here unset (some a) = ends tt
-  ends_need place here unset none = sticks here unset
+  ends_need place here unset (Some a) = ends tt
+  ends_need place here unset None = sticks here unset
 
   -- whatever it is, it ends so
   pub ends_any : {A : Type 0} → ((place : ℕ) → At place) → ((why : ℕ) → Why why) → Full → (outcome : Outcome A) → Ends At Why Full Any outcome

@@ -3,7 +3,7 @@ use Prim.Native.Nat.{ℕ}
 use mathlib.Core.Path.{◌≡◌, refl, sym, ◌∙◌, ap, subst}
 use mathlib.Core.Logic.{◌≢◌}
 use mathlib.Core.Bool.{Bool, true, false, ◌&&◌}
-use mathlib.Core.Option.{Option, none, some}
+use Rattle.std.specs.Prelude.{Option, None, Some}
 use native.Mathlib.Omega.{arith}
 use lib.Dec.{T, eqb, eqb→eq}
 use Rattle.word.proofs.TestLaws.{both}
@@ -53,13 +53,13 @@ module _ {A B : Type 0} where
   at_then row (not why) f b e = stuck_not_done e
   at_then row full f b e = room_not_done e
 
-  pub need_then : (row : ℕ) (o : Option A) (f : A → Outcome B) (b : B) → bind (need row o) f ≡ done b → (a : A) × (o ≡ some a) × (f a ≡ done b)
-  need_then row (some a) f b e = (a, refl, e)
-  need_then row none f b e = stuck_not_done e
+  pub need_then : (row : ℕ) (o : Option A) (f : A → Outcome B) (b : B) → bind (need row o) f ≡ done b → (a : A) × (o ≡ Some a) × (f a ≡ done b)
+  need_then row (Some a) f b e = (a, refl, e)
+  need_then row None f b e = stuck_not_done e
 
-  pub free_then : (row : ℕ) (o : Option A) (f : Unit {0} → Outcome B) (b : B) → bind (free row o) f ≡ done b → (o ≡ none) × (f tt ≡ done b)
-  free_then row none f b e = (refl, e)
-  free_then row (some a) f b e = stuck_not_done e
+  pub free_then : (row : ℕ) (o : Option A) (f : Unit {0} → Outcome B) (b : B) → bind (free row o) f ≡ done b → (o ≡ None) × (f tt ≡ done b)
+  free_then row None f b e = (refl, e)
+  free_then row (Some a) f b e = stuck_not_done e
 
 -- over terms a test of equality is equality
 pub same_self : (m : Term) → is_yes (same_term m m) ≡ true
@@ -102,8 +102,8 @@ opened_keeps k (Shape.hashed b) x r e = cc
 opened_keeps k (Shape.tupled ms) x r e = cc
 
 certified_keeps : (k : Option Term) (x : Names) (r : Term × Names) → certified term_model k x ≡ got r → x ≡ r.1
-certified_keeps (some k) x r e = got_memory e
-certified_keeps none x r e = cc
+certified_keeps (Some k) x r e = got_memory e
+certified_keeps None x r e = cc
 
 keeps : (o : Op Term) (x : Names) (r : Term × Names) → Steady o → term_world.apply o x ≡ got r → x ≡ r.1
 keeps (Voc.byte n) x r s e = got_memory e

@@ -1,7 +1,7 @@
 -- What an instruction asks of kinds and numbers, so that a row can hold what it makes: it is part of what good code words are.
 use mathlib.Core.Path.{◌≡◌, refl, subst}
 use mathlib.Core.Logic.{inl, inr}
-use mathlib.Core.Option.{Option, none, some}
+use Rattle.std.specs.Prelude.{Option, None, Some}
 use mathlib.Core.List.{List, [], ◌∷◌}
 use Prim.Native.Nat.{ℕ, ◌+◌, ◌<◌, ◌≤◌}
 use native.Mathlib.Omega.{arith}
@@ -85,20 +85,20 @@ module _ (kind : ℕ → ℕ) where
 
 -- a byte that is read from a word has 8 bits
 abbrev Decoded : Option Instruction → Type 0
-Decoded (some i) = ByteFits i
-Decoded none = Unit {0}
+Decoded (Some i) = ByteFits i
+Decoded None = Unit {0}
 
 decoded_by : (operation a b n : ℕ) → a < 256 → b < 256 → Decoded (instruction_by operation a b n)
 decoded_by operation a b n cell byte =
     all_get_d Decoded
-    (none ∷ none
-    ∷ some (Load (as_raw a)) ∷ some (Store (as_raw a)) ∷ some (StoreConst (as_object a) b)
-    ∷ some (Decode (as_object a)) ∷ some (Encode (as_object a)) ∷ some (Create (as_object a))
-    ∷ some (AnalyzeTuple (as_object a) (as_raw b) n) ∷ some (CreateTuple (as_object a) (as_raw b) n)
-    ∷ some (Opposite (as_object a) (as_object b)) ∷ some KeyOf ∷ some (Match (as_raw a))
-    ∷ some (Encrypt (as_object a)) ∷ some (Decrypt (as_object a)) ∷ some (Sign (as_object a))
-    ∷ some (Verify (as_object a) (as_raw b)) ∷ some (Hash (as_object a)) ∷ [])
-    none (omega arith) tt operation
+    (None ∷ None
+    ∷ Some (Load (as_raw a)) ∷ Some (Store (as_raw a)) ∷ Some (StoreConst (as_object a) b)
+    ∷ Some (Decode (as_object a)) ∷ Some (Encode (as_object a)) ∷ Some (Create (as_object a))
+    ∷ Some (AnalyzeTuple (as_object a) (as_raw b) n) ∷ Some (CreateTuple (as_object a) (as_raw b) n)
+    ∷ Some (Opposite (as_object a) (as_object b)) ∷ Some KeyOf ∷ Some (Match (as_raw a))
+    ∷ Some (Encrypt (as_object a)) ∷ Some (Decrypt (as_object a)) ∷ Some (Sign (as_object a))
+    ∷ Some (Verify (as_object a) (as_raw b)) ∷ Some (Hash (as_object a)) ∷ [])
+    None (omega arith) tt operation
 
 decoded : (word : ℕ) → Decoded (instruction_of word)
 unfolding instruction_of
@@ -108,7 +108,7 @@ decoded word =
     decoded_by (at 0 fields) (at 1 fields) (at 2 fields) (at 3 fields) fit.1.0 fit.1.1.0
 
 -- so the instructions of good code words fit
-pub good_word_fits : (kind : ℕ → ℕ) (word : ℕ) (i : Instruction) → instruction_of word ≡ some i → T (good_word kind word)
+pub good_word_fits : (kind : ℕ → ℕ) (word : ℕ) (i : Instruction) → instruction_of word ≡ Some i → T (good_word kind word)
     → T (operands_fit kind i) × ByteFits i
 unfolding good_word
 good_word_fits kind word i e good =

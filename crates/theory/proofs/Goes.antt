@@ -2,7 +2,7 @@
 use Prim.Native.Nat.{ℕ, ◌+◌, ◌≤◌}
 use mathlib.Core.Path.{◌≡◌, refl}
 use mathlib.Core.Bool.{Bool, true, false, cond, true≢false, false≢true}
-use mathlib.Core.Option.{Option, none, some}
+use Rattle.std.specs.Prelude.{Option, None, Some}
 use mathlib.Core.List.{[], append-nil}
 use Rattle.theory.specs.Outcome.{Outcome, done, bind, free, is_some}
 use Rattle.theory.specs.World.{World}
@@ -61,13 +61,13 @@ module _ {Allowed : ℕ → Type 0} {W : World} {calm : WorldWithin Allowed W} {
   -- code by whether a variable is set, and by a test that the rule makes too
   pub chooses : {known : Bool} (value : Option W.Msg) (y : Option W.Msg → Outcome B) {set unset : Emitted} {e : Env} {s : State W}
       → (Fit W Φ e s → known ≡ is_some value)
-      → ((a : W.Msg) → value ≡ some a → Goes calm kind Φ agree e s set (y (some a)))
-      → (value ≡ none → Goes calm kind Φ agree e s unset (y none))
+      → ((a : W.Msg) → value ≡ Some a → Goes calm kind Φ agree e s set (y (Some a)))
+      → (value ≡ None → Goes calm kind Φ agree e s unset (y None))
       → Goes calm kind Φ agree e s (cond known set unset) (y value)
-  chooses {known = true} (some a) y knows if-set if-unset = if-set a refl
-  chooses {known = false} none y knows if-set if-unset = if-unset refl
-  chooses {known = true} none y knows if-set if-unset = goes λ F. absurd (true≢false (knows F))
-  chooses {known = false} (some a) y knows if-set if-unset = goes λ F. absurd (false≢true (knows F))
+  chooses {known = true} (Some a) y knows if-set if-unset = if-set a refl
+  chooses {known = false} None y knows if-set if-unset = if-unset refl
+  chooses {known = true} None y knows if-set if-unset = goes λ F. absurd (true≢false (knows F))
+  chooses {known = false} (Some a) y knows if-set if-unset = goes λ F. absurd (false≢true (knows F))
 
   pub either : (test : Bool) {code code' : Emitted} {e : Env} {s : State W} {y y' : Outcome B}
       → Goes calm kind Φ agree e s code y → Goes calm kind Φ agree e s code' y'

@@ -1,7 +1,7 @@
 -- Matching: figure 5 does what figure 2 says, a lemma a form.
 use Prim.Native.Nat.{ℕ, zero, suc, ◌+◌, ◌<◌, ◌≤◌}
 use mathlib.Core.Path.{◌≡◌, refl, ◌∙◌}
-use mathlib.Core.Option.{some}
+use Rattle.std.specs.Prelude.{Some}
 use native.Mathlib.Nat.{add-zero, zero-add, suc-add, add-suc, le_refl}
 use native.Mathlib.Omega.{arith}
 use Rattle.patterns.specs.Pattern.{Key, plain_key, op_key, certified_key, Pattern, object, raw, constant, opposite, key_of, encryption, signature, hash, tuple, let_in, Parts, end, part, count, RawsBelow, PartsBelow}
@@ -39,7 +39,7 @@ module _ {Allowed : ℕ → Type 0} {W : World} (calm : WorldWithin Allowed W) (
   -- what is shown of the parts of a tuple: their messages stand in scratch that is kept
   abbrev pub MatchesParts : Parts → Type 0
   MatchesParts ps = (Φ : Frame W) (e : Env) (s : State W) (row b i : ℕ) (g : ℕ → W.Msg) → b + count ps ≤ Φ.low
-      → ((j : ℕ) → j < count ps → Φ.scratches (b + j) ≡ some (g (i + j)))
+      → ((j : ℕ) → j < count ps → Φ.scratches (b + j) ≡ Some (g (i + j)))
       → Goes calm kind Φ (Matched W) e s (compile↓parts ps row b e) (match_parts W kind ps i g s.stores)
 
   object_goes : (row v : ℕ) → Matches (object row v)

@@ -3,7 +3,7 @@ use Prim.Native.Nat.{ℕ, zero, suc}
 use mathlib.Core.Path.{◌≡◌, refl, sym, ◌∙◌, ap, subst}
 use mathlib.Core.Logic.{◌≢◌}
 use mathlib.Core.Bool.{Bool, true, false, ◌&&◌}
-use mathlib.Core.Option.{Option, none, some}
+use Rattle.std.specs.Prelude.{Option, None, Some}
 use mathlib.Core.List.{List, [], ◌∷◌}
 use native.Mathlib.Omega.{arith}
 use borrow.Author.Tests.{eqb-true, eq-eqb}
@@ -101,20 +101,20 @@ module _ (kind : ℕ → ℕ) where
       → match_key term_world kind row key (set_object n s m) f ≡ done n'
       → (o : Term) × (n₁ : TermStores) × KeyMatches kind n key o n₁ × (f o (set_object n₁ s m) ≡ done n')
   done_is_key row s m (plain_key v) n n' f s≢v e =
-      let (o, set, e) = need_then row (put n.σ s (some m) v) _ _ e in
-      (o, n, key_variable (put_back n.σ (some m) s≢v set), e)
+      let (o, set, e) = need_then row (put n.σ s (Some m) v) _ _ e in
+      (o, n, key_variable (put_back n.σ (Some m) s≢v set), e)
   done_is_key row s m (op_key k K) n n' f others e =
       let (s≢k, s≢K) = others in
-      let (a, set, e) = need_then row (put n.σ s (some m) K) _ _ e in
-      let (unset, e) = free_then row (put n.σ s (some m) k) _ _ e in
+      let (a, set, e) = need_then row (put n.σ s (Some m) K) _ _ e in
+      let (unset, e) = free_then row (put n.σ s (Some m) k) _ _ e in
       let (o, gives, e) = gives_then row (Voc.op a) n _ _ tt e in
-      (o, _, key_op (put_back n.σ (some m) s≢k unset) (put_back n.σ (some m) s≢K set) gives refl, rw put_comm at e)
+      (o, _, key_op (put_back n.σ (Some m) s≢k unset) (put_back n.σ (Some m) s≢K set) gives refl, rw put_comm at e)
   done_is_key row s m (certified_key k a) n n' f others e =
       let (s≢k, s≢a) = others in
-      let (b, set, e) = need_then row (put n.σ s (some m) a) _ _ e in
+      let (b, set, e) = need_then row (put n.σ s (Some m) a) _ _ e in
       let (o, gives, e) = gives_then row (Voc.key_of b) n _ _ tt e in
       let (unset, fits, e) = decodes_then kind row k o (set_object n s m) _ _ e in
-      (o, _, key_key_of (put_back n.σ (some m) s≢k unset) (put_back n.σ (some m) s≢a set) gives fits refl, rw put_comm at e)
+      (o, _, key_key_of (put_back n.σ (Some m) s≢k unset) (put_back n.σ (Some m) s≢a set) gives fits refl, rw put_comm at e)
 
   parts_count : {n n' : TermStores} {ps : Parts} {ms : List Term} → MatchesParts kind n ps ms n' → length ms ≡ count ps
   unfolding count
@@ -125,7 +125,7 @@ module _ (kind : ℕ → ℕ) where
     unfolding RightKinds one_of
 
     -- what the figure derives, the function does
-    pub matches_is_done : {n n' : TermStores} {p : Pattern} {m : Term} → RightKinds false kind p → Matches kind n p m n' → match term_world kind p (some m) n ≡ done n'
+    pub matches_is_done : {n n' : TermStores} {p : Pattern} {m : Term} → RightKinds false kind p → Matches kind n p m n' → match term_world kind p (Some m) n ≡ done n'
     matches_is_done right (object_set {m = m} set) = rw (set, same_self m)
     matches_is_done right (raw_set {m = m} set) = rw (set, same_self m)
     matches_is_done right (object_new unset fits after) = rw (unset, unset, fits, after)
@@ -153,21 +153,21 @@ module _ (kind : ℕ → ℕ) where
     parts_are_done g i right shown (one_more first rest) =
         rw (shown.0, matches_is_done right.0 first) (parts_are_done g (suc i) right.1 shown.1 rest)
 
-  done_is_object : (row v : ℕ) (n n' : TermStores) (m : Term) (o : Option Term) → n.σ v ≡ o → match_object term_world kind row v o (some m) n ≡ done n'
+  done_is_object : (row v : ℕ) (n n' : TermStores) (m : Term) (o : Option Term) → n.σ v ≡ o → match_object term_world kind row v o (Some m) n ≡ done n'
       → Matches kind n (object row v) m n'
-  done_is_object row v n n' m (some a) set e =
+  done_is_object row v n n' m (Some a) set e =
       let (same, e) = same_then row a m n _ _ e in
-      subst (Matches kind n (object row v) m) (done_inj e) (object_set (set ∙ ap some same))
-  done_is_object row v n n' m none unset e =
+      subst (Matches kind n (object row v) m) (done_inj e) (object_set (set ∙ ap Some same))
+  done_is_object row v n n' m None unset e =
       let (_, fits, e) = decodes_then kind row v m n _ _ e in
       object_new unset fits (done_inj e)
 
-  done_is_raw : (row r : ℕ) (n n' : TermStores) (m : Term) (o : Option Term) → n.ρ r ≡ o → match_raw term_world kind row r o (some m) n ≡ done n'
+  done_is_raw : (row r : ℕ) (n n' : TermStores) (m : Term) (o : Option Term) → n.ρ r ≡ o → match_raw term_world kind row r o (Some m) n ≡ done n'
       → Matches kind n (raw row r) m n'
-  done_is_raw row r n n' m (some a) set e =
+  done_is_raw row r n n' m (Some a) set e =
       let (same, e) = same_then row m a n _ _ e in
-      subst (Matches kind n (raw row r) m) (done_inj e) (raw_set (set ∙ ap some (sym same)))
-  done_is_raw row r n n' m none unset e =
+      subst (Matches kind n (raw row r) m) (done_inj e) (raw_set (set ∙ ap Some (sym same)))
+  done_is_raw row r n n' m None unset e =
       let (_, e) = free_then row (n.ρ r) _ _ e in
       raw_new unset (done_inj e)
 
@@ -175,7 +175,7 @@ module _ (kind : ℕ → ℕ) where
     unfolding RightKinds one_of count
 
     -- what the function does, the figure derives
-    pub done_is_matches : (p : Pattern) (n n' : TermStores) (m : Term) → RightKinds false kind p → match term_world kind p (some m) n ≡ done n' → Matches kind n p m n'
+    pub done_is_matches : (p : Pattern) (n n' : TermStores) (m : Term) → RightKinds false kind p → match term_world kind p (Some m) n ≡ done n' → Matches kind n p m n'
     done_is_matches (object row v) n n' m right e = done_is_object row v n n' m (n.σ v) refl e
     done_is_matches (raw row r) n n' m right e = done_is_raw row r n n' m (n.ρ r) refl e
     done_is_matches (constant row c b) n n' m right e =
@@ -190,17 +190,17 @@ module _ (kind : ℕ → ℕ) where
         subst (λ m. Matches kind n (opposite row k K) m n') same (op_rule unset set gives (done_inj e))
     done_is_matches (key_of row k a) n n' m right e =
         let (unset, fits, e) = decodes_then kind row k m n _ _ e in
-        let (b, set, e) = need_then row (put n.σ k (some m) a) _ _ e in
+        let (b, set, e) = need_then row (put n.σ k (Some m) a) _ _ e in
         let (o, gives, e) = gives_then row (Voc.key_of b) n _ _ tt e in
         let (same, e) = same_then row o m n _ _ e in
         let k≢a = apart kind k a 4 (λ x. eqb x 3) right (λ u. u) in
-        key_of_rule unset (put_back n.σ (some m) k≢a set) (subst (Gives n (Voc.key_of b)) same gives) fits (done_inj e)
+        key_of_rule unset (put_back n.σ (Some m) k≢a set) (subst (Gives n (Voc.key_of b)) same gives) fits (done_inj e)
     done_is_matches (encryption row v (plain_key x) p) n n' m right e =
         let (unset, fits, e) = decodes_then kind row v m n _ _ e in
-        let (o, set, e) = need_then row (put n.σ v (some m) x) _ _ e in
+        let (o, set, e) = need_then row (put n.σ v (Some m) x) _ _ e in
         let (b, gives, e) = gives_then row (Voc.decrypt o m) n _ _ tt e in
         let v≢x = apart kind v x 7 (one_of (5 ∷ 6 ∷ [])) right.0 (λ u. u) in
-        encryption_rule (key_variable (put_back n.σ (some m) v≢x set)) unset fits gives (done_is_matches p _ n' b right.1 e)
+        encryption_rule (key_variable (put_back n.σ (Some m) v≢x set)) unset fits gives (done_is_matches p _ n' b right.1 e)
     done_is_matches (encryption row v (op_key k K) p) n n' m right e = stuck_not_done e
     done_is_matches (encryption row v (certified_key k a) p) n n' m right e = stuck_not_done e
     done_is_matches (signature row s key r) n n' m right e =
@@ -220,7 +220,7 @@ module _ (kind : ℕ → ℕ) where
         tuple_rule unset fits whole (done_are_parts ps ms _ n' (λ i. get_or ms i m) zero right.1 counted (get_or_shows ms m) e)
     done_is_matches (let_in row r p₁ p₂) n n' m right e =
         let (unset, e) = free_then row (n.ρ r) _ _ e in
-        let (n₁, first, e) = bind_then (match term_world kind p₂ (some m) n) _ _ e in
+        let (n₁, first, e) = bind_then (match term_world kind p₂ (Some m) n) _ _ e in
         let (b, set, e) = need_then row (n₁.ρ r) _ _ e in
         let_rule unset (done_is_matches p₂ n n₁ m right.1 first) set (done_is_matches p₁ n₁ n' b right.0 e)
 
@@ -230,7 +230,7 @@ module _ (kind : ℕ → ℕ) where
     done_are_parts end (m ∷ ms) n n' g i right counted shown e = absurd (omega arith)
     done_are_parts (part p ps) [] n n' g i right counted shown e = absurd (omega arith)
     done_are_parts (part p ps) (m ∷ ms) n n' g i right counted shown e =
-        let (n₁, first, e) = bind_then (match term_world kind p (some (g i)) n) _ _ e in
+        let (n₁, first, e) = bind_then (match term_world kind p (Some (g i)) n) _ _ e in
         one_more
         (subst (λ m. Matches kind n p m n₁) shown.0 (done_is_matches p n n₁ (g i) right.0 first))
         (done_are_parts ps ms n₁ n' g (suc i) right.1 (omega arith) shown.1 e)

@@ -2,7 +2,7 @@
 -- of rows says no for document 01's reasons, and never that a cell is unset.
 use Prim.Native.Nat.{ℕ, suc}
 use mathlib.Core.Bool.{Bool, true, false, cond, ◌&&◌}
-use mathlib.Core.Option.{Option, none, some}
+use Rattle.std.specs.Prelude.{Option, None, Some}
 use mathlib.Core.List.{List}
 use lib.ListN.{length}
 use lib.Dec.{eqb, ltb}
@@ -11,8 +11,7 @@ use Rattle.answers.specs.declared.Reason.TheVariants.{OtherKind, Differs, PartCo
 use Rattle.terms.specs.Shape.{Shape, atom, encrypted, signed, hashed, tupled, kind_of}
 use Rattle.terms.specs.Row.{row_of}
 use Rattle.terms.specs.Finder.{locate}
-use Rattle.terms.specs.declared.Found.{Found}
-use Rattle.terms.specs.declared.Found.TheVariants.{At, Full}
+use Rattle.terms.specs.Finder.{Found}
 use Rattle.theory.specs.Outcome.{got, full}
 use Rattle.theory.specs.World.{Op, Test}
 use Rattle.theory.specs.World as Voc
@@ -42,8 +41,8 @@ module _ {Why : ℕ → Type 0} {Full : Type 0} (S : Model) (own : (why : ℕ) �
   opened_moves k (tupled ms) = fails (own (reason_number NotOpened) tt)
 
   certified_moves : (key : Option S.Msg) → Answers Why Full After (certified S key x)
-  certified_moves (some k) = gets {a = (k, x)} m.left
-  certified_moves none = fails (own (reason_number NoCertificate) tt)
+  certified_moves (Some k) = gets {a = (k, x)} m.left
+  certified_moves None = fails (own (reason_number NoCertificate) tt)
 
   apply_moves : (o : Op S.Msg) → Answers Why Full After (apply_in S o x)
   apply_moves (Voc.byte b) = m.makes (atom 1 b)
@@ -94,8 +93,8 @@ calm_name {X} counter raised = go (ltb counter most_names)
     go false = fills tt
 
 calm_placed : (x : Table) (rows : List ℕ) (found : Found) → AnswerWithin OwnReason (placed_by x rows found)
-calm_placed x rows (At row used) = gets tt
-calm_placed x rows Full = fills tt
+calm_placed x rows (Some (row, used)) = gets tt
+calm_placed x rows None = fills tt
 
 calm_make : (x : Table) (shape : Shape ℕ) → AnswerWithin OwnReason (row_model.make shape x)
 calm_make x shape = let l = locate x.rows x.used (row_of shape) in calm_placed x l.rows l.found

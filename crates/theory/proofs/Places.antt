@@ -1,6 +1,6 @@
 -- The place of an answer is a label: code with other places on its lines ends the same, but for the place.
 use mathlib.Core.Path.{◌≡◌, refl, sym, ◌∙◌, ap, fun_ext}
-use mathlib.Core.Option.{Option, none, some}
+use Rattle.std.specs.Prelude.{Option, None, Some}
 use mathlib.Core.List.{List, [], ◌∷◌, map}
 use Prim.Native.Nat.{ℕ, zero, suc}
 use native.Mathlib.Omega.{arith}
@@ -41,8 +41,8 @@ module _ {A : Type 0} (place other : ℕ) where
   moved_at full = refl
 
   moved_need : (o : Option A) → moved_to place (need other o) ≡ need place o
-  moved_need (some a) = refl
-  moved_need none = refl
+  moved_need (Some a) = refl
+  moved_need None = refl
 
 ruleset moves = (moved_bind, moved_at, moved_need)
 

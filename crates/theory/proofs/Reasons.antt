@@ -1,7 +1,7 @@
 -- The reasons for which a world may say no.
 use Prim.Native.Nat.{ℕ}
 use mathlib.Core.Bool.{◌&&◌}
-use mathlib.Core.Option.{Option, none, some}
+use Rattle.std.specs.Prelude.{Option, None, Some}
 use lib.Dec.{T, ltb, leb}
 use Rattle.answers.specs.Numbers.{reason_number}
 use Rattle.answers.specs.declared.Reason.TheVariants.{Unset, NotVerified}
@@ -18,8 +18,8 @@ abbrev pub OutcomeWithin : (Allowed : ℕ → Type 0) {A : Type 0} → Outcome A
 OutcomeWithin Allowed {A = A} = Ends Any Allowed (Unit {0}) {A = A} Any
 
 abbrev pub ReadWithin : (Allowed : ℕ → Type 0) {A : Type 0} → Option A → Type 0
-ReadWithin Allowed (some a) = Unit {0}
-ReadWithin Allowed none = Allowed (reason_number Unset)
+ReadWithin Allowed (Some a) = Unit {0}
+ReadWithin Allowed None = Allowed (reason_number Unset)
 
 pub record WorldWithin (Allowed : ℕ → Type 0) (W : World) : Type 0 where
   pub apply : (o : Op W.Msg) (x : W.Mem) → AnswerWithin Allowed (W.apply o x)
@@ -44,8 +44,8 @@ module _ {A : Type 0} where
   any_answer full = fills tt
 
   pub any_read : (cell : Option A) → ReadWithin Any cell
-  any_read (some a) = tt
-  any_read none = tt
+  any_read (Some a) = tt
+  any_read None = tt
 
 pub any_world : (W : World) → WorldWithin Any W
 any_world W = record { apply = λ o x. any_answer _; test = λ t x. any_answer _; parts = λ m n x. any_answer _ }

@@ -1,7 +1,7 @@
 -- One world read in another: the same code on both gives the same end, cell by cell, unless the left runs out of room.
 use mathlib.Core.Path.{◌≡◌, refl, sym, ◌∙◌, ap, subst}
 use mathlib.Core.Bool.{Bool, true, false, cond}
-use mathlib.Core.Option.{Option, some}
+use Rattle.std.specs.Prelude.{Option, Some}
 use mathlib.Core.List.{List, [], ◌∷◌}
 use Prim.Native.Nat.{ℕ, zero, suc, ◌+◌, ◌-◌, ◌<◌, ◌≤◌}
 use native.Mathlib.Omega.{arith}
@@ -88,11 +88,11 @@ module _ {W T : World} (F : Reading W T) where
 module _ {A B : Type 0} (R : ℕ → A → B → Type 0) where
   -- a store of cells, after one of them is written
   put_related : (f : ℕ → Option A) (g : ℕ → Option B) (v : ℕ) {a : A} {b : B} → R v a b → ((i : ℕ) → CellR (R i) (f i) (g i))
-      → (i : ℕ) → CellR (R i) (put f v (some a) i) (put g v (some b) i)
+      → (i : ℕ) → CellR (R i) (put f v (Some a) i) (put g v (Some b) i)
   unfolding put
   put_related f g v {a} {b} r h i = go (eqb v i) (eqb→eq v i)
     where
-      go : (t : Bool) → (T t → v ≡ i) → CellR (R i) (cond t (some a) (f i)) (cond t (some b) (g i))
+      go : (t : Bool) → (T t → v ≡ i) → CellR (R i) (cond t (Some a) (f i)) (cond t (Some b) (g i))
       go true e = rw (← (e tt)) (set r)
       go false e = h i
 

@@ -1,7 +1,7 @@
 -- Two things related part by part: lists, cells, answers, outcomes and shapes.
 use mathlib.Core.Path.{◌≡◌, refl, ap}
 use mathlib.Core.Logic.{◌≢◌}
-use mathlib.Core.Option.{Option, none, some}
+use Rattle.std.specs.Prelude.{Option, None, Some}
 use mathlib.Core.List.{List, [], ◌∷◌}
 use Prim.Native.Nat.{ℕ, zero, suc, ◌<◌}
 use native.Mathlib.Omega.{arith}
@@ -16,8 +16,8 @@ module _ {A B : Type 0} (R : A → B → Type 0) where
     cons : {a : A} {b : B} {all : List A} {others : List B} → R a b → EachR all others → EachR (a ∷ all) (b ∷ others)
 
   pub data CellR : Option A → Option B → Type 0 where
-    unset : CellR none none
-    set : {a : A} {b : B} → R a b → CellR (some a) (some b)
+    unset : CellR None None
+    set : {a : A} {b : B} → R a b → CellR (Some a) (Some b)
 
   -- the same answer, or no room on the left
   pub data AnswerR : Answer A → Answer B → Type 0 where

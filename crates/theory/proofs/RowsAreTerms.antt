@@ -2,7 +2,7 @@
 use mathlib.Core.Path.{◌≡◌, refl, sym, ◌∙◌, ap, fun_ext}
 use mathlib.Core.Logic.{◌↔◌, inl, inr, ◌≢◌}
 use mathlib.Core.Bool.{Bool, true, false, cond}
-use mathlib.Core.Option.{some}
+use Rattle.std.specs.Prelude.{Some}
 use mathlib.Core.List.{List, [], ◌∷◌}
 use Prim.Native.Nat.{ℕ, suc, ◌+◌, ◌<◌}
 use native.Mathlib.Omega.{arith}
@@ -81,8 +81,8 @@ module _ {x : Table} (v : ValidMemory x) where
       (go (eqb (agent_of word) row) (certified_means rest pairs.1 row t m))
     where
       go : (b : Bool) → CellR (Means x) (certified rest row) (certified_term rows rest t)
-          → CellR (Means x) (elim b [ true ↦ some (key_of word) | false ↦ certified rest row ])
-          (cond b (some (meaning rows (key_of word))) (certified_term rows rest t))
+          → CellR (Means x) (elim b [ true ↦ Some (key_of word) | false ↦ certified rest row ])
+          (cond b (Some (meaning rows (key_of word))) (certified_term rows rest t))
       go true later = Related.set (pairs.0.key.0, refl)
       go false later = later
 

@@ -1,6 +1,7 @@
 -- The machine on rows does what the machine on terms does with what the rows mean, and leaves valid stores.
 use mathlib.Core.Path.{◌≡◌, refl, sym, ◌∙◌, ap}
-use mathlib.Core.Option.{Option, none, some, map}
+use Rattle.std.specs.Prelude.{Option, None, Some}
+use Rattle.std.specs.Option.{option_map}
 use mathlib.Core.List.{List}
 use Prim.Native.Nat.{ℕ, ◌<◌}
 use lib.Dec.{T}
@@ -21,8 +22,8 @@ use Rattle.theory.proofs.RowsAreTerms.{names_of, Means, rows_read, rows_are_term
 
 -- what a set cell has to be
 abbrev pub Held : {A : Type 0} → (A → Type 0) → Option A → Type 0
-Held P none = Unit {0}
-Held P (some a) = P a
+Held P None = Unit {0}
+Held P (Some a) = P a
 
 abbrev pub IsUsed : Table → ℕ → Type 0
 IsUsed x row = row < x.used
@@ -43,9 +44,9 @@ abbrev pub terms_of : State row_world → State term_world
 terms_of s =
     let means = meaning s.stores.memory.rows in
     record {
-      accumulator = map means s.accumulator;
-      scratches = λ i. map means (s.scratches i);
-      stores = record { σ = λ v. map means (s.stores.σ v); ρ = λ r. map means (s.stores.ρ r); memory = names_of s.stores.memory };
+      accumulator = option_map means s.accumulator;
+      scratches = λ i. option_map means (s.scratches i);
+      stores = record { σ = λ v. option_map means (s.stores.σ v); ρ = λ r. option_map means (s.stores.ρ r); memory = names_of s.stores.memory };
     }
 
 abbrev pub Reads : (ℕ → ℕ) → State row_world → State term_world → Type 0
@@ -53,14 +54,14 @@ Reads kind s t = ValidState kind s × (t ≡ terms_of s)
 
 -- a cell that is read by a function
 module _ {A B : Type 0} (P : A → Type 0) (R : A → B → Type 0) (g : A → B) where
-  cell_read : ((a : A) → P a → R a (g a)) → (cell : Option A) → Held P cell → CellR R cell (map g cell)
-  cell_read reads none held = unset
-  cell_read reads (some a) held = set (reads a held)
+  cell_read : ((a : A) → P a → R a (g a)) → (cell : Option A) → Held P cell → CellR R cell (option_map g cell)
+  cell_read reads None held = unset
+  cell_read reads (Some a) held = set (reads a held)
 
   read_cell : ((a : A) (b : B) → R a b → P a × (b ≡ g a)) → {cell : Option A} {other : Option B} → CellR R cell other
-      → Held P cell × (other ≡ map g cell)
+      → Held P cell × (other ≡ option_map g cell)
   read_cell reads unset = (tt, refl)
-  read_cell reads (set r) = let h = reads _ _ r in (h.0, ap some h.1)
+  read_cell reads (set r) = let h = reads _ _ r in (h.0, ap Some h.1)
 
 module _ (kind : ℕ → ℕ) where
   state_related : (s : State row_world) → ValidState kind s → StateR rows_read kind s (terms_of s)
@@ -76,10 +77,10 @@ module _ (kind : ℕ → ℕ) where
       x : Table
       x = s.stores.memory
 
-      cell : (cell : Option ℕ) → Held (IsUsed x) cell → CellR (Means x) cell (map (meaning x.rows) cell)
+      cell : (cell : Option ℕ) → Held (IsUsed x) cell → CellR (Means x) cell (option_map (meaning x.rows) cell)
       cell = cell_read (IsUsed x) (Means x) (meaning x.rows) λ row used. (used, refl)
 
-      object : (o : ℕ) (cell : Option ℕ) → Held (HasTag x (kind o)) cell → CellR (ObjectR rows_read kind s o) cell (map (meaning x.rows) cell)
+      object : (o : ℕ) (cell : Option ℕ) → Held (HasTag x (kind o)) cell → CellR (ObjectR rows_read kind s o) cell (option_map (meaning x.rows) cell)
       object o =
           cell_read (HasTag x (kind o)) (ObjectR rows_read kind s o) (meaning x.rows) λ row has.
           ((has.0, refl), sym (tag_means v.table row (meaning x.rows row) (has.0, refl)) ∙ has.1)
@@ -103,11 +104,11 @@ module _ (kind : ℕ → ℕ) where
       x : Table
       x = s.stores.memory
 
-      cell : {cell : Option ℕ} {other : Option Term} → CellR (Means x) cell other → Held (IsUsed x) cell × (other ≡ map (meaning x.rows) cell)
+      cell : {cell : Option ℕ} {other : Option Term} → CellR (Means x) cell other → Held (IsUsed x) cell × (other ≡ option_map (meaning x.rows) cell)
       cell = read_cell (IsUsed x) (Means x) (meaning x.rows) λ row t m. (m.0, sym m.1)
 
       object : (v : ℕ) {cell : Option ℕ} {other : Option Term} → CellR (ObjectR rows_read kind s v) cell other
-          → Held (HasTag x (kind v)) cell × (other ≡ map (meaning x.rows) cell)
+          → Held (HasTag x (kind v)) cell × (other ≡ option_map (meaning x.rows) cell)
       object v =
           read_cell (HasTag x (kind v)) (ObjectR rows_read kind s v) (meaning x.rows) λ row t m.
           ((m.0.0, tag_means r.good.0 row t m.0 ∙ m.1), sym m.0.1)

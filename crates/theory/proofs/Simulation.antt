@@ -2,7 +2,7 @@
 use Prim.Native.Nat.{ℕ, ◌+◌, ◌<◌, ◌≤◌}
 use mathlib.Core.Path.{◌≡◌, refl, ◌∙◌, ap, fun_ext}
 use mathlib.Core.Bool.{Bool, true, false, true≢false, false≢true}
-use mathlib.Core.Option.{Option, none, some}
+use Rattle.std.specs.Prelude.{Option, None, Some}
 use mathlib.Core.List.{List, [], ◌∷◌, ◌++◌}
 use native.Mathlib.Nat.{le_trans}
 use native.Mathlib.Omega.{arith}
@@ -79,8 +79,8 @@ module _ (W : World) where
     pub objects : (v : ℕ) → e.objects v ≡ is_some (σ v)
     pub raws : (r : ℕ) → e.raws r ≡ is_some (ρ r)
     pub above : Φ.low ≤ e.next
-    pub keeps_objects : (v : ℕ) (a : W.Msg) → Φ.σ v ≡ some a → σ v ≡ some a
-    pub keeps_raws : (r : ℕ) (a : W.Msg) → Φ.ρ r ≡ some a → ρ r ≡ some a
+    pub keeps_objects : (v : ℕ) (a : W.Msg) → Φ.σ v ≡ Some a → σ v ≡ Some a
+    pub keeps_raws : (r : ℕ) (a : W.Msg) → Φ.ρ r ≡ Some a → ρ r ≡ Some a
     pub keeps_scratch : (i : ℕ) → i < Φ.low → scratches i ≡ Φ.scratches i
 
   abbrev pub Fit : Frame → Env → State W → Type 0
@@ -91,7 +91,7 @@ module _ (W : World) where
   here s low = record { low = low; σ = s.stores.σ; ρ = s.stores.ρ; scratches = s.scratches }
 
 module _ {W : World} {Φ : Frame W} {e : Env} {σ ρ c : ℕ → Option W.Msg} (F : Fits W Φ e σ ρ c) where
-  pub fits_object : (v : ℕ) (m : W.Msg) → σ v ≡ none → Fits W Φ (add_object e v) (put σ v (some m)) ρ c
+  pub fits_object : (v : ℕ) (m : W.Msg) → σ v ≡ None → Fits W Φ (add_object e v) (put σ v (Some m)) ρ c
   fits_object v m unset =
       record {
         objects = put_known e.objects σ v m F.objects;
@@ -102,7 +102,7 @@ module _ {W : World} {Φ : Frame W} {e : Env} {σ ρ c : ℕ → Option W.Msg} (
         keeps_scratch = F.keeps_scratch;
       }
 
-  pub fits_raw : (r : ℕ) (m : W.Msg) → ρ r ≡ none → Fits W Φ (with_raw e r) σ (put ρ r (some m)) c
+  pub fits_raw : (r : ℕ) (m : W.Msg) → ρ r ≡ None → Fits W Φ (with_raw e r) σ (put ρ r (Some m)) c
   fits_raw r m unset =
       record {
         objects = F.objects;
@@ -124,8 +124,8 @@ module _ {W : World} {Φ : Frame W} {e : Env} {σ ρ c : ℕ → Option W.Msg} (
         keeps_scratch = λ i below. same i below ∙ F.keeps_scratch i below;
       }
 
-  pub fits_scratch : (i : ℕ) (m : W.Msg) → Φ.low ≤ i → Fits W Φ e σ ρ (put c i (some m))
-  fits_scratch i m above = fits_kept _ λ j below. put_other c i j (some m) λ e. omega arith
+  pub fits_scratch : (i : ℕ) (m : W.Msg) → Φ.low ≤ i → Fits W Φ e σ ρ (put c i (Some m))
+  fits_scratch i m above = fits_kept _ λ j below. put_other c i j (Some m) λ e. omega arith
 
   pub fits_scratches : (b n : ℕ) (g : ℕ → Option W.Msg) → Φ.low ≤ b → Fits W Φ e σ ρ (puts c b n g)
   fits_scratches b n g above = fits_kept _ λ j below. puts_below c b n g j (omega arith)
@@ -197,13 +197,13 @@ module _ {Allowed : ℕ → Type 0} {W : World} {calm : WorldWithin Allowed W} {
 
   -- a check that a variable is set: the rule reads it, or it is known to be set
   pub reads_it : {s : State W} (row : ℕ) {known : Bool} (cell : Option W.Msg) (code : Emitted) (rest : Env → Emitted) (g : W.Msg → Outcome B)
-      → known ≡ is_some cell → ((a : W.Msg) → cell ≡ some a → Simulates calm kind Φ agree s (and_then code rest) (g a))
+      → known ≡ is_some cell → ((a : W.Msg) → cell ≡ Some a → Simulates calm kind Φ agree s (and_then code rest) (g a))
       → Simulates calm kind Φ agree s (and_then (reads row known code) rest) (bind (need row cell) g)
   unfolding and_then
-  reads_it row {known = true} none code rest g e h = absurd (true≢false e)
-  reads_it row {known = true} (some a) code rest g e h = h a refl
-  reads_it row {known = false} none code rest g e h = refused is_stuck
-  reads_it row {known = false} (some a) code rest g e h = absurd (false≢true e)
+  reads_it row {known = true} None code rest g e h = absurd (true≢false e)
+  reads_it row {known = true} (Some a) code rest g e h = h a refl
+  reads_it row {known = false} None code rest g e h = refused is_stuck
+  reads_it row {known = false} (Some a) code rest g e h = absurd (false≢true e)
 
   pub reads_known : {s : State W} (row : ℕ) {known : Bool} (code : Emitted) (rest : Env → Emitted) {y : Outcome B} → known ≡ true
       → Simulates calm kind Φ agree s (and_then code rest) y → Simulates calm kind Φ agree s (and_then (reads row known code) rest) y
@@ -211,15 +211,15 @@ module _ {Allowed : ℕ → Type 0} {W : World} {calm : WorldWithin Allowed W} {
 
   -- a check that a variable is unset: the rule asks it, or it is known to be unset
   pub writes_at : {s : State W} (row : ℕ) {known : Bool} (cell : Option W.Msg) (code : Emitted) (g : Unit {0} → Outcome B)
-      → known ≡ is_some cell → (cell ≡ none → Simulates calm kind Φ agree s code (g tt))
+      → known ≡ is_some cell → (cell ≡ None → Simulates calm kind Φ agree s code (g tt))
       → Simulates calm kind Φ agree s (writes row known code) (bind (free row cell) g)
-  writes_at row {known = true} none code g e h = absurd (true≢false e)
-  writes_at row {known = true} (some a) code g e h = refused is_stuck
-  writes_at row {known = false} none code g e h = h refl
-  writes_at row {known = false} (some a) code g e h = absurd (false≢true e)
+  writes_at row {known = true} None code g e h = absurd (true≢false e)
+  writes_at row {known = true} (Some a) code g e h = refused is_stuck
+  writes_at row {known = false} None code g e h = h refl
+  writes_at row {known = false} (Some a) code g e h = absurd (false≢true e)
 
   pub writes_it : {s : State W} (row : ℕ) {known : Bool} (cell : Option W.Msg) (code : Emitted) (rest : Env → Emitted) (g : Unit {0} → Outcome B)
-      → known ≡ is_some cell → (cell ≡ none → Simulates calm kind Φ agree s (and_then code rest) (g tt))
+      → known ≡ is_some cell → (cell ≡ None → Simulates calm kind Φ agree s (and_then code rest) (g tt))
       → Simulates calm kind Φ agree s (and_then (writes row known code) rest) (bind (free row cell) g)
   unfolding and_then
   writes_it row {known = true} cell code rest g e h = writes_at row cell _ g e h

@@ -1,7 +1,7 @@
 -- The one induction on a step: how it ends follows from how the world's operations answer, whatever is asked of the memory, of the reasons and of the room.
 use Prim.Native.Nat.{ℕ, zero, suc, ◌≤◌}
 use mathlib.Core.Path.{◌≡◌, refl, ◌∙◌}
-use mathlib.Core.Option.{Option}
+use Rattle.std.specs.Prelude.{Option}
 use mathlib.Core.List.{List, [], ◌∷◌}
 use Rattle.answers.specs.Numbers.{reason_number}
 use Rattle.answers.specs.declared.Reason.TheVariants.{Unset}

@@ -1,7 +1,7 @@
 -- One lemma for each instruction: what is emitted, what it does, and what the rule does at that point.
 use Prim.Native.Nat.{ℕ, ◌+◌, ◌≤◌, ◌<◌}
 use mathlib.Core.Path.{◌≡◌, refl, ◌∙◌, ap}
-use mathlib.Core.Option.{Option, none, some}
+use Rattle.std.specs.Prelude.{Option, None, Some}
 use mathlib.Core.List.{List, [], ◌∷◌}
 use Rattle.answers.specs.Numbers.{reason_number}
 use Rattle.answers.specs.declared.Reason.TheVariants.{Unset}
@@ -32,18 +32,18 @@ module _ {Allowed : ℕ → Type 0} {W : World} {calm : WorldWithin Allowed W} {
   -- an instruction that reads the accumulator where the rule reads the message
   reads_accumulator : (row : ℕ) (i : Instruction) (code : Emitted) {s : State W} (g : W.Msg → Outcome B)
       → ReadWithin Allowed s.accumulator
-      → (s.accumulator ≡ none → step W kind row i s ≡ stuck row (reason_number Unset))
-      → ((m : W.Msg) → s.accumulator ≡ some m → Simulates calm kind Φ agree s (behind (line_at row i ∷ []) code) (g m))
+      → (s.accumulator ≡ None → step W kind row i s ≡ stuck row (reason_number Unset))
+      → ((m : W.Msg) → s.accumulator ≡ Some m → Simulates calm kind Φ agree s (behind (line_at row i ∷ []) code) (g m))
       → Simulates calm kind Φ agree s (behind (line_at row i ∷ []) code) (bind (need row s.accumulator) g)
   unfolding RunsAlike behind
   reads_accumulator row i code {s} g ready unset h = go s.accumulator refl ready code h
     where
       go : (a : Option W.Msg) → s.accumulator ≡ a → ReadWithin Allowed a → (code : Emitted)
-          → ((m : W.Msg) → s.accumulator ≡ some m → Simulates calm kind Φ agree s (behind (line_at row i ∷ []) code) (g m))
+          → ((m : W.Msg) → s.accumulator ≡ Some m → Simulates calm kind Φ agree s (behind (line_at row i ∷ []) code) (g m))
           → Simulates calm kind Φ agree s (behind (line_at row i ∷ []) code) (bind (need row a) g)
-      go (some m) p ready code h = h m p
-      go none p ready (ok c e) h = record { run = rw (unset p) (both_stuck ready) }
-      go none p ready (refuse answer) h = record { run = is_stuck }
+      go (Some m) p ready code h = h m p
+      go None p ready (ok c e) h = record { run = rw (unset p) (both_stuck ready) }
+      go None p ready (refuse answer) h = record { run = is_stuck }
 
   -- an instruction that makes a message for a variable, or for the accumulator
   makes_object : (row v : ℕ) (i : Instruction) {code : Emitted} {s : State W} (o : Op W.Msg) {g : W.Msg × W.Mem → Outcome B}
@@ -67,7 +67,7 @@ module _ {Allowed : ℕ → Type 0} {W : World} {calm : WorldWithin Allowed W} {
 
   -- the message becomes the value of a variable: the rule reads it, or it is known
   pub decode : (row v : ℕ) (rest : Env → Emitted) {e : Env} {s : State W} {g : W.Msg → Outcome B} → ReadWithin Allowed s.accumulator
-      → ((m : W.Msg) → s.accumulator ≡ some m
+      → ((m : W.Msg) → s.accumulator ≡ Some m
       → Goes calm kind Φ agree (add_object e v) (with_stores W s (set_object W s.stores v m)) (rest (add_object e v)) (g m))
       → Goes calm kind Φ agree e s (and_then (emit row (DECODE v) e) rest)
       (bind (free row (s.stores.σ v)) λ _. bind (need row s.accumulator) λ m.
@@ -78,7 +78,7 @@ module _ {Allowed : ℕ → Type 0} {W : World} {calm : WorldWithin Allowed W} {
       reads_accumulator row (DECODE v) _ _ ready (λ p. rw p) λ m p.
       tests row (DECODE v) (Voc.is (kind v) m) (rw p) ((h m p).go (fits_object F v m unset))
 
-  pub decode_known : (row v : ℕ) (m : W.Msg) (rest : Env → Emitted) {e : Env} {s : State W} {y : Outcome B} → s.accumulator ≡ some m
+  pub decode_known : (row v : ℕ) (m : W.Msg) (rest : Env → Emitted) {e : Env} {s : State W} {y : Outcome B} → s.accumulator ≡ Some m
       → Goes calm kind Φ agree (add_object e v) (with_stores W s (set_object W s.stores v m)) (rest (add_object e v)) y
       → Goes calm kind Φ agree e s (and_then (emit row (DECODE v) e) rest)
       (bind (free row (s.stores.σ v)) λ _. bind (at row (W.test (Voc.is (kind v) m) s.stores.memory)) λ _. y)
@@ -100,7 +100,7 @@ module _ {Allowed : ℕ → Type 0} {W : World} {calm : WorldWithin Allowed W} {
       (rw (add_raw_scratch e i) ((h m).go (fits_scratch F i m above))))
 
   pub store_scratch_known : (row i : ℕ) (m : W.Msg) (rest : Env → Emitted) {e : Env} {s : State W} {y : Outcome B}
-      → Φ.low ≤ i → s.accumulator ≡ some m
+      → Φ.low ≤ i → s.accumulator ≡ Some m
       → Goes calm kind Φ agree e (with_scratch W s i m) (rest e) y
       → Goes calm kind Φ agree e s (and_then (emit row (STORE (scratch i)) e) rest) y
   unfolding and_then emit
@@ -112,7 +112,7 @@ module _ {Allowed : ℕ → Type 0} {W : World} {calm : WorldWithin Allowed W} {
   -- the message becomes the value of a raw variable
   pub store_named : (row r : ℕ) (rest : Env → Emitted) {e : Env} {s : State W} {g : W.Msg → Outcome B}
       → r < named_cells → ReadWithin Allowed s.accumulator
-      → ((m : W.Msg) → s.accumulator ≡ some m
+      → ((m : W.Msg) → s.accumulator ≡ Some m
       → Goes calm kind Φ agree (with_raw e r) (with_stores W s (set_raw W s.stores r m)) (rest (with_raw e r)) (g m))
       → Goes calm kind Φ agree e s (and_then (emit row (STORE (named r)) e) rest)
       (bind (free row (s.stores.ρ r)) λ _. bind (need row s.accumulator) g)
@@ -124,7 +124,7 @@ module _ {Allowed : ℕ → Type 0} {W : World} {calm : WorldWithin Allowed W} {
       (rw (add_raw_named e r below) ((h m p).go (fits_raw F r m unset)))
 
   pub store_named_known : (row r : ℕ) (m : W.Msg) (rest : Env → Emitted) {e : Env} {s : State W} {y : Outcome B}
-      → r < named_cells → s.accumulator ≡ some m
+      → r < named_cells → s.accumulator ≡ Some m
       → Goes calm kind Φ agree (with_raw e r) (with_stores W s (set_raw W s.stores r m)) (rest (with_raw e r)) y
       → Goes calm kind Φ agree e s (and_then (emit row (STORE (named r)) e) rest) (bind (free row (s.stores.ρ r)) λ _. y)
   unfolding and_then emit
@@ -134,7 +134,7 @@ module _ {Allowed : ℕ → Type 0} {W : World} {calm : WorldWithin Allowed W} {
       (rw (add_raw_named e r below) (h.go (fits_raw F r m unset)))
 
   -- a message comes from a cell
-  pub load_scratch : (row i : ℕ) (m : W.Msg) (rest : Env → Emitted) {e : Env} {s : State W} {y : Outcome B} → s.scratches i ≡ some m
+  pub load_scratch : (row i : ℕ) (m : W.Msg) (rest : Env → Emitted) {e : Env} {s : State W} {y : Outcome B} → s.scratches i ≡ Some m
       → Goes calm kind Φ agree e (with_accumulator W s m) (rest e) y
       → Goes calm kind Φ agree e s (and_then (emit row (LOAD (scratch i)) e) rest) y
   unfolding and_then emit
@@ -159,7 +159,7 @@ module _ {Allowed : ℕ → Type 0} {W : World} {calm : WorldWithin Allowed W} {
       reads_it row (s.stores.σ v) _ rest _ (F.objects v) λ m p.
       silent (with_accumulator W s m) row (ENCODE v) _ (rw p) ((h m).go F)
 
-  pub encode_known : (row v : ℕ) (m : W.Msg) (rest : Env → Emitted) {e : Env} {s : State W} {y : Outcome B} → s.stores.σ v ≡ some m
+  pub encode_known : (row v : ℕ) (m : W.Msg) (rest : Env → Emitted) {e : Env} {s : State W} {y : Outcome B} → s.stores.σ v ≡ Some m
       → Goes calm kind Φ agree e (with_accumulator W s m) (rest e) y
       → Goes calm kind Φ agree e s (and_then (emit row (ENCODE v) e) rest) y
   unfolding and_then emit
@@ -175,7 +175,7 @@ module _ {Allowed : ℕ → Type 0} {W : World} {calm : WorldWithin Allowed W} {
       writes_it row (s.stores.σ c) _ rest _ (F.objects c) λ unset.
       makes_object row c (STORE_CONST c b) (Voc.byte b) refl λ made. (h made).go (fits_object F c made.0 unset)
 
-  pub create : (row v : ℕ) (rest : Env → Emitted) {e : Env} {s : State W} {g : W.Msg × W.Mem → Outcome B} → s.stores.σ v ≡ none
+  pub create : (row v : ℕ) (rest : Env → Emitted) {e : Env} {s : State W} {g : W.Msg × W.Mem → Outcome B} → s.stores.σ v ≡ None
       → ((made : W.Msg × W.Mem) → Goes calm kind Φ agree (add_object e v) (with_object s v made) (rest (add_object e v)) (g made))
       → Goes calm kind Φ agree e s (and_then (emit row (CREATE v) e) rest) (bind (at row (W.apply (Voc.create (kind v)) s.stores.memory)) g)
   unfolding and_then emit
@@ -205,28 +205,28 @@ module _ {Allowed : ℕ → Type 0} {W : World} {calm : WorldWithin Allowed W} {
       makes_object row k (OPPOSITE K k) (Voc.op a) (rw p) λ made. (h made).go (fits_object F k made.0 unset)
 
   pub opposite_known : (row K k : ℕ) (a : W.Msg) (rest : Env → Emitted) {e : Env} {s : State W} {g : W.Msg × W.Mem → Outcome B}
-      → s.stores.σ K ≡ some a
+      → s.stores.σ K ≡ Some a
       → ((made : W.Msg × W.Mem) → Goes calm kind Φ agree (add_object e k) (with_object s k made) (rest (add_object e k)) (g made))
       → Goes calm kind Φ agree e s (and_then (emit row (OPPOSITE K k) e) rest)
       (bind (free row (s.stores.σ k)) λ _. bind (at row (W.apply (Voc.op a) s.stores.memory)) g)
   opposite_known row K k a rest {s = s} p h = goes λ F. rw p at ((opposite row K k rest {s = s} h).go F)
 
   pub key_of_lem : (row : ℕ) (a : W.Msg) (rest : Env → Emitted) {e : Env} {s : State W} {g : W.Msg × W.Mem → Outcome B}
-      → s.accumulator ≡ some a
+      → s.accumulator ≡ Some a
       → ((made : W.Msg × W.Mem) → Goes calm kind Φ agree e (with_made s made) (rest e) (g made))
       → Goes calm kind Φ agree e s (and_then (emit row KEY_OF e) rest) (bind (at row (W.apply (Voc.key_of a) s.stores.memory)) g)
   unfolding and_then emit
   key_of_lem row a rest p h = goes λ F. makes_accumulator row KEY_OF (Voc.key_of a) (rw p) λ made. (h made).go F
 
   pub hash : (row h : ℕ) (m : W.Msg) (rest : Env → Emitted) {e : Env} {s : State W} {g : W.Msg × W.Mem → Outcome B}
-      → s.accumulator ≡ some m
+      → s.accumulator ≡ Some m
       → ((made : W.Msg × W.Mem) → Goes calm kind Φ agree e (with_made s made) (rest e) (g made))
       → Goes calm kind Φ agree e s (and_then (emit row (HASH h) e) rest) (bind (at row (W.apply (Voc.hash m) s.stores.memory)) g)
   unfolding and_then emit
   hash row h m rest p next = goes λ F. makes_accumulator row (HASH h) (Voc.hash m) (rw p) λ made. (next made).go F
 
   pub encrypt : (row v : ℕ) (k m : W.Msg) (rest : Env → Emitted) {e : Env} {s : State W} {g : W.Msg × W.Mem → Outcome B}
-      → s.stores.σ v ≡ some k → s.accumulator ≡ some m
+      → s.stores.σ v ≡ Some k → s.accumulator ≡ Some m
       → ((made : W.Msg × W.Mem) → Goes calm kind Φ agree e (with_made s made) (rest e) (g made))
       → Goes calm kind Φ agree e s (and_then (emit row (ENCRYPT v) e) rest) (bind (at row (W.apply (Voc.encrypt k m) s.stores.memory)) g)
   unfolding and_then emit
@@ -234,7 +234,7 @@ module _ {Allowed : ℕ → Type 0} {W : World} {calm : WorldWithin Allowed W} {
       reads_known row _ rest (F.objects v ∙ ap is_some q) (makes_accumulator row (ENCRYPT v) (Voc.encrypt k m) (rw (q, p)) λ made. (h made).go F)
 
   pub sign : (row v : ℕ) (k m : W.Msg) (rest : Env → Emitted) {e : Env} {s : State W} {g : W.Msg × W.Mem → Outcome B}
-      → s.stores.σ v ≡ some k → s.accumulator ≡ some m
+      → s.stores.σ v ≡ Some k → s.accumulator ≡ Some m
       → ((made : W.Msg × W.Mem) → Goes calm kind Φ agree e (with_made s made) (rest e) (g made))
       → Goes calm kind Φ agree e s (and_then (emit row (SIGN v) e) rest) (bind (at row (W.apply (Voc.sign k m) s.stores.memory)) g)
   unfolding and_then emit
@@ -242,7 +242,7 @@ module _ {Allowed : ℕ → Type 0} {W : World} {calm : WorldWithin Allowed W} {
       reads_known row _ rest (F.objects v ∙ ap is_some q) (makes_accumulator row (SIGN v) (Voc.sign k m) (rw (q, p)) λ made. (h made).go F)
 
   pub decrypt : (row v : ℕ) (m : W.Msg) (rest : Env → Emitted) {e : Env} {s : State W} {g : W.Msg × W.Mem → Outcome B}
-      → s.accumulator ≡ some m
+      → s.accumulator ≡ Some m
       → ((made : W.Msg × W.Mem) → Goes calm kind Φ agree e (with_made s made) (rest e) (g made))
       → Goes calm kind Φ agree e s (and_then (emit row (DECRYPT v) e) rest)
       (bind (need row (s.stores.σ v)) λ k. bind (at row (W.apply (Voc.decrypt k m) s.stores.memory)) g)
@@ -252,7 +252,7 @@ module _ {Allowed : ℕ → Type 0} {W : World} {calm : WorldWithin Allowed W} {
       makes_accumulator row (DECRYPT v) (Voc.decrypt k m) (rw (q, p)) λ made. (h made).go F
 
   pub match_scratch : (row i : ℕ) (a b : W.Msg) (rest : Env → Emitted) {e : Env} {s : State W} {y : Outcome B}
-      → s.accumulator ≡ some a → s.scratches i ≡ some b
+      → s.accumulator ≡ Some a → s.scratches i ≡ Some b
       → Goes calm kind Φ agree e s (rest e) y
       → Goes calm kind Φ agree e s (and_then (emit row (MATCH (scratch i)) e) rest)
       (bind (at row (W.test (Voc.same a b) s.stores.memory)) λ _. y)
@@ -262,7 +262,7 @@ module _ {Allowed : ℕ → Type 0} {W : World} {calm : WorldWithin Allowed W} {
       (tests row (MATCH (scratch i)) (Voc.same a b) (rw (p, message_scratch, q)) (h.go F))
 
   pub match_named : (row r : ℕ) (b : W.Msg) (rest : Env → Emitted) {e : Env} {s : State W} {g : W.Msg → Outcome B}
-      → r < named_cells → ReadWithin Allowed s.accumulator → s.stores.ρ r ≡ some b
+      → r < named_cells → ReadWithin Allowed s.accumulator → s.stores.ρ r ≡ Some b
       → ((m : W.Msg) → Goes calm kind Φ agree e s (rest e) (g m))
       → Goes calm kind Φ agree e s (and_then (emit row (MATCH (named r)) e) rest)
       (bind (need row s.accumulator) λ m. bind (at row (W.test (Voc.same m b) s.stores.memory)) λ _. g m)
@@ -274,7 +274,7 @@ module _ {Allowed : ℕ → Type 0} {W : World} {calm : WorldWithin Allowed W} {
 
   -- the body is read by the rule; the key is too, or it is known
   pub verify : (row v r : ℕ) (m : W.Msg) (rest : Env → Emitted) {e : Env} {s : State W} {y : Outcome B}
-      → r < named_cells → s.accumulator ≡ some m
+      → r < named_cells → s.accumulator ≡ Some m
       → Goes calm kind Φ agree e s (rest e) y
       → Goes calm kind Φ agree e s (and_then (emit row (VERIFY v (named r)) e) rest)
       (bind (need row (s.stores.σ v)) λ k. bind (need row (s.stores.ρ r)) λ b.
@@ -286,18 +286,18 @@ module _ {Allowed : ℕ → Type 0} {W : World} {calm : WorldWithin Allowed W} {
       tests row (VERIFY v (named r)) (Voc.verify k b m) (rw (q, message_named, u, p)) (h.go F)
 
   pub verify_known : (row v r : ℕ) (k m : W.Msg) (rest : Env → Emitted) {e : Env} {s : State W} {y : Outcome B}
-      → r < named_cells → s.stores.σ v ≡ some k → s.accumulator ≡ some m
+      → r < named_cells → s.stores.σ v ≡ Some k → s.accumulator ≡ Some m
       → Goes calm kind Φ agree e s (rest e) y
       → Goes calm kind Φ agree e s (and_then (emit row (VERIFY v (named r)) e) rest)
       (bind (need row (s.stores.ρ r)) λ b. bind (at row (W.test (Voc.verify k b m) s.stores.memory)) λ _. y)
   verify_known row v r k m rest below q p h = goes λ F. rw q at ((verify row v r m rest below p h).go F)
 
   pub analyze_tuple : (row t b n : ℕ) (m : W.Msg) (rest : Env → Emitted) {e : Env} {s : State W} {g : (ℕ → W.Msg) → Outcome B}
-      → Φ.low ≤ b → s.stores.σ t ≡ some m
+      → Φ.low ≤ b → s.stores.σ t ≡ Some m
       → ((parts : ℕ → W.Msg) → Goes calm kind Φ agree e (with_scratches W s b n parts) (rest e) (g parts))
       → Goes calm kind Φ agree e s (and_then (emit row (ANALYZE_TUPLE t (scratch b) n) e) rest) (bind (at row (W.parts m n s.stores.memory)) g)
   unfolding and_then emit
   analyze_tuple row t b n m rest {s = s} above q h = goes λ F.
       reads_known row _ rest (F.objects t ∙ ap is_some q)
       (shares row (ANALYZE_TUPLE t (scratch b) n) _ _ _ (ends_at row tt (calm.parts m n _)) (rw q (simp set_messages_scratch)) λ parts.
-      (h parts).go (fits_scratches F b n (λ i. some (parts i)) above))
+      (h parts).go (fits_scratches F b n (λ i. Some (parts i)) above))

@@ -2,7 +2,7 @@
 use Prim.Native.Nat.{ℕ, zero, suc, ◌+◌, ◌<◌}
 use mathlib.Core.Path.{◌≡◌, refl, sym, ◌∙◌, ap, fun_ext}
 use mathlib.Core.Bool.{Bool, true, false, cond}
-use mathlib.Core.Option.{Option, none, some}
+use Rattle.std.specs.Prelude.{Option, None, Some}
 use native.Mathlib.Decide.{ℕ_discrete}
 use native.Mathlib.Omega.{arith}
 use borrow.Author.Tests.{eq-eqb, ne_eqb}
@@ -49,17 +49,17 @@ module _ {A : Type 0} where
 module _ {A : Type 0} where
   -- what is known to be set, after a write
   pub put_known : (known : ℕ → Bool) (store : ℕ → Option A) (v : ℕ) (m : A) → ((w : ℕ) → known w ≡ is_some (store w)) → (w : ℕ)
-      → put known v true w ≡ is_some (put store v (some m) w)
+      → put known v true w ≡ is_some (put store v (Some m) w)
   unfolding put
   put_known known store v m h w = go (eqb v w)
     where
-      go : (test : Bool) → cond test true (known w) ≡ is_some (cond test (some m) (store w))
+      go : (test : Bool) → cond test true (known w) ≡ is_some (cond test (Some m) (store w))
       go true = refl
       go false = h w
 
   -- a write to an unset cell leaves the others
-  pub put_held : (store : ℕ → Option A) (v w : ℕ) (m a : A) → store v ≡ none → store w ≡ some a → put store v (some m) w ≡ some a
-  put_held store v w m a unset p = put_other store v w (some m) (λ e. clash (ap store e)) ∙ p
+  pub put_held : (store : ℕ → Option A) (v w : ℕ) (m a : A) → store v ≡ None → store w ≡ Some a → put store v (Some m) w ≡ Some a
+  put_held store v w m a unset p = put_other store v w (Some m) (λ e. clash (ap store e)) ∙ p
     where
       clash : store v ≡ store w → ⊥
       clash e = let z : ◌≡◌ {A = ℕ} 0 1 = cc in omega arith

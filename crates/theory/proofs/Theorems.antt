@@ -1,7 +1,7 @@
 -- What the paper claims, and what the product leans on: each theorem once, each proved by citing where it is shown.
 use mathlib.Core.Path.{◌≡◌}
 use mathlib.Core.Bool.{true, false}
-use mathlib.Core.Option.{Option, some}
+use Rattle.std.specs.Prelude.{Option, Some}
 use mathlib.Core.List.{List}
 use Prim.Native.Nat.{ℕ, ◌≤◌}
 use lib.Dec.{T}
@@ -71,7 +71,7 @@ module _ (W : World) (kind : ℕ → ℕ) (p : Pattern) (below : RawsBelow 64 p)
 
 -- Compiled code never reads a cell that is unset: for matching where the accumulator is set, for creating always.
 pub reads_set_matching : (kind : ℕ → ℕ) (p : Pattern) → RawsBelow 64 p → (s : State row_world) (m : ℕ) {c : List Line} {e : Env}
-    → s.accumulator ≡ some m → compile↓ p (known row_world s.stores) ≡ ok c e → (place : ℕ) → exec row_world kind c s ≡ stuck place (reason_number Unset) → ⊥
+    → s.accumulator ≡ Some m → compile↓ p (known row_world s.stores) ≡ ok c e → (place : ℕ) → exec row_world kind c s ≡ stuck place (reason_number Unset) → ⊥
 reads_set_matching kind p below s m set q = matching_reads_set row_world kind p below calm_rows s m set q
 
 pub reads_set_creating : (kind : ℕ → ℕ) (p : Pattern) → RawsBelow 64 p → (s : State row_world) {c : List Line} {e : Env}
@@ -80,10 +80,10 @@ reads_set_creating kind p below s q = creating_reads_set row_world kind p below 
 
 -- The rules' functions are the figures' relations, for patterns whose kinds are right.
 module _ (kind : ℕ → ℕ) where
-  pub figure2_then_match : {n n' : TermStores} {p : Pattern} {m : Term} → RightKinds false kind p → Matches kind n p m n' → match term_world kind p (some m) n ≡ done n'
+  pub figure2_then_match : {n n' : TermStores} {p : Pattern} {m : Term} → RightKinds false kind p → Matches kind n p m n' → match term_world kind p (Some m) n ≡ done n'
   figure2_then_match right h = matches_is_done kind right h
 
-  pub match_then_figure2 : (p : Pattern) (n n' : TermStores) (m : Term) → RightKinds false kind p → match term_world kind p (some m) n ≡ done n' → Matches kind n p m n'
+  pub match_then_figure2 : (p : Pattern) (n n' : TermStores) (m : Term) → RightKinds false kind p → match term_world kind p (Some m) n ≡ done n' → Matches kind n p m n'
   match_then_figure2 p n n' m right h = done_is_matches kind p n n' m right h
 
   pub figure3_then_create : {n n' : TermStores} {p : Pattern} {m : Term} → RightKinds true kind p → Creates kind n p m n' → create term_world kind p n ≡ done (m, n')

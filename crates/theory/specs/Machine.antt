@@ -1,6 +1,6 @@
 -- Figure 4: the machine over a world.
 use Rattle.std.specs.Prelude.{ℕ, zero, suc, ◌+◌, ◌-◌, cond, List, [], ◌∷◌, ltb}
-use Rattle.std.proofs.Math.Option.{Option, some}
+use Rattle.std.specs.Prelude.{Option, Some}
 use Rattle.numbers.specs.Sorts.{as_raw}
 use Rattle.numbers.specs.Limits.{named_cells}
 use Rattle.numbers.specs.declared.Raw.{Raw}
@@ -39,22 +39,22 @@ module _ (W : World) where
     pub stores : Stores
 
   abbrev pub set_object : Stores → ℕ → W.Msg → Stores
-  set_object n v m = record { σ = put n.σ v (some m); ρ = n.ρ; memory = n.memory }
+  set_object n v m = record { σ = put n.σ v (Some m); ρ = n.ρ; memory = n.memory }
 
   abbrev pub set_raw : Stores → ℕ → W.Msg → Stores
-  set_raw n r m = record { σ = n.σ; ρ = put n.ρ r (some m); memory = n.memory }
+  set_raw n r m = record { σ = n.σ; ρ = put n.ρ r (Some m); memory = n.memory }
 
   abbrev pub set_memory : Stores → W.Mem → Stores
   set_memory n x = record { σ = n.σ; ρ = n.ρ; memory = x }
 
   abbrev pub with_accumulator : State → W.Msg → State
-  with_accumulator s m = record { accumulator = some m; scratches = s.scratches; stores = s.stores }
+  with_accumulator s m = record { accumulator = Some m; scratches = s.scratches; stores = s.stores }
 
   abbrev pub with_stores : State → Stores → State
   with_stores s n = record { accumulator = s.accumulator; scratches = s.scratches; stores = n }
 
   abbrev pub with_scratch : State → ℕ → W.Msg → State
-  with_scratch s i m = record { accumulator = s.accumulator; scratches = put s.scratches i (some m); stores = s.stores }
+  with_scratch s i m = record { accumulator = s.accumulator; scratches = put s.scratches i (Some m); stores = s.stores }
 
   -- a message cell by its number
   unfoldable pub message : State → ℕ → Option W.Msg

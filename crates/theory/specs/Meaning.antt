@@ -1,6 +1,6 @@
 -- What rows mean: the term of a row is what its shape makes of the terms of its parts.
 use Rattle.std.specs.Prelude.{ℕ, zero, suc, cond, List, [], ◌∷◌, map}
-use Rattle.std.proofs.Math.Option.{Option, none, some}
+use Rattle.std.specs.Prelude.{Option, None, Some}
 use Rattle.terms.specs.Shape.{Shape, atom, encrypted, signed, hashed, tupled}
 use Rattle.terms.specs.Row.{shape_of, row_at}
 use Rattle.stores.specs.Certificates.{agent_of, key_of}
@@ -26,6 +26,6 @@ meaning rows row = term_at rows (suc row) row
 
 -- the public key term of an agent term
 unfoldable pub certified_term : List ℕ → List ℕ → Term → Option Term
-certified_term rows [] t = none
+certified_term rows [] t = None
 certified_term rows (word ∷ rest) t =
-    cond (is_yes (same_term (meaning rows (agent_of word)) t)) (some (meaning rows (key_of word))) (certified_term rows rest t)
+    cond (is_yes (same_term (meaning rows (agent_of word)) t)) (Some (meaning rows (key_of word))) (certified_term rows rest t)

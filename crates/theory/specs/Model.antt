@@ -1,6 +1,6 @@
 -- The vocabulary written once: over a way to look at a message and a way to make one.
 use Rattle.std.specs.Prelude.{ℕ, Bool, ◌&&◌, ◌||◌, length, get_or, eqb}
-use Rattle.std.proofs.Math.Option.{Option, none, some}
+use Rattle.std.specs.Prelude.{Option, None, Some}
 use Rattle.answers.specs.Numbers.{reason_number}
 use Rattle.answers.specs.declared.Reason.TheVariants.{OtherKind, Differs, PartCount, NoCertificate, NotOpened, NotVerified}
 use Rattle.terms.specs.Shape.{Shape, atom, encrypted, signed, hashed, tupled, kind_of}
@@ -46,8 +46,8 @@ module _ (S : Model) where
   opened k (tupled ms) x = not (reason_number NotOpened)
 
   abbrev pub certified : Option S.Msg → S.Mem → Answer (S.Msg × S.Mem)
-  certified (some k) x = got (k, x)
-  certified none x = not (reason_number NoCertificate)
+  certified (Some k) x = got (k, x)
+  certified None x = not (reason_number NoCertificate)
 
   -- a signature is verified only for its own body
   abbrev pub verified : S.Msg → S.Msg → Shape S.Msg → S.Mem → Answer (Unit {0})

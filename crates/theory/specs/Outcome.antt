@@ -1,6 +1,6 @@
 -- What a part of a run, or of a rule, comes to.
 use Rattle.std.specs.Prelude.{ℕ, Bool, true, false}
-use Rattle.std.proofs.Math.Option.{Option, none, some}
+use Rattle.std.specs.Prelude.{Option, None, Some}
 use Rattle.answers.specs.Numbers.{reason_number}
 use Rattle.answers.specs.declared.Reason.TheVariants.{Unset}
 
@@ -41,14 +41,14 @@ module _ {A : Type 0} where
 
   -- a read of a cell: reason 1 where it is unset
   abbrev pub need : ℕ → Option A → Outcome A
-  need place (some a) = done a
-  need place none = stuck place (reason_number Unset)
+  need place (Some a) = done a
+  need place None = stuck place (reason_number Unset)
 
   -- a cell that has to be unset: otherwise no rule applies, which is no reason of the machine's
   abbrev pub free : ℕ → Option A → Outcome (Unit {0})
-  free place none = done tt
-  free place (some a) = stuck place 0
+  free place None = done tt
+  free place (Some a) = stuck place 0
 
   abbrev pub is_some : Option A → Bool
-  is_some none = false
-  is_some (some a) = true
+  is_some None = false
+  is_some (Some a) = true

@@ -1,10 +1,10 @@
 -- The world of rows: a message is a row of the term table, and the memory is the table, the name counter and the certificates.
+use Rattle.std.specs.Prelude.{Some, None}
 use Rattle.std.specs.Prelude.{ℕ, suc, cond, List, eqb, ltb}
 use Rattle.numbers.specs.Limits.{most_names}
 use Rattle.terms.specs.Row.{row_of, shape_of, row_at}
 use Rattle.terms.specs.Finder.{Located, locate}
-use Rattle.terms.specs.declared.Found.{Found}
-use Rattle.terms.specs.declared.Found.TheVariants.{At, Full}
+use Rattle.terms.specs.Finder.{Found}
 use Rattle.stores.specs.Certificates as Certificates
 use Rattle.theory.specs.Outcome.{Answer, got, full}
 use Rattle.theory.specs.World.{World}
@@ -27,8 +27,8 @@ abbrev pub name : {X : Type 0} → ℕ → (ℕ → X) → Answer (ℕ × X)
 name counter raised = cond (ltb counter most_names) (got (counter, raised (suc counter))) full
 
 abbrev pub placed_by : Table → List ℕ → Found → Answer (ℕ × Table)
-placed_by x rows (At row used) = got (row.0, with_rows x rows used)
-placed_by x rows Full = full
+placed_by x rows (Some (row, used)) = got (row.0, with_rows x rows used)
+placed_by x rows None = full
 
 -- the row that equals a term, or else the first unused row
 abbrev pub placed : Table → Located → Answer (ℕ × Table)

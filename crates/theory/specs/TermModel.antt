@@ -1,6 +1,6 @@
 -- The world of abstract terms: the memory is the name counter and the certificate store ν.
 use Rattle.std.specs.Prelude.{ℕ, ◌≡◌, Bool, true, false, List, [], ◌∷◌}
-use Rattle.std.proofs.Math.Option.{Option}
+use Rattle.std.specs.Prelude.{Option}
 use Rattle.std.proofs.Math.Decide.{ℕ_discrete}
 use Rattle.terms.specs.Shape.{Shape}
 use Rattle.terms.specs.Shape as Shape

@@ -1,5 +1,4 @@
 -- Laws of a turn.
 pub mod WordLaws
 pub mod CheckLaws
-pub mod AnswerLaws
 pub mod FrontLaws

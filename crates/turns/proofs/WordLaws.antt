@@ -1,7 +1,8 @@
 -- The words of a round: which of them is bad, and what no bad one leaves true.
+use Rattle.std.specs.Prelude.{Some}
 use mathlib.Core.Path.{◌≡◌, refl, sym, ap}
 use mathlib.Core.Bool.{Bool, true, false, not}
-use mathlib.Core.Option.{none}
+use Rattle.std.specs.Prelude.{None}
 use mathlib.Core.List.{List}
 use Prim.Native.Nat.{ℕ, ◌+◌, ◌-◌, ◌<◌, ◌≤◌}
 use native.Mathlib.Numerals.{add-one}
@@ -9,8 +10,6 @@ use native.Mathlib.Omega.{arith}
 use borrow.Author.Tests.{eq-eqb, ne_eqb}
 use lib.Dec.{eqb}
 use lib.ListN.{length, get_or, take, drop}
-use Rattle.word.specs.Lowest.{place_of}
-use Rattle.word.specs.declared.Place.TheVariants.{At, Nowhere}
 use Rattle.word.proofs.ScanLaws.{Left, scan_hit, scan_miss, scan_end}
 use Rattle.word.proofs.LowestLaws.{lowest_none}
 use Rattle.code.specs.Words.{good_word, bad_word}
@@ -49,13 +48,13 @@ module _ (kind : ℕ → ℕ) (code : List ℕ) where
     good_more answer more is good = record { left = scan_miss (bad kind (length code)) code 0 place so_far.left more (rw (← is) good) }
 
     pub bad_here : (answer : Bool) → place < length code → answer ≡ good_round_word kind (length code) place (get_or code place 0) → not answer ≡ true
-        → At place ≡ place_of (bad_round_word kind code)
+        → Some place ≡ (bad_round_word kind code)
     unfolding bad_round_word
-    bad_here answer more is fails = ap place_of (sym (scan_hit (bad kind (length code)) code 0 place so_far.left more (rw (← is) fails)))
+    bad_here answer more is fails = (sym (scan_hit (bad kind (length code)) code 0 place so_far.left more (rw (← is) fails)))
 
-    pub bad_nowhere : length code ≤ place → Nowhere ≡ place_of (bad_round_word kind code)
+    pub bad_nowhere : length code ≤ place → None ≡ (bad_round_word kind code)
     unfolding bad_round_word
-    bad_nowhere end = ap place_of (sym (scan_end (bad kind (length code)) code 0 place so_far.left end))
+    bad_nowhere end = (sym (scan_end (bad kind (length code)) code 0 place so_far.left end))
 
 pub ruleset judging = (good_first, good_last, good_between)
 
@@ -68,7 +67,7 @@ middle_part code = let same : length code - 1 - 1 ≡ length code - 2 = omega ar
 
 module _ (code : List ℕ) (two : 2 ≤ length code) where
   -- are good for run
-  pub good_middle : (kind : ℕ → ℕ) → bad_round_word kind code ≡ none → bad_word kind (middle code) ≡ none
+  pub good_middle : (kind : ℕ → ℕ) → bad_round_word kind code ≡ None → bad_word kind (middle code) ≡ None
   unfolding bad_word bad_round_word
   good_middle kind e = (lowest_none (λ place word. not (good_word kind word)) 0 (middle code)).1 λ i inside.
       let within : 1 + i < length code = omega (arith, middle_length code two) in

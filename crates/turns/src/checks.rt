@@ -3,55 +3,19 @@ ghost use Rattle.std.specs.Prelude.{◌≡◌, ◌&&◌, eqb, leb};
 ghost use Rattle.answers.specs.First.{first};
 ghost use Rattle.stores.specs.Valid.{cell_fits, valid};
 ghost use Rattle.terms.specs.Rules.{used_rows};
-ghost use Rattle.numbers.specs.Limits.{variables, message_cells, most_certificates, most_term_rows, most_names, most_rounds, most_round_words};
+ghost use Rattle.numbers.specs.Limits.{most_rounds};
 ghost use Rattle.calls.specs.Round.{round_refusals};
 ghost use Rattle.turns.specs.Found.{turn_refusals, round_finding};
 
 use crate::words::first_bad_round_word;
 use answers::{Ran, Rounded, Session};
-use numbers::limits::{
-    MESSAGE_CELLS, MOST_CERTIFICATES, MOST_NAMES, MOST_ROUND_WORDS, MOST_ROUNDS, MOST_TERM_ROWS,
-    VARIABLES,
-};
-use terms::Checked;
-use word::Place;
+use numbers::limits::{MOST_ROUND_WORDS, MOST_ROUNDS};
 
-// What is found before the steps: a refusal, or the number of used rows.
-#[derive(Clone, Copy)]
-pub enum Finding {
-    Refused(Rounded),
-    Accepted(u16),
-}
-
-// 1, of what run has too.
-fn slices_fit(
-    kinds: usize,
-    objects: usize,
-    messages: usize,
-    certificates: usize,
-    terms: usize,
-    counter: u32,
-) -> bool
-    ensures { result ≡ (eqb kinds variables && eqb objects variables && eqb messages message_cells && leb certificates most_certificates && leb terms most_term_rows && leb counter most_names) }
+// 1: what run has too, and of a round's own its least words, the role's rounds, and the table's used rows.
+fn round_fits(lengths: bool, code: usize, rounds: u32, used: u32, counted: usize) -> bool
+    ensures { result ≡ (lengths && leb 2 code && leb 1 rounds && leb rounds most_rounds && eqb used counted) }
 {
-    (kinds == VARIABLES)
-        & (objects == VARIABLES)
-        & (messages == MESSAGE_CELLS)
-        & (certificates <= MOST_CERTIFICATES)
-        & (terms <= MOST_TERM_ROWS)
-        & (counter <= MOST_NAMES)
-}
-
-// 1, of a round's own: its words, the role's rounds, and the table's used rows.
-fn round_fits(slices: bool, code: usize, rounds: u32, used: u32, counted: usize) -> bool
-    ensures { result ≡ (slices && leb 2 code && leb code most_round_words && leb 1 rounds && leb rounds most_rounds && eqb used counted) }
-{
-    slices
-        & (2 <= code)
-        & (code <= MOST_ROUND_WORDS)
-        & (1 <= rounds)
-        & (rounds <= MOST_ROUNDS)
-        & (used as usize == counted)
+    lengths & (2 <= code) & (1 <= rounds) & (rounds <= MOST_ROUNDS) & (used as usize == counted)
 }
 
 // 3, of what run has too with the message for its accumulator, and of the answer.
@@ -79,21 +43,22 @@ fn record_fits(
 }
 
 // 14, 13, 12.
-fn turn(session: Session, rounds: u32, used: u16) -> Finding
+fn turn(session: Session, rounds: u32, used: u16) -> Result<u16, Rounded>
     ensures { result ≡ round_finding (first (turn_refusals session rounds)) used }
 {
     if rounds <= session.round {
-        return Finding::Refused(Rounded::RoleEnded);
+        return Err(Rounded::RoleEnded);
     }
     if stores::cells::is_set(session.answer) {
-        return Finding::Refused(Rounded::NotTaken);
+        return Err(Rounded::NotTaken);
     }
     if !stores::cells::is_set(session.message) {
-        return Finding::Refused(Rounded::NoMessage);
+        return Err(Rounded::NoMessage);
     }
-    Finding::Accepted(used)
+    Ok(used)
 }
 
+// The number of used rows, where nothing is refused.
 pub fn look(
     session: Session,
     rounds: u32,
@@ -103,7 +68,7 @@ pub fn look(
     certificates: &[u64],
     terms: &[u64],
     code: &[u32],
-) -> Finding
+) -> Result<u16, Rounded>
     ensures { result ≡ round_finding (first (round_refusals (record {
       session = session;
       rounds = rounds;
@@ -115,32 +80,29 @@ pub fn look(
     })
         code.now)) (used_rows terms.now) }
 {
-    let counter = session.counter;
     let counted = tables::used_rows(terms);
-    let slices = slices_fit(
+    let lengths = looking::lengths_fit(
         kinds.len(),
         objects.len(),
         messages.len(),
         certificates.len(),
         terms.len(),
-        counter,
+        session.counter,
+        code.len(),
+        MOST_ROUND_WORDS,
     );
-    if !round_fits(slices, code.len(), rounds, session.used, counted) {
-        return Finding::Refused(Rounded::Ran(Ran::Limit));
+    if !round_fits(lengths, code.len(), rounds, session.used, counted) {
+        return Err(Rounded::Ran(Ran::Limit));
     }
     let used = counted as u16;
-    let checked = tables::first_bad_row(terms, counter);
-    match checked {
-        Checked::Bad(row) => Finding::Refused(Rounded::Ran(Ran::BadTerm(row))),
-        Checked::Used(_) => {
-            if !record_fits(session, used, kinds, objects, messages, certificates, terms) {
-                return Finding::Refused(Rounded::Ran(Ran::BadStore));
-            }
-            let place = first_bad_round_word(kinds, code);
-            match place {
-                Place::At(word) => Finding::Refused(Rounded::Ran(Ran::BadWord(word))),
-                Place::Nowhere => turn(session, rounds, used),
-            }
-        }
+    if let Err(row) = tables::first_bad_row(terms, session.counter) {
+        return Err(Rounded::Ran(Ran::BadTerm(row)));
     }
+    if !record_fits(session, used, kinds, objects, messages, certificates, terms) {
+        return Err(Rounded::Ran(Ran::BadStore));
+    }
+    if let Some(word) = first_bad_round_word(kinds, code) {
+        return Err(Rounded::Ran(Ran::BadWord(word)));
+    }
+    turn(session, rounds, used)
 }

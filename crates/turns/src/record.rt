@@ -14,10 +14,7 @@ pub fn in_round(answer: Ran) -> Ran
 {
     match answer {
         Ran::Done(words) => Ran::Done(words + 2),
-        Ran::Limit => Ran::Limit,
-        Ran::BadTerm(row) => Ran::BadTerm(row),
-        Ran::BadStore => Ran::BadStore,
-        Ran::BadWord(word) => Ran::BadWord(word),
+        Ran::Limit | Ran::BadTerm(_) | Ran::BadStore | Ran::BadWord(_) => answer,
         Ran::Stuck(place, reason) => Ran::Stuck(place + 1, reason),
         Ran::NoRoom(place) => Ran::NoRoom(place + 1),
     }
@@ -28,13 +25,11 @@ pub fn session_after(session: Session, registers: Registers) -> Session
     requires { session.round < most_rounds }
     ensures { result ≡ session_after session registers }
 {
-    let row = registers.accumulator;
-    let sent = row.0 as u32;
     Session {
         used: registers.used as u32,
         counter: registers.counter,
         round: session.round + 1,
         message: NONE_WAITS,
-        answer: sent,
+        answer: registers.accumulator.0 as u32,
     }
 }

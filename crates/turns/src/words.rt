@@ -1,11 +1,9 @@
 // The words of a round: INPUT, what run steps through, OUTPUT.
 ghost use Rattle.std.specs.Prelude.{◌≡◌, ◌<◌, ◌≤◌, length};
-ghost use Rattle.word.specs.Lowest.{place_of};
 ghost use Rattle.numbers.specs.Kinds.{kind_in};
 ghost use Rattle.calls.specs.Frame.{good_round_word, bad_round_word};
 
 use code::frame::{INPUT, OUTPUT};
-use word::Place;
 
 fn good_round_word(kinds: &[u8], words: usize, place: usize, word: u32) -> bool
     requires { place < words }
@@ -21,15 +19,15 @@ fn good_round_word(kinds: &[u8], words: usize, place: usize, word: u32) -> bool
 }
 
 // Refusal 9.
-pub fn first_bad_round_word(kinds: &[u8], code: &[u32]) -> Place
+pub fn first_bad_round_word(kinds: &[u8], code: &[u32]) -> Option<u32>
     requires { length code.now ≤ 65536 }
-    ensures { result ≡ place_of (bad_round_word (kind_in kinds.now) code.now) }
+    ensures { result ≡ bad_round_word (kind_in kinds.now) code.now }
 {
     let count = code.len();
-    for place in 0..count {
-        if !good_round_word(kinds, count, place, code[place]) {
-            return Place::At(place as u32);
+    for (place, &word) in code.iter().enumerate() {
+        if !good_round_word(kinds, count, place, word) {
+            return Some(place as u32);
         }
     }
-    Place::Nowhere
+    None
 }

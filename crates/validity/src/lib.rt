@@ -30,13 +30,10 @@ fn object_fits(rows: &[u64], used: u16, kind: u8, cell: u16) -> bool
 fn objects_fit(rows: &[u64], used: u16, kinds: &[u8], objects: &[u16]) -> bool
     ensures { result ≡ each_variable (object_fits rows.now used) kinds.now objects.now }
 {
-    let count = cells::variables(kinds, objects);
-    let mut v = 0;
-    while v < count {
-        if !object_fits(rows, used, kinds[v], objects[v]) {
+    for (&kind, &cell) in kinds.iter().zip(objects) {
+        if !object_fits(rows, used, kind, cell) {
             return false;
         }
-        v += 1;
     }
     true
 }
@@ -57,14 +54,7 @@ fn pair_fits(rows: &[u64], used: u16, word: u64) -> bool
 fn pairs_fit(rows: &[u64], used: u16, certificates: &[u64]) -> bool
     ensures { result ≡ each (pair_fits rows.now used) certificates.now }
 {
-    let mut i = 0;
-    while i < certificates.len() {
-        if !pair_fits(rows, used, certificates[i]) {
-            return false;
-        }
-        i += 1;
-    }
-    true
+    certificates.iter().all(|&word| pair_fits(rows, used, word))
 }
 
 // 3, as run sees it.

@@ -1,10 +1,11 @@
 -- An encryption and a let, a way out at a time.
+use Rattle.std.specs.Prelude.{Err, Ok}
+use Rattle.std.specs.Result.{IsErrAnd}
 use Prim.Native.Nat.{ℕ, ◌<◌}
 use mathlib.Core.Path.{◌≡◌, refl, ap, ◌∙◌}
 use mathlib.Core.List.{List}
 use native.Mathlib.Nat.{le_refl}
 use lib.ListN.{length, get_or, set}
-use Rattle.answers.specs.declared.Reason.{Reason}
 use Rattle.answers.specs.declared.Reason.TheVariants.{Unset}
 use Rattle.numbers.specs.declared.Object.{Object}
 use Rattle.numbers.specs.declared.Raw.{Raw}
@@ -18,14 +19,14 @@ use Rattle.theory.specs.World.{Op, encrypt}
 use Rattle.world.specs.Operations.{MakesWord}
 use Rattle.machine.specs.Machine.{Slices, slices, with_objects, with_term_rows, with_certificates, Within}
 use Rattle.machine.proofs.AgreeLaws.{messages_lengths}
-use Rattle.walks.specs.Walks.{goes, message_and_stores, WalksBy}
+use Rattle.walks.specs.Walks.{Walked, goes, message_and_stores, WalksBy}
 use Rattle.walks.specs.declared.Walk.{Walk}
-use Rattle.walks.specs.declared.Walked.{Walked}
-use Rattle.walks.specs.declared.Walked.TheVariants.{Next, Stuck, NoRoom}
+use Rattle.walks.specs.declared.Ended.{Ended}
+use Rattle.walks.specs.declared.Ended.TheVariants.{Stuck}
 use Rattle.walks.proofs.ComesLaws.{frees, set_sticks, then_goes}
 use Rattle.walks.proofs.StoreLaws.{named_unset, named_row, stores_named}
 use Rattle.walk_values.specs.Values.{key_rule, seals}
-use Rattle.walk_values.proofs.ThenLaws.{next_message, next_within, after_stuck, after_full, after_next}
+use Rattle.walk_values.proofs.ThenLaws.{next_message, next_within, after_ended, after_next}
 use Rattle.walk_leaves.specs.Creation.{creation, CreatesBy}
 use Rattle.walk_leaves.proofs.FormLaws.{creates_as, raw_low}
 
@@ -50,25 +51,17 @@ module _ (rows kinds certificates : List ℕ) (w : Walk) (row word : ℕ) (asked
     encrypts : pattern_in rows row ≡ encryption row e.0 (key_by (pattern_fields word)) (pattern_in rows child)
     encrypts = encryption_row asked child first five ∙ rw variable
 
-    pub key_stuck : (place : ℕ) (reason : Reason) → keyed ≡ Stuck place reason → Creates (Stuck place reason) objects₁ named terms₁
+    pub key_ended : {ended : Ended} {answer : Walked} → keyed ≡ Err ended → IsErrAnd answer (λ e. e ≡ ended) → Creates answer objects₁ named terms₁
     unfolding creation key_rule
-    key_stuck place reason q = creates_as kinds w encrypts (after_stuck (key (whole objects named terms)) _ q)
+    key_ended q raise = creates_as kinds w encrypts (after_ended (key (whole objects named terms)) _ q raise)
 
-    pub key_full : (place : ℕ) → keyed ≡ NoRoom place → Creates (NoRoom place) objects₁ named terms₁
-    unfolding creation key_rule
-    key_full place q = creates_as kinds w encrypts (after_full (key (whole objects named terms)) _ q)
-
-    module _ (next : Walk) (went : keyed ≡ Next next) where
+    module _ (next : Walk) (went : keyed ≡ Ok next) where
       module _ (inner : Walked) (objects₂ named₂ terms₂ : List ℕ) (part : Inner child next objects₁ named terms₁ inner objects₂ named₂ terms₂) where
-        pub part_stuck : (place : ℕ) (reason : Reason) → inner ≡ Stuck place reason → Creates (Stuck place reason) objects₂ named₂ terms₂
+        pub part_ended : {ended : Ended} {answer : Walked} → inner ≡ Err ended → IsErrAnd answer (λ e. e ≡ ended) → Creates answer objects₂ named₂ terms₂
         unfolding creation key_rule
-        part_stuck place reason q = creates_as kinds w encrypts (after_next (key (whole objects named terms)) _ went (after_stuck part _ q))
+        part_ended q raise = creates_as kinds w encrypts (after_next (key (whole objects named terms)) _ went (after_ended part _ q raise))
 
-        pub part_full : (place : ℕ) → inner ≡ NoRoom place → Creates (NoRoom place) objects₂ named₂ terms₂
-        unfolding creation key_rule
-        part_full place q = creates_as kinds w encrypts (after_next (key (whole objects named terms)) _ went (after_full part _ q))
-
-        module _ (last : Walk) (came : inner ≡ Next last) where
+        module _ (last : Walk) (came : inner ≡ Ok last) where
           pub part_sealed : (made : ℕ) → MakesWord (encrypt next.message.0 last.message.0) made → {answer : Walked} {objects₃ terms₃ : List ℕ}
               → ((o : Op ℕ) → MakesWord o made → WalksBy message_and_stores (seals kinds row e.0 o) last (λ x. over objects₂ terms₂ x) answer (λ x. over objects₃ terms₃ x))
               → Creates answer objects₃ named₂ terms₃
@@ -84,20 +77,16 @@ module _ (rows kinds certificates : List ℕ) (w : Walk) (row word : ℕ) (asked
     lets : pattern_in rows row ≡ let_in row r.0 (pattern_in rows child) (pattern_in rows other)
     lets = let_row asked child first other second nine ∙ rw variable
 
-    pub let_stuck : (place : ℕ) (reason : Reason) → bound ≡ Stuck place reason → Creates (Stuck place reason) objects₁ named₁ terms₁
+    pub let_ended : {ended : Ended} {answer : Walked} → bound ≡ Err ended → IsErrAnd answer (λ e. e ≡ ended) → Creates answer objects₁ named₁ terms₁
     unfolding creation
-    let_stuck place reason q = creates_as kinds w lets (after_stuck made _ q)
+    let_ended q raise = creates_as kinds w lets (after_ended made _ q raise)
 
-    pub let_full : (place : ℕ) → bound ≡ NoRoom place → Creates (NoRoom place) objects₁ named₁ terms₁
-    unfolding creation
-    let_full place q = creates_as kinds w lets (after_full made _ q)
-
-    module _ (next : Walk) (went : bound ≡ Next next) where
+    module _ (next : Walk) (went : bound ≡ Ok next) where
       module _ (known : ℕ) (read : known ≡ get_or named₁ r.0 unset) where
         low : r.0 < 64
         low = raw_low word r.0 variable
 
-        pub let_set : (known ≡ unset → ⊥) → Creates (Stuck row Unset) objects₁ named₁ terms₁
+        pub let_set : (known ≡ unset → ⊥) → Creates (Err (Stuck row Unset)) objects₁ named₁ terms₁
         unfolding creation
         let_set is_row = creates_as kinds w lets (after_next made _ went (set_sticks row _ (named_row _ _ _ _ r.0 low read is_row)))
 

@@ -1,4 +1,6 @@
 -- The parts of a tuple, one after the other.
+use Rattle.std.specs.Prelude.{Err, Ok}
+use Rattle.std.specs.Result.{IsErrAnd}
 use Prim.Native.Nat.{ℕ, suc, ◌+◌, ◌<◌, ◌≤◌}
 use mathlib.Core.Path.{◌≡◌, refl, sym, ap, ◌∙◌, fun_ext}
 use mathlib.Core.List.{List, [], ◌∷◌, ◌++◌, append_assoc, append-nil}
@@ -7,14 +9,13 @@ use native.Mathlib.Numerals.{add-one}
 use native.Mathlib.Omega.{arith}
 use lib.ListN.{length, get_or, take, drop, set, length-set}
 use lib.Seq.{drop-cons, drop-length, get_or-take, take-suc-set}
-use Rattle.answers.specs.declared.Reason.{Reason}
 use Rattle.numbers.specs.Kinds.{kind_in}
 use Rattle.numbers.specs.declared.Object.{Object}
 use Rattle.patterns.specs.Pattern.{tuple, Parts, end}
 use Rattle.patterns.specs.Row.{pattern_fields, children_of}
 use Rattle.patterns.specs.Standing.{pattern_in, StandsAt}
 use Rattle.patterns.specs.Tree.{parts_by}
-use Rattle.patterns.proofs.RowLaws.{children_count}
+use Rattle.patterns.proofs.RowLaws.{children_count, child_slot}
 use Rattle.patterns.proofs.StandingLaws.{good_row, slot_low, tuple_row}
 use Rattle.theory.specs.Outcome.{Outcome, done, stuck, room, bind}
 use Rattle.theory.specs.World.{Op}
@@ -24,10 +25,10 @@ use Rattle.theory.specs.Machine.{Stores}
 use Rattle.theory.specs.Rules.{makes, made, create_parts}
 use Rattle.world.specs.Operations.{MakesWord}
 use Rattle.machine.specs.Machine.{Slices, with_objects, with_term_rows, Within}
-use Rattle.walks.specs.Walks.{stores_at, Kept, Comes, sticks, fills, message_and_stores, WalksBy}
+use Rattle.walks.specs.Walks.{Walked, stores_at, Kept, Comes, sticks, fills, message_and_stores, WalksBy}
 use Rattle.walks.specs.declared.Walk.{Walk}
-use Rattle.walks.specs.declared.Walked.{Walked}
-use Rattle.walks.specs.declared.Walked.TheVariants.{Next, Stuck, NoRoom}
+use Rattle.walks.specs.declared.Ended.{Ended}
+use Rattle.walks.proofs.AskedLaws.{raised}
 use Rattle.walks.proofs.ComesLaws.{kept_same, kept_then, comes_after, comes_as}
 use Rattle.walk_values.proofs.ThenLaws.{done_then, next_done, next_more, next_kept, next_within}
 use Rattle.walk_leaves.specs.Creation.{creation, CreatesBy}
@@ -41,6 +42,17 @@ module _ {rows : List ℕ} {row word : ℕ} (asked : StandsAt rows row word) (ei
   pub part_low : (k child : ℕ) → child ≡ get_or (pattern_fields word).slots k 0 → k < n → child < row
   part_low k child is less = rw is (slot_low asked n k (sym counted) less tuple_few)
 
+  -- the children that are walked
+  module _ (slots : List ℕ) (own : slots ≡ (pattern_fields word).slots) where
+    front_is : take n slots ≡ children_of word
+    front_is = rw (own, counted)
+
+    pub front_length : length (take n slots) ≡ n
+    front_length = ap length front_is ∙ children_count word ∙ omega (arith, tuple_few, counted)
+
+    pub front_slot : (k : ℕ) → k < length (take n slots) → get_or (take n slots) k 0 ≡ get_or (pattern_fields word).slots k 0
+    front_slot k inside = rw front_is (child_slot word k (rw front_is at inside))
+
 -- the parts of figure 3 at rows
 unfoldable pub parts_rule : List ℕ → Parts → Stores row_world → Outcome (List ℕ × Stores row_world)
 parts_rule kinds ps n = create_parts row_world (kind_in kinds) ps n
@@ -51,13 +63,10 @@ parts_none kinds n = refl
 
 -- what is stuck or full in the middle is so in all
 module _ {A B : Type 0} {seen : ℕ → Stores row_world → A} {later : ℕ → Stores row_world → B} {used : ℕ} {before : Slices} (f : Outcome A → Outcome B) where
-  strict_sticks : ((row why : ℕ) → f (stuck row why) ≡ stuck row why) → {o : Outcome A} {row : ℕ} {reason : Reason} {after : Slices}
-      → Comes seen used before o (Stuck row reason) after → Comes later used before (f o) (Stuck row reason) after
-  strict_sticks same (sticks {row = row} {why = why} e kept) = rw (same row why) (sticks e kept)
-
-  strict_fills : ((row : ℕ) → f (room row) ≡ room row) → {o : Outcome A} {row : ℕ} {after : Slices}
-      → Comes seen used before o (NoRoom row) after → Comes later used before (f o) (NoRoom row) after
-  strict_fills same (fills {row = row} kept) = rw (same row) (fills kept)
+  strict_ends : ((row why : ℕ) → f (stuck row why) ≡ stuck row why) → ((row : ℕ) → f (room row) ≡ room row) → {o : Outcome A} {ended : Ended} {after : Slices}
+      → Comes seen used before o (Err ended) after → Comes later used before (f o) (Err ended) after
+  strict_ends stuck_so room_so (sticks {row = row} {why = why} e kept) = rw (stuck_so row why) (sticks e kept)
+  strict_ends stuck_so room_so (fills {row = row} kept) = rw (room_so row) (fills kept)
 
 abbrev pub joining : List ℕ → List ℕ × Stores row_world → Outcome (List ℕ × Stores row_world)
 joining front ms = done (front ++ ms.0, ms.1)
@@ -114,7 +123,7 @@ module _ (rows kinds : List ℕ) (word : ℕ) (w₀ : Walk) (before : Slices) wh
       from_part = gathered.same ∙ ap (λ (l : List ℕ). bind (parts_rule kinds (parts_by (pattern_in rows) l) (stores_at w mid)) (joining (take k parts))) next_part
 
       module _ (made : Walked) {after : Slices} (inner : CreatesBy kinds (pattern_in rows child) w mid made after) where
-        pub gathered_more : (next : Walk) → made ≡ Next next → Gathered rows kinds word w₀ before (k + 1) (set parts k next.message.0) next after
+        pub gathered_more : (next : Walk) → made ≡ Ok next → Gathered rows kinds word w₀ before (k + 1) (set parts k next.message.0) next after
         gathered_more next e =
             let m = next.message.0 in
             let joined : (ms : List ℕ × Stores row_world) → take k parts ++ (m ∷ ms.0) ≡ take (k + 1) (set parts k m) ++ ms.0 =
@@ -140,11 +149,8 @@ module _ (rows kinds : List ℕ) (word : ℕ) (w₀ : Walk) (before : Slices) wh
               (comes_as (tuple_rule kinds row t.0 _ (stores_at w₀ before) ∙ ap (finishing kinds row t.0) from_part)
               (comes_after w.used gathered.more gathered.kept h))
 
-          pub tuple_stuck : (place : ℕ) (reason : Reason) → made ≡ Stuck place reason → CreatesBy kinds (pattern_in rows row) w₀ before (Stuck place reason) after
-          tuple_stuck place reason e = ends (strict_sticks (λ o. finishing kinds row t.0 (going o)) (λ row why. refl) (rw e at inner))
-
-          pub tuple_full : (place : ℕ) → made ≡ NoRoom place → CreatesBy kinds (pattern_in rows row) w₀ before (NoRoom place) after
-          tuple_full place e = ends (strict_fills (λ o. finishing kinds row t.0 (going o)) (λ row. refl) (rw e at inner))
+          pub tuple_ended : {ended : Ended} {answer : Walked} → made ≡ Err ended → IsErrAnd answer (λ e. e ≡ ended) → CreatesBy kinds (pattern_in rows row) w₀ before answer after
+          tuple_ended e raise = rw (raised raise) (ends (strict_ends (λ o. finishing kinds row t.0 (going o)) (λ row why. refl) (λ row. refl) (rw e at inner)))
 
     -- all parts are created
     module _ (n : ℕ) (is : n ≡ (pattern_fields word).n) (past : n ≤ k) (t : Object) (variable : t.0 ≡ (pattern_fields word).v) where

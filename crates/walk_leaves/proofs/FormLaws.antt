@@ -1,11 +1,12 @@
 -- A raw variable, a hash and a signature, a way out at a time.
+use Rattle.std.specs.Prelude.{Err, Ok}
+use Rattle.std.specs.Result.{IsErrAnd}
 use Prim.Native.Nat.{ℕ, ◌<◌, ◌≤◌}
 use mathlib.Core.Path.{◌≡◌, ap, ◌∙◌}
 use mathlib.Core.List.{List, []}
 use native.Mathlib.Nat.{le_refl}
 use native.Mathlib.Omega.{arith}
 use lib.ListN.{length, get_or}
-use Rattle.answers.specs.declared.Reason.{Reason}
 use Rattle.answers.specs.declared.Reason.TheVariants.{Unset}
 use Rattle.numbers.specs.Limits.{named_cells}
 use Rattle.numbers.specs.declared.Object.{Object}
@@ -21,14 +22,14 @@ use Rattle.theory.specs.World.{Op}
 use Rattle.theory.specs.World as Voc
 use Rattle.world.specs.Operations.{MakesWord}
 use Rattle.machine.specs.Machine.{Slices, slices, with_objects, with_messages, with_term_rows, with_certificates, Within}
-use Rattle.walks.specs.Walks.{meeting, stores_at, goes, message_and_stores, WalksBy}
+use Rattle.walks.specs.Walks.{Walked, meeting, stores_at, goes, message_and_stores, WalksBy}
 use Rattle.walks.specs.declared.Walk.{Walk}
-use Rattle.walks.specs.declared.Walked.{Walked}
-use Rattle.walks.specs.declared.Walked.TheVariants.{Next, Stuck, NoRoom}
+use Rattle.walks.specs.declared.Ended.{Ended}
+use Rattle.walks.specs.declared.Ended.TheVariants.{Stuck}
 use Rattle.walks.proofs.ComesLaws.{kept_same, reads, unset_sticks, comes_as}
 use Rattle.walks.proofs.StoreLaws.{named_unset, named_row, stores_any}
 use Rattle.walk_values.specs.Values.{key_rule, seals}
-use Rattle.walk_values.proofs.ThenLaws.{next_kept, next_within, after_stuck, after_full, after_next}
+use Rattle.walk_values.proofs.ThenLaws.{next_kept, next_within, after_ended, after_next}
 use Rattle.walk_leaves.specs.Creation.{creation, CreatesBy}
 
 -- the pattern of a row, said otherwise
@@ -44,11 +45,11 @@ module _ (named : List ℕ) (w : Walk) (row : ℕ) (r : Raw) (below : r.0 < name
   abbrev Raws : Walked → Type 0
   Raws answer = (kinds : List ℕ) (x : Slices) → w.used ≤ length x.rows → CreatesBy kinds (raw row r.0) w (with_messages x named) answer (with_messages x named)
 
-  pub raw_unset : message.0 ≡ unset → Raws (Stuck row Unset)
+  pub raw_unset : message.0 ≡ unset → Raws (Err (Stuck row Unset))
   unfolding creation
   raw_unset e kinds x inside = unset_sticks row _ (named_unset _ _ _ _ r.0 below read e)
 
-  pub raw_known : (message.0 ≡ unset → ⊥) → (w' : Walk) → w' ≡ meeting w message → Raws (Next w')
+  pub raw_known : (message.0 ≡ unset → ⊥) → (w' : Walk) → w' ≡ meeting w message → Raws (Ok w')
   unfolding creation
   raw_known is_row w' met kinds x inside =
       rw met (reads row _ (named_row _ _ _ _ r.0 below read is_row)
@@ -61,7 +62,7 @@ module _ (named : List ℕ) (w : Walk) (row : ℕ) (r : Raw) (below : r.0 < name
         (x : Slices) → CreatesBy kinds (hash row h.0 r.0) w (with_term_rows (with_messages (with_objects x objects) named) terms) answer
         (with_term_rows (with_messages (with_objects x objects') named) terms')
 
-    pub hash_unset : message.0 ≡ unset → Hashes (Stuck row Unset) objects terms
+    pub hash_unset : message.0 ≡ unset → Hashes (Err (Stuck row Unset)) objects terms
     unfolding creation
     hash_unset e x = unset_sticks row _ (named_unset _ _ _ _ r.0 below read e)
 
@@ -84,7 +85,7 @@ raw_low word r e = rw e (omega arith)
 module _ (kinds certificates : List ℕ) (w : Walk) (row word : ℕ) (objects terms : List ℕ) (keyed : Walked) (objects₁ terms₁ : List ℕ)
     (key : WalksBy message_and_stores (key_rule kinds row (key_by (pattern_fields word))) w
     (λ x. with_certificates (over objects terms x) certificates) keyed (λ x. with_certificates (over objects₁ terms₁ x) certificates)) where
-  pub key_asks : (next : Walk) → keyed ≡ Next next → Within terms w.used → length objects ≡ 64 → Within terms₁ next.used × (length objects₁ ≡ 64)
+  pub key_asks : (next : Walk) → keyed ≡ Ok next → Within terms w.used → length objects ≡ 64 → Within terms₁ next.used × (length objects₁ ≡ 64)
   key_asks next went within long =
       let h = key (slices [] [] [] []) in
       (next_within h went within, (next_kept h).lengths.objects_length ∙ long)
@@ -103,17 +104,13 @@ module _ (rows kinds certificates named : List ℕ) (w : Walk) (row word : ℕ) 
   pattern : pattern_in rows row ≡ signature row s.0 (key_by (pattern_fields word)) r.0
   pattern = signature_row asked six ∙ rw (variable, second)
 
-  pub sign_stuck : (place : ℕ) (reason : Reason) → keyed ≡ Stuck place reason → Signs (Stuck place reason) objects₁ terms₁
+  pub sign_ended : {ended : Ended} {answer : Walked} → keyed ≡ Err ended → IsErrAnd answer (λ e. e ≡ ended) → Signs answer objects₁ terms₁
   unfolding creation key_rule
-  sign_stuck place reason e = creates_as kinds w pattern (after_stuck (key (whole objects terms)) _ e)
+  sign_ended e raise = creates_as kinds w pattern (after_ended (key (whole objects terms)) _ e raise)
 
-  pub sign_full : (place : ℕ) → keyed ≡ NoRoom place → Signs (NoRoom place) objects₁ terms₁
-  unfolding creation key_rule
-  sign_full place e = creates_as kinds w pattern (after_full (key (whole objects terms)) _ e)
-
-  module _ (next : Walk) (went : keyed ≡ Next next) where
+  module _ (next : Walk) (went : keyed ≡ Ok next) where
     module _ (body : TermRow) (read : body.0 ≡ get_or named r.0 unset) where
-      pub sign_unset : body.0 ≡ unset → Signs (Stuck row Unset) objects₁ terms₁
+      pub sign_unset : body.0 ≡ unset → Signs (Err (Stuck row Unset)) objects₁ terms₁
       unfolding creation key_rule
       sign_unset e = creates_as kinds w pattern (after_next (key (whole objects terms)) _ went (unset_sticks row _ (named_unset _ _ _ _ r.0 (raw_low word r.0 second) read e)))
 

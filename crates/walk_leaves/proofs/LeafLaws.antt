@@ -16,9 +16,8 @@ use Rattle.theory.specs.RowModel.{row_world}
 use Rattle.theory.specs.Rules.{makes, made, create_key}
 use Rattle.world.specs.Operations.{MakesWord}
 use Rattle.machine.specs.Machine.{Slices, slices, with_objects, with_messages, with_term_rows, with_certificates, Within}
-use Rattle.walks.specs.Walks.{message_and_stores, WalksBy}
+use Rattle.walks.specs.Walks.{Walked, message_and_stores, WalksBy}
 use Rattle.walks.specs.declared.Walk.{Walk}
-use Rattle.walks.specs.declared.Walked.{Walked}
 use Rattle.walk_values.specs.Values.{key_rule}
 use Rattle.walk_leaves.specs.Creation.{creation, CreatesBy}
 use Rattle.walk_leaves.proofs.FormLaws.{creates_as, over}

@@ -7,9 +7,8 @@ use Rattle.theory.specs.RowModel.{row_world}
 use Rattle.theory.specs.Machine.{Stores}
 use Rattle.theory.specs.Rules.{create}
 use Rattle.machine.specs.Machine.{Slices}
-use Rattle.walks.specs.Walks.{stores_at, Comes, message_and_stores}
+use Rattle.walks.specs.Walks.{Walked, stores_at, Comes, message_and_stores}
 use Rattle.walks.specs.declared.Walk.{Walk}
-use Rattle.walks.specs.declared.Walked.{Walked}
 
 -- figure 3 at rows
 unfoldable pub creation : List ℕ → Pattern → Stores row_world → Outcome (ℕ × Stores row_world)

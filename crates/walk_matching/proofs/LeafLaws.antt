@@ -4,6 +4,7 @@ use mathlib.Core.Path.{◌≡◌, refl, sym, ap, ◌∙◌}
 use mathlib.Core.List.{List}
 use native.Mathlib.Omega.{arith}
 use lib.ListN.{length}
+use Rattle.numbers.specs.Limits.{variables, named_cells}
 use Rattle.numbers.specs.declared.Object.{Object}
 use Rattle.numbers.specs.declared.Raw.{Raw}
 use Rattle.patterns.specs.Pattern.{Pattern, object, raw, constant, opposite, key_of, signature, hash}
@@ -13,39 +14,34 @@ use Rattle.patterns.specs.Tree.{key_by}
 use Rattle.patterns.proofs.StandingLaws.{good_row, signature_key, object_row, raw_row, constant_row, opposite_row, key_of_row, signature_row, hash_row, above_four, seven_left, variable_low}
 use Rattle.patterns.proofs.RowLaws.{raw_below}
 use Rattle.machine.specs.Machine.{Slices, slices, with_objects, with_messages, with_term_rows, with_certificates, Within}
-use Rattle.walks.specs.Walks.{stores_at, Comes, stores_alone, WalksBy}
+use Rattle.walks.specs.Walks.{Walked, stores_at, Comes, stores_alone, WalksBy}
 use Rattle.walks.specs.declared.Walk.{Walk}
-use Rattle.walks.specs.declared.Walked.{Walked}
 use Rattle.walks.proofs.ComesLaws.{comes_as}
 use Rattle.leaf_matching.specs.Stages.{WalksInside}
-use Rattle.leaf_matching.specs.Matched.{WalkReady, meets, WalkMatches}
+use Rattle.leaf_matching.specs.Matched.{meets, WalkMatches}
 
 -- what the forms ask for
-module _ {objects named rows certificates : List ℕ} {used : ℕ} (ready : WalkReady used (slices objects named rows certificates)) where
-  pub ready_within : Within rows used
-  ready_within = ready.within
+module _ (objects : List ℕ) (long : length objects ≡ variables) (word : ℕ) where
+  pub variable_inside : (v : Object) → v.0 ≡ (pattern_fields word).v → v.0 < length objects
+  variable_inside v e = omega (arith, variable_low word v.0 e, long)
 
-  module _ (word : ℕ) where
-    pub variable_inside : (v : Object) → v.0 ≡ (pattern_fields word).v → v.0 < length objects
-    variable_inside v e = omega (arith, variable_low word v.0 e, ready.objects)
+  pub field_inside : (pattern_fields word).v < length objects
+  field_inside = omega (arith, variable_low word (pattern_fields word).v refl, long)
 
-    pub raw_inside : (r : Raw) → r.0 ≡ (pattern_fields word).r → r.0 < length named
-    raw_inside r e = omega (arith, raw_below word, e, ready.named)
+  module _ {patterns : List ℕ} {row tag : ℕ} (asked : StandsAt patterns row word) (read : tag ≡ (pattern_fields word).tag) (six : tag ≡ 6) where
+    pub key_inside : (pattern_fields word).x < length objects
+    key_inside = omega (arith, (signature_key asked (sym read ∙ six)).1, long)
 
-    pub field_inside : (pattern_fields word).v < length objects
-    field_inside = omega (arith, variable_low word (pattern_fields word).v refl, ready.objects)
+pub raw_inside : (named : List ℕ) → length named ≡ named_cells → (word : ℕ) (r : Raw) → r.0 ≡ (pattern_fields word).r → r.0 < length named
+raw_inside named long word r e = omega (arith, raw_below word, e, long)
 
-    module _ {patterns : List ℕ} {row tag : ℕ} (asked : StandsAt patterns row word) (read : tag ≡ (pattern_fields word).tag) (six : tag ≡ 6) where
-      pub key_inside : (pattern_fields word).x < length objects
-      key_inside = omega (arith, (signature_key asked (sym read ∙ six)).1, ready.objects)
-
-      pub key_form_low : (pattern_fields word).f < 3
-      key_form_low = (signature_key asked (sym read ∙ six)).0
+pub key_form_low : {word : ℕ} {patterns : List ℕ} {row tag : ℕ} → StandsAt patterns row word → tag ≡ (pattern_fields word).tag → tag ≡ 6 → (pattern_fields word).f < 3
+key_form_low asked read six = (signature_key asked (sym read ∙ six)).0
 
 pub raw_named : (word : ℕ) (r : Raw) → r.0 ≡ (pattern_fields word).r → r.0 < 64
 raw_named word r e = rw e (raw_below word)
 
-pub ruleset leaf-asks = (ready_within, variable_inside, raw_inside, field_inside, key_inside, key_form_low, raw_named)
+pub ruleset leaf-asks = (variable_inside, raw_inside, field_inside, key_inside, key_form_low, raw_named)
 
 module _ (patterns : List ℕ) (kind : ℕ → ℕ) (certificates rows objects named : List ℕ) (row word : ℕ) (w : Walk) (asked : StandsAt patterns row word) (tag : ℕ)
     (read : tag ≡ (pattern_fields word).tag) where
@@ -95,10 +91,10 @@ module _ (patterns : List ℕ) (kind : ℕ → ℕ) (certificates rows objects n
         let seven = seven_left (pattern_fields word).tag (omega arith) low leaf.encryption (λ h. n₆ (read ∙ h)) leaf.tuple leaf.let_in in
         as_form (hash row v.0 r.0) (hash_row asked seven ∙ rw (variable, second)) (walked before)
 
-  pub leaf_raw : {answer : Walked} {named' : List ℕ} (r : Raw) → r.0 ≡ (pattern_fields word).r → tag ≡ 1 → WalkReady w.used before
+  pub leaf_raw : {answer : Walked} {named' : List ℕ} (r : Raw) → r.0 ≡ (pattern_fields word).r → tag ≡ 1 → Within rows w.used
       → ((kind : ℕ → ℕ) → WalksInside stores_alone (meets kind (raw row r.0) w) w (λ x. with_messages x named) answer (λ x. with_messages x named'))
       → Matches answer objects named' rows
-  leaf_raw r second h ready walked = as_form (raw row r.0) (raw_row asked (sym read ∙ h) ∙ rw second) ((walked kind).walks before ready.within.used_rows_lem)
+  leaf_raw r second h within walked = as_form (raw row r.0) (raw_row asked (sym read ∙ h) ∙ rw second) ((walked kind).walks before within.used_rows_lem)
 
   pub leaf_signature : {answer : Walked} {objects' rows' : List ℕ} → tag ≡ 6
       → WalksBy stores_alone (meets kind (signature row (pattern_fields word).v (key_by (pattern_fields word)) (pattern_fields word).r) w) w

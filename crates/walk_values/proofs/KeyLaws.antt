@@ -1,18 +1,15 @@
 -- A variable read or created, and a key of each form, a way out at a time.
 use Prim.Native.Nat.{ℕ, ◌<◌}
 use mathlib.Core.Path.{◌≡◌, refl, sym, ap, ◌∙◌}
-use mathlib.Core.Bool.{Bool, true, false, not, ◌||◌, or_assoc, or-false}
-use mathlib.Core.Option.{Option, none, some}
+use mathlib.Core.Bool.{Bool, true, false, not}
+use Rattle.std.specs.Prelude.{Option, None, Some, Err, Ok}
+use Rattle.std.specs.Result.{IsErrAnd}
 use mathlib.Core.List.{List, []}
 use native.Mathlib.Nat.{le_refl}
 use native.Mathlib.Decide.{dec_lt}
 use native.Mathlib.Omega.{arith}
 use borrow.Author.Tests.{ne_eqb, not-true, not-false}
-use lib.Dec.{eqb}
 use lib.ListN.{length, get_or}
-use Rattle.word.specs.Lowest.{one_of}
-use Rattle.word.proofs.TestLaws.{eqb_swap}
-use Rattle.answers.specs.declared.Reason.{Reason}
 use Rattle.answers.specs.declared.Reason.TheVariants.{Unset}
 use Rattle.numbers.specs.Kinds.{kind_in}
 use Rattle.numbers.specs.declared.Object.{Object}
@@ -22,28 +19,23 @@ use Rattle.patterns.specs.Pattern.{Key, plain_key, op_key, certified_key}
 use Rattle.patterns.specs.Row.{pattern_fields}
 use Rattle.patterns.specs.Tree.{key_by}
 use Rattle.theory.specs.World.{op, creatable}
+use Rattle.layout.proofs.KindLaws.{creatable_is}
 use Rattle.theory.specs.RowModel.{row_world}
 use Rattle.theory.specs.Machine.{Stores}
 use Rattle.theory.specs.Rules.{makes, made, get_variable, create_key}
 use Rattle.world.specs.Operations.{NamesAt}
-use Rattle.world.specs.declared.Named.{Named}
-use Rattle.world.specs.declared.Named.TheVariants.{Word, NoName}
 use Rattle.calls.specs.Run.{state_over}
 use Rattle.machine.specs.Machine.{Slices, slices, with_objects, with_term_rows, with_certificates, Within}
 use Rattle.machine.proofs.AskLaws.{named_none}
 use Rattle.machine.proofs.StateLaws.{object_unset, object_row}
-use Rattle.walks.specs.Walks.{meeting, stores_at, Comes, goes, sticks, message_and_stores, WalksBy, keeps}
+use Rattle.walks.specs.Walks.{Walked, meeting, stores_at, Comes, goes, sticks, message_and_stores, WalksBy, keeps}
 use Rattle.walks.specs.declared.Walk.{Walk}
-use Rattle.walks.specs.declared.Walked.{Walked}
-use Rattle.walks.specs.declared.Walked.TheVariants.{Next, Stuck, NoRoom}
+use Rattle.walks.specs.declared.Ended.{Ended}
+use Rattle.walks.specs.declared.Ended.TheVariants.{Stuck, NoRoom}
 use Rattle.walks.proofs.ComesLaws.{kept_same, full_fills, comes_as}
 use Rattle.walks.proofs.StoreLaws.{stores_any}
 use Rattle.walk_values.specs.Values.{key_rule, names}
-use Rattle.walk_values.proofs.ThenLaws.{next_kept, next_within, after_stuck, after_full, after_next}
-
-pub creatable_kinds : (kind : ℕ) → ((eqb kind 2 || eqb kind 5) || eqb kind 6) ≡ creatable kind
-unfolding creatable one_of
-creatable_kinds kind = rw (eqb_swap kind 2, eqb_swap kind 5, eqb_swap kind 6, or_assoc, or-false)
+use Rattle.walk_values.proofs.ThenLaws.{next_kept, next_within, after_ended, after_next}
 
 pub creatable_small : (kind : ℕ) (b : Bool) → b ≡ creatable kind → not b ≡ false → kind < 16
 creatable_small kind b says e = go (dec_lt kind 16)
@@ -51,8 +43,8 @@ creatable_small kind b says e = go (dec_lt kind 16)
     go : Dec (kind < 16) → kind < 16
     go (yes less) = less
     go (no more) =
-        let none : creatable kind ≡ false = sym (creatable_kinds kind) ∙ rw (ne_eqb kind 2 (λ q. omega arith), ne_eqb kind 5 (λ q. omega arith), ne_eqb kind 6 (λ q. omega arith)) in
-        let clash : true ≡ false = sym (not-false b e) ∙ says ∙ none in
+        let other : creatable kind ≡ false = sym (creatable_is kind) ∙ rw (ne_eqb kind 2 (λ q. omega arith), ne_eqb kind 5 (λ q. omega arith), ne_eqb kind 6 (λ q. omega arith)) in
+        let clash : true ≡ false = sym (not-false b e) ∙ says ∙ other in
         absurd (let z : ◌≡◌ {A = ℕ} 0 1 = cc in omega arith)
 
 -- the slices of a function that sees objects and rows
@@ -60,14 +52,14 @@ abbrev over : List ℕ → List ℕ → Slices → Slices
 over objects rows x = with_term_rows (with_objects x objects) rows
 
 -- a new name
-module _ (w : Walk) (rows objects : List ℕ) (row : ℕ) (v : Object) (kind : ℕ) (says : Named) (named : NamesAt kind w.counter says) where
+module _ (w : Walk) (rows objects : List ℕ) (row : ℕ) (v : Object) (kind : ℕ) (says : Option (ℕ × ℕ)) (named : NamesAt kind w.counter says) where
   abbrev Names : Walked → List ℕ → List ℕ → Type 0
   Names answer objects' rows' = WalksBy message_and_stores (names row v.0 kind) w (λ x. over objects rows x) answer (λ x. over objects' rows' x)
 
-  pub name_none : says ≡ NoName → Names (NoRoom row) objects rows
+  pub name_none : says ≡ None → Names (Err (NoRoom row)) objects rows
   name_none e x = full_fills row _ (named_none _ _ _ _ named e) kept_same
 
-  pub name_kept : (word counter : ℕ) → says ≡ Word word counter → {answer : Walked} {objects' rows' : List ℕ}
+  pub name_kept : (word counter : ℕ) → says ≡ Some (word, counter) → {answer : Walked} {objects' rows' : List ℕ}
       → WalksBy message_and_stores (keeps row v.0 word) (record { message = w.message; used = w.used; counter = counter })
       (λ x. over objects rows x) answer (λ x. over objects' rows' x) → Names answer objects' rows'
   unfolding state_over
@@ -77,16 +69,16 @@ pub ruleset name-ways = (name_none, name_kept)
 
 -- a variable
 module _ {used : ℕ} {before after : Slices} {answer : Walked} (kind : ℕ → ℕ) (row v : ℕ) (n : Stores row_world) where
-  gives_known : {o : Option ℕ} {m : ℕ} → o ≡ some m
+  gives_known : {o : Option ℕ} {m : ℕ} → o ≡ Some m
       → Comes message_and_stores used before (made row_world kind m n) answer after → Comes message_and_stores used before (get_variable row_world kind row v o n) answer after
   gives_known e h = rw e h
 
-  gives_created : {o : Option ℕ} → o ≡ none → creatable (kind v) ≡ true
+  gives_created : {o : Option ℕ} → o ≡ None → creatable (kind v) ≡ true
       → Comes message_and_stores used before (names row v (kind v) n) answer after → Comes message_and_stores used before (get_variable row_world kind row v o n) answer after
   gives_created e can h = rw (e, can) h
 
 module _ {used : ℕ} {before : Slices} (kind : ℕ → ℕ) (row v : ℕ) (n : Stores row_world) where
-  gives_not : {o : Option ℕ} → o ≡ none → creatable (kind v) ≡ false → Comes message_and_stores used before (get_variable row_world kind row v o n) (Stuck row Unset) before
+  gives_not : {o : Option ℕ} → o ≡ None → creatable (kind v) ≡ false → Comes message_and_stores used before (get_variable row_world kind row v o n) (Err (Stuck row Unset)) before
   gives_not e cannot = rw (e, cannot) (sticks refl kept_same)
 
 module _ (w : Walk) (kinds rows objects : List ℕ) (row : ℕ) (v : Object) (known : TermRow) (read : known.0 ≡ get_or objects v.0 unset) where
@@ -94,30 +86,30 @@ module _ (w : Walk) (kinds rows objects : List ℕ) (row : ℕ) (v : Object) (kn
   Variables answer objects' rows' =
       WalksBy message_and_stores (key_rule kinds row (plain_key v.0)) w (λ x. over objects rows x) answer (λ x. over objects' rows' x)
 
-  pub variable_known : (known.0 ≡ unset → ⊥) → Within rows w.used → (w' : Walk) → w' ≡ meeting w known → Variables (Next w') objects rows
+  pub variable_known : (known.0 ≡ unset → ⊥) → Within rows w.used → (w' : Walk) → w' ≡ meeting w known → Variables (Ok w') objects rows
   unfolding key_rule
   variable_known is_row within w' met x =
       rw met (gives_known (kind_in kinds) row v.0 _ (object_row _ _ _ _ v.0 read is_row)
       (goes (ap (message_and_stores known.0) (stores_any w.message.0 known.0 _ _ _))
       (record { message = is_row; more = le_refl w.used; inside = within.used_rows_lem }) kept_same))
 
-  module _ (none : known.0 ≡ unset) (kind : ℕ) (own : kind ≡ kind_in kinds v.0) (can : Bool) (says : can ≡ creatable kind) where
-    pub variable_not : not can ≡ true → Variables (Stuck row Unset) objects rows
+  module _ (empty : known.0 ≡ unset) (kind : ℕ) (own : kind ≡ kind_in kinds v.0) (can : Bool) (says : can ≡ creatable kind) where
+    pub variable_not : not can ≡ true → Variables (Err (Stuck row Unset)) objects rows
     unfolding key_rule
-    variable_not e x = gives_not (kind_in kinds) row v.0 _ (object_unset _ _ _ _ v.0 read none) (rw (← own) (sym says ∙ not-true can e))
+    variable_not e x = gives_not (kind_in kinds) row v.0 _ (object_unset _ _ _ _ v.0 read empty) (rw (← own) (sym says ∙ not-true can e))
 
     pub variable_created : not can ≡ false → {answer : Walked} {objects' rows' : List ℕ}
         → WalksBy message_and_stores (names row v.0 kind) w (λ x. over objects rows x) answer (λ x. over objects' rows' x) → Variables answer objects' rows'
     unfolding key_rule
     variable_created e named x =
-        gives_created (kind_in kinds) row v.0 _ (object_unset _ _ _ _ v.0 read none) (rw (← own) (sym says ∙ not-false can e)) (rw own at (named x))
+        gives_created (kind_in kinds) row v.0 _ (object_unset _ _ _ _ v.0 read empty) (rw (← own) (sym says ∙ not-false can e)) (rw own at (named x))
 
 pub ruleset variable-ways = (variable_known, variable_not, variable_created)
 
 -- k : op(K)
 module _ (w : Walk) (kinds rows objects : List ℕ) (row : ℕ) (public private : Object) (got : Walked) (rows' objects' : List ℕ)
     (first : WalksBy message_and_stores (key_rule kinds row (plain_key private.0)) w (λ x. over objects rows x) got (λ x. over objects' rows' x)) where
-  pub opposite_asks : (next : Walk) → got ≡ Next next → Within rows w.used × ((public.0 < length objects) × (private.0 < length objects))
+  pub opposite_asks : (next : Walk) → got ≡ Ok next → Within rows w.used × ((public.0 < length objects) × (private.0 < length objects))
       → Within rows' next.used × (public.0 < length objects')
   opposite_asks next e asked =
       let h = first (slices [] [] [] []) in
@@ -127,21 +119,15 @@ module _ (w : Walk) (kinds rows objects : List ℕ) (row : ℕ) (public private 
   Opposes answer objects'' rows'' =
       WalksBy message_and_stores (key_rule kinds row (op_key public.0 private.0)) w (λ x. over objects rows x) answer (λ x. over objects'' rows'' x)
 
-  pub opposite_stuck : (place : ℕ) (reason : Reason) → got ≡ Stuck place reason → Opposes (Stuck place reason) objects' rows'
+  pub opposite_ended : {ended : Ended} {answer : Walked} → got ≡ Err ended → IsErrAnd answer (λ e. e ≡ ended) → Opposes answer objects' rows'
   unfolding key_rule
-  opposite_stuck place reason e x = after_stuck (first x) _ e
+  opposite_ended e raise x = after_ended (first x) _ e raise
 
-  pub opposite_full : (place : ℕ) → got ≡ NoRoom place → Opposes (NoRoom place) objects' rows'
-  unfolding key_rule
-  opposite_full place e x = after_full (first x) _ e
-
-  pub opposite_made : (next : Walk) → got ≡ Next next → {answer : Walked} {objects'' rows'' : List ℕ}
+  pub opposite_made : (next : Walk) → got ≡ Ok next → {answer : Walked} {objects'' rows'' : List ℕ}
       → ((kind : ℕ → ℕ) → WalksBy message_and_stores (λ n. makes row_world kind row public.0 (op next.message.0) n (made row_world kind)) next
       (λ x. over objects' rows' x) answer (λ x. over objects'' rows'' x)) → Opposes answer objects'' rows''
   unfolding key_rule
   opposite_made next e opposed x = after_next (first x) _ e (opposed (kind_in kinds) x)
-
-pub ruleset opposite-ways = (opposite_stuck, opposite_full)
 
 -- a key by its form
 abbrev with_all : List ℕ → List ℕ → List ℕ → Slices → Slices

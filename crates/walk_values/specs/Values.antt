@@ -1,6 +1,6 @@
 -- How a creation gives a variable its value.
 use Rattle.std.specs.Prelude.{ℕ, List}
-use Rattle.std.proofs.Math.Option.{some}
+use Rattle.std.specs.Prelude.{Some}
 use Rattle.numbers.specs.Kinds.{kind_in}
 use Rattle.patterns.specs.Pattern.{Key}
 use Rattle.theory.specs.Outcome.{Outcome, done, bind, at}
@@ -20,4 +20,4 @@ names row v kind n = bind (at row (row_world.apply (create kind) n.memory)) λ r
 -- E, S and H: what is made is decoded into the variable
 unfoldable pub seals : List ℕ → ℕ → ℕ → Op ℕ → Stores row_world → Outcome (ℕ × Stores row_world)
 seals kinds row v o n =
-    bind (at row (row_world.apply o n.memory)) λ r. decodes row_world (kind_in kinds) row v (some r.0) (set_memory row_world n r.1) (made row_world (kind_in kinds))
+    bind (at row (row_world.apply o n.memory)) λ r. decodes row_world (kind_in kinds) row v (Some r.0) (set_memory row_world n r.1) (made row_world (kind_in kinds))

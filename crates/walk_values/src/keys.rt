@@ -4,28 +4,19 @@ ghost use Rattle.numbers.specs.Limits.{variables};
 ghost use Rattle.patterns.specs.Pattern.{plain_key, op_key};
 ghost use Rattle.patterns.specs.Row.{pattern_fields};
 ghost use Rattle.patterns.specs.Tree.{key_by};
-ghost use Rattle.theory.specs.World.{creatable};
 ghost use Rattle.machine.specs.Machine.{with_objects, with_term_rows, with_certificates, Within};
 ghost use Rattle.walks.specs.Walks.{message_and_stores, WalksBy};
 ghost use Rattle.walk_values.specs.Values.{key_rule, names};
 
 use answers::Reason;
+use layout::creatable_kind;
 use machine::cells::{kind_at, object_at};
 use numbers::Object;
-use numbers::kinds::{NONCE, PRIVATE_KEY, SHARED_KEY};
 use patterns::forms as form;
 use stores::cells::UNSET;
 use walks::keys::{certified_key, opposite_key};
 use walks::making::keep;
-use walks::{Walk, Walked};
-use world::Named;
-
-// Whether a kind is one of which there are new objects.
-fn creatable(kind: u8) -> bool
-    ensures { result ≡ creatable kind }
-{
-    (kind == NONCE) | (kind == PRIVATE_KEY) | (kind == SHARED_KEY)
-}
+use walks::{Ended, Walk, Walked};
 
 // A new name becomes the value of v. The counter is looked at before the row.
 fn create_name(
@@ -43,17 +34,10 @@ fn create_name(
         (λ x. with_term_rows (with_objects x objects.old) terms.old) result
         (λ x. with_term_rows (with_objects x objects.new) terms.new) }
 {
-    let counter = walk.counter;
-    let Named::Word(word, counter) = world::create(kind, counter) else {
-        return Walked::NoRoom(row);
+    let Some((word, counter)) = world::create(kind, walk.counter) else {
+        return Err(Ended::NoRoom(row));
     };
-    let message = walk.message;
-    let naming = Walk {
-        message: message,
-        used: walk.used,
-        counter: counter,
-    };
-    keep(terms, objects, naming, row, v, word)
+    keep(terms, objects, Walk { counter, ..walk }, row, v, word)
 }
 
 // The value of a variable comes into hand; one that has none is created, where it can be.
@@ -73,11 +57,11 @@ pub fn get_variable(
 {
     let known = object_at(objects, v);
     if known.0 != UNSET {
-        return Walked::Next(walk.meeting(known));
+        return Ok(walk.meeting(known));
     }
     let kind = kind_at(kinds, v);
-    if !creatable(kind) {
-        return Walked::Stuck(row, Reason::Unset);
+    if !creatable_kind(kind) {
+        return Err(Ended::Stuck(row, Reason::Unset));
     }
     create_name(terms, objects, walk, row, v, kind)
 }
@@ -98,15 +82,8 @@ pub fn create_opposite(
         (λ x. with_term_rows (with_objects x objects.old) terms.old) result
         (λ x. with_term_rows (with_objects x objects.new) terms.new) }
 {
-    let got = get_variable(kinds, terms, objects, walk, row, private);
-    match got {
-        Walked::Next(next) => {
-            let key = next.message;
-            opposite_key(terms, objects, next, row, public, key)
-        }
-        Walked::Stuck(place, reason) => Walked::Stuck(place, reason),
-        Walked::NoRoom(place) => Walked::NoRoom(place),
-    }
+    let next = get_variable(kinds, terms, objects, walk, row, private)?;
+    opposite_key(terms, objects, next, row, public, next.message)
 }
 
 // The key of E and S, by its form.
@@ -127,8 +104,7 @@ pub fn create_key(
         (λ x. with_certificates (with_term_rows (with_objects x objects.new) terms.new) certificates.now) }
 {
     let key = patterns::key(word);
-    let by = patterns::key_form(word);
-    match by {
+    match patterns::key_form(word) {
         form::PLAIN_KEY => get_variable(kinds, terms, objects, walk, row, key),
         form::OPPOSITE_KEY => {
             create_opposite(kinds, terms, objects, walk, row, key, patterns::y(word))

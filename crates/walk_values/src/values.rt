@@ -13,7 +13,7 @@ use machine::cells::object_at;
 use numbers::Object;
 use stores::cells::UNSET;
 use walks::making::{decode, keep, make};
-use walks::{Walk, Walked};
+use walks::{Ended, Walk, Walked};
 
 // As it is made: a byte, a tuple.
 pub fn make_value(
@@ -32,7 +32,7 @@ pub fn make_value(
 {
     let known = object_at(objects, v);
     if known.0 != UNSET {
-        return Walked::Stuck(row, Reason::Unset);
+        return Err(Ended::Stuck(row, Reason::Unset));
     }
     keep(terms, objects, walk, row, v, word)
 }
@@ -53,10 +53,6 @@ pub fn seal(
         (λ x. with_term_rows (with_objects x objects.old) terms.old) result
         (λ x. with_term_rows (with_objects x objects.new) terms.new) }
 {
-    let found = make(terms, walk, row, word);
-    match found {
-        Walked::Next(next) => decode(kinds, terms, objects, next, row, v),
-        Walked::Stuck(place, reason) => Walked::Stuck(place, reason),
-        Walked::NoRoom(place) => Walked::NoRoom(place),
-    }
+    let next = make(terms, walk, row, word)?;
+    decode(kinds, terms, objects, next, row, v)
 }

@@ -1,7 +1,7 @@
 -- How a walk comes to what a rule comes to: a read, what an operation answers, and one rule after another.
 use Prim.Native.Nat.{ℕ, ◌≤◌}
 use mathlib.Core.Path.{◌≡◌, refl, sym, ap, ◌∙◌}
-use mathlib.Core.Option.{Option, none, some}
+use Rattle.std.specs.Prelude.{Option, None, Some, Err, Ok}
 use mathlib.Core.List.{List}
 use native.Mathlib.Nat.{le_trans}
 use lib.ListN.{take}
@@ -15,20 +15,20 @@ use Rattle.theory.specs.RowModel.{row_world}
 use Rattle.theory.specs.Machine.{Stores}
 use Rattle.machine.specs.Machine.{Slices}
 use Rattle.machine.proofs.AgreeLaws.{same_lengths}
-use Rattle.walks.specs.Walks.{stores_at, Kept, Comes, goes, sticks, fills}
+use Rattle.walks.specs.Walks.{Walked, stores_at, Kept, Comes, goes, sticks, fills}
 use Rattle.walks.specs.declared.Walk.{Walk}
-use Rattle.walks.specs.declared.Walked.{Walked}
-use Rattle.walks.specs.declared.Walked.TheVariants.{Next, Stuck, NoRoom}
+use Rattle.walks.specs.declared.Ended.{Ended}
+use Rattle.walks.specs.declared.Ended.TheVariants.{Stuck, NoRoom}
 
 pub kept_same : {used : ℕ} {x : Slices} → Kept used x x
 kept_same {x = x} = record { lengths = same_lengths x; rows = refl }
 
 module _ {A : Type 0} {seen : ℕ → Stores row_world → A} {used : ℕ} {before after : Slices} {answer : Walked} (row : ℕ) where
   -- a cell that is set, and one that is not
-  pub reads : {o : Option ℕ} {m : ℕ} (f : ℕ → Outcome A) → o ≡ some m → Comes seen used before (f m) answer after → Comes seen used before (bind (need row o) f) answer after
+  pub reads : {o : Option ℕ} {m : ℕ} (f : ℕ → Outcome A) → o ≡ Some m → Comes seen used before (f m) answer after → Comes seen used before (bind (need row o) f) answer after
   reads f e h = rw e h
 
-  pub frees : {o : Option ℕ} (f : Unit {0} → Outcome A) → o ≡ none → Comes seen used before (f tt) answer after → Comes seen used before (bind (free row o) f) answer after
+  pub frees : {o : Option ℕ} (f : Unit {0} → Outcome A) → o ≡ None → Comes seen used before (f tt) answer after → Comes seen used before (bind (free row o) f) answer after
   frees f e h = rw e h
 
   -- an operation that gives a value
@@ -41,18 +41,18 @@ module _ {A : Type 0} {seen : ℕ → Stores row_world → A} {used : ℕ} {befo
   answers_as f e h = rw e h
 
 module _ {A : Type 0} {seen : ℕ → Stores row_world → A} {used : ℕ} {before : Slices} (row : ℕ) where
-  pub unset_sticks : {o : Option ℕ} (f : ℕ → Outcome A) → o ≡ none → Comes seen used before (bind (need row o) f) (Stuck row Unset) before
+  pub unset_sticks : {o : Option ℕ} (f : ℕ → Outcome A) → o ≡ None → Comes seen used before (bind (need row o) f) (Err (Stuck row Unset)) before
   unset_sticks f e = rw e (sticks refl kept_same)
 
-  pub set_sticks : {o : Option ℕ} {m : ℕ} (f : Unit {0} → Outcome A) → o ≡ some m → Comes seen used before (bind (free row o) f) (Stuck row Unset) before
+  pub set_sticks : {o : Option ℕ} {m : ℕ} (f : Unit {0} → Outcome A) → o ≡ Some m → Comes seen used before (bind (free row o) f) (Err (Stuck row Unset)) before
   set_sticks f e = rw e (sticks refl kept_same)
 
   pub not_sticks : {B : Type 0} {result : Answer B} {reason : Reason} (f : B → Outcome A)
-      → result ≡ not (reason_number reason) → Comes seen used before (bind (at row result) f) (Stuck row reason) before
+      → result ≡ not (reason_number reason) → Comes seen used before (bind (at row result) f) (Err (Stuck row reason)) before
   not_sticks {reason = reason} f e = rw e (sticks (reason_known reason) kept_same)
 
   pub full_fills : {B : Type 0} {result : Answer B} {after : Slices} (f : B → Outcome A)
-      → result ≡ full → Kept used before after → Comes seen used before (bind (at row result) f) (NoRoom row) after
+      → result ≡ full → Kept used before after → Comes seen used before (bind (at row result) f) (Err (NoRoom row)) after
   full_fills f e kept = rw e (fills kept)
 
 -- less is kept of what more is kept of
@@ -79,17 +79,14 @@ comes_after more less kept (fills k) = fills (kept_then less kept k)
 
 -- one rule after another: what the first comes to is where the second begins
 pub then_goes : {A B : Type 0} {seen : ℕ → Stores row_world → A} {later : ℕ → Stores row_world → B} {used : ℕ} {before mid after : Slices} {o : Outcome A} (f : A → Outcome B)
-    {w : Walk} {answer : Walked} → Comes seen used before o (Next w) mid
+    {w : Walk} {answer : Walked} → Comes seen used before o (Ok w) mid
     → Comes later w.used mid (f (seen w.message.0 (stores_at w mid))) answer after → Comes later used before (bind o f) answer after
 then_goes f {w = w} (goes e on kept) h = comes_after w.used on.more kept (rw e at h)
 
-pub then_sticks : {A B : Type 0} {seen : ℕ → Stores row_world → A} {later : ℕ → Stores row_world → B} {used : ℕ} {before mid : Slices} {o : Outcome A} (f : A → Outcome B)
-    {row : ℕ} {reason : Reason} → Comes seen used before o (Stuck row reason) mid → Comes later used before (bind o f) (Stuck row reason) mid
-then_sticks f (sticks e kept) = sticks e kept
-
-pub then_fills : {A B : Type 0} {seen : ℕ → Stores row_world → A} {later : ℕ → Stores row_world → B} {used : ℕ} {before mid : Slices} {o : Outcome A} (f : A → Outcome B)
-    {row : ℕ} → Comes seen used before o (NoRoom row) mid → Comes later used before (bind o f) (NoRoom row) mid
-then_fills f (fills kept) = fills kept
+pub then_ends : {A B : Type 0} {seen : ℕ → Stores row_world → A} {later : ℕ → Stores row_world → B} {used : ℕ} {before mid : Slices} {o : Outcome A} (f : A → Outcome B)
+    {ended : Ended} → Comes seen used before o (Err ended) mid → Comes later used before (bind o f) (Err ended) mid
+then_ends f (sticks e kept) = sticks e kept
+then_ends f (fills kept) = fills kept
 
 -- the same rule, said otherwise
 pub comes_as : {A : Type 0} {seen : ℕ → Stores row_world → A} {used : ℕ} {before after : Slices} {o p : Outcome A} {answer : Walked}

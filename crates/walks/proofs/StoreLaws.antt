@@ -1,7 +1,7 @@
 -- The stores of a walk, read and written.
 use Prim.Native.Nat.{ℕ, ◌<◌}
 use mathlib.Core.Path.{◌≡◌, refl}
-use mathlib.Core.Option.{none, some}
+use Rattle.std.specs.Prelude.{None, Some}
 use mathlib.Core.List.{List}
 use native.Mathlib.Omega.{arith}
 use lib.ListN.{length, get_or, set, take, length-take}
@@ -19,11 +19,11 @@ module _ (accumulator : ℕ) (objects messages : List ℕ) (table : Table) where
 
   -- a named cell
   module _ (r : ℕ) (below : r < named_cells) {row : ℕ} (read : row ≡ get_or messages r unset) where
-    pub named_unset : row ≡ unset → stores.ρ r ≡ none
+    pub named_unset : row ≡ unset → stores.ρ r ≡ None
     unfolding state_over store_of
     named_unset e = rw (get_or-take named_cells messages r unset below, ← read) (held_unset row e)
 
-    pub named_row : (row ≡ unset → ⊥) → stores.ρ r ≡ some row
+    pub named_row : (row ≡ unset → ⊥) → stores.ρ r ≡ Some row
     unfolding state_over store_of
     named_row is_row = rw (get_or-take named_cells messages r unset below, ← read) (held_set row is_row)
 

@@ -1,19 +1,27 @@
 -- What a function of the walk does is a rule at rows, on the slices that are lent.
-use Rattle.std.specs.Prelude.{ℕ, ◌≤◌, ◌≡◌, length, take}
+use Rattle.std.specs.Prelude.{ℕ, ◌≤◌, ◌≡◌, length, take, Err, Ok, Result}
 use Rattle.answers.specs.Numbers.{reason_of}
 use Rattle.answers.specs.declared.Reason.{Reason}
 use Rattle.numbers.specs.declared.TermRow.{TermRow}
 use Rattle.stores.specs.Cells.{unset}
 use Rattle.theory.specs.Outcome.{Outcome, done, bind, at}
-use Rattle.theory.specs.Outcome as Outcome
 use Rattle.theory.specs.RowModel.{row_world}
 use Rattle.theory.specs.Machine.{Stores, set_object, set_memory}
 use Rattle.world.specs.Operations.{finding}
 use Rattle.calls.specs.Run.{state_over}
 use Rattle.machine.specs.Machine.{Slices, SameLengths}
 use Rattle.walks.specs.declared.Walk.{Walk}
-use Rattle.walks.specs.declared.Walked.{Walked}
-use Rattle.walks.specs.declared.Walked.TheVariants.{Next, Stuck, NoRoom}
+use Rattle.walks.specs.declared.Ended.{Ended}
+use Rattle.walks.specs.declared.Ended.TheVariants.{Stuck, NoRoom}
+
+-- the walk goes on, or has ended
+abbrev pub Walked : Type 0
+Walked = Result Walk Ended
+
+-- a refusal of what an operation answers ends the walk at a row
+abbrev pub asked_at : {T : Type 0} → ℕ → Result T Reason → Result T Ended
+asked_at row (Ok x) = Ok x
+asked_at row (Err reason) = Err (Stuck row reason)
 
 -- the walk with another message in hand
 abbrev pub meeting : Walk → TermRow → Walk
@@ -39,10 +47,10 @@ pub record Onward (used : ℕ) (w : Walk) (after : Slices) : Type 0 where
 -- a walk comes to what the rule comes to, as far as it is seen
 pub data Comes {A : Type 0} (seen : ℕ → Stores row_world → A) (used : ℕ) (before : Slices) : Outcome A → Walked → Slices → Type 0 where
   goes : {a : A} {w : Walk} {after : Slices} → seen w.message.0 (stores_at w after) ≡ a → Onward used w after → Kept used before after
-      → Comes seen used before (done a) (Next w) after
+      → Comes seen used before (done a) (Ok w) after
   sticks : {row why : ℕ} {reason : Reason} {after : Slices} → reason_of why ≡ reason → Kept used before after
-      → Comes seen used before (Outcome.stuck row why) (Stuck row reason) after
-  fills : {row : ℕ} {after : Slices} → Kept used before after → Comes seen used before (Outcome.room row) (NoRoom row) after
+      → Comes seen used before (Outcome.stuck row why) (Err (Stuck row reason)) after
+  fills : {row : ℕ} {after : Slices} → Kept used before after → Comes seen used before (Outcome.room row) (Err (NoRoom row)) after
 
 -- of a match the stores are seen, of a creation the message and the stores
 abbrev pub stores_alone : ℕ → Stores row_world → Stores row_world

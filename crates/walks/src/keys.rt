@@ -9,12 +9,11 @@ ghost use Rattle.machine.specs.Machine.{with_objects, with_term_rows, with_certi
 ghost use Rattle.walks.specs.Walks.{message_and_stores, WalksBy};
 
 use super::making::{decode, keep};
-use super::{Walk, Walked};
+use super::{Ended, Walk, Walked, asked_at};
 use answers::Reason;
-use machine::cells::object_at;
+use machine::cells::{object_at, set_row};
 use numbers::{Object, TermRow};
 use stores::cells::UNSET;
-use world::{Made, Opened};
 
 // k : op(K), where K holds a row.
 pub fn opposite_key(
@@ -34,13 +33,10 @@ pub fn opposite_key(
 {
     let known = object_at(objects, public);
     if known.0 != UNSET {
-        return Walked::Stuck(row, Reason::Unset);
+        return Err(Ended::Stuck(row, Reason::Unset));
     }
-    let made = world::opposite(terms, private);
-    match made {
-        Made::Not(reason) => Walked::Stuck(row, reason),
-        Made::Word(word) => keep(terms, objects, walk, row, public, word),
-    }
+    let word = asked_at(row, world::opposite(terms, private))?;
+    keep(terms, objects, walk, row, public, word)
 }
 
 // k : keyOf(a)
@@ -60,13 +56,7 @@ pub fn certified_key(
         (λ x. with_certificates (with_term_rows (with_objects x objects.old) terms.now) certificates.now) result
         (λ x. with_certificates (with_term_rows (with_objects x objects.new) terms.now) certificates.now) }
 {
-    let whose = object_at(objects, agent);
-    if whose.0 == UNSET {
-        return Walked::Stuck(row, Reason::Unset);
-    }
-    let opened = world::key_of(certificates, whose);
-    match opened {
-        Opened::Not(reason) => Walked::Stuck(row, reason),
-        Opened::Row(found) => decode(kinds, terms, objects, walk.meeting(found), row, key),
-    }
+    let whose = asked_at(row, set_row(object_at(objects, agent)))?;
+    let found = asked_at(row, world::key_of(certificates, whose))?;
+    decode(kinds, terms, objects, walk.meeting(found), row, key)
 }

@@ -7,27 +7,24 @@ ghost use Rattle.theory.specs.Rules.{made, decodes};
 ghost use Rattle.machine.specs.Machine.{with_objects, with_term_rows, Within};
 ghost use Rattle.walks.specs.Walks.{founds, keeps, message_and_stores, WalksBy};
 
-use super::{Walk, Walked};
+use super::{Ended, Walk, Walked, asked_at};
 use answers::Reason;
-use machine::cells::{kind_at, object_at, set_object};
+use machine::cells::{kind_at, object_at, set_object, set_row};
 use numbers::Object;
 use stores::cells::UNSET;
-use terms::Found;
-use world::Tested;
 
-// The term of a word comes into hand.
+// The term of a word comes into hand. `let .. else` on what the finder answers is the form of document 01.
 pub fn make(terms: &mut [u64], walk: Walk, row: u8, word: u64) -> Walked
     requires { Within terms.old walk.used }
     ensures { WalksBy message_and_stores (founds row word) walk (λ x. with_term_rows x terms.old) result (λ x. with_term_rows x terms.new) }
 {
-    let used = walk.used;
-    let Found::At(message, used) = finder::find(terms, used, word) else {
-        return Walked::NoRoom(row);
+    let Some((message, used)) = finder::find(terms, walk.used, word) else {
+        return Err(Ended::NoRoom(row));
     };
-    Walked::Next(Walk {
-        message: message,
-        used: used,
-        counter: walk.counter,
+    Ok(Walk {
+        message,
+        used,
+        ..walk
     })
 }
 
@@ -46,18 +43,18 @@ pub fn keep(
         (λ x. with_term_rows (with_objects x objects.old) terms.old) result
         (λ x. with_term_rows (with_objects x objects.new) terms.new) }
 {
-    let used = walk.used;
-    let Found::At(message, used) = finder::find(terms, used, word) else {
-        return Walked::NoRoom(row);
+    let Some((message, used)) = finder::find(terms, walk.used, word) else {
+        return Err(Ended::NoRoom(row));
     };
     set_object(objects, v, message);
-    Walked::Next(Walk {
-        message: message,
-        used: used,
-        counter: walk.counter,
+    Ok(Walk {
+        message,
+        used,
+        ..walk
     })
 }
 
+// Here and in the other rules that set a cell: one that must be free has no row to hand on, so its test is no set_row.
 // v.decode(m): the message in hand becomes the value of v, which has none, where it is of v's kind.
 pub fn decode(
     kinds: &[u8],
@@ -76,18 +73,10 @@ pub fn decode(
 {
     let known = object_at(objects, v);
     if known.0 != UNSET {
-        return Walked::Stuck(row, Reason::Unset);
+        return Err(Ended::Stuck(row, Reason::Unset));
     }
-    let message = walk.message;
-    if message.0 == UNSET {
-        return Walked::Stuck(row, Reason::Unset);
-    }
-    let tested = world::is_kind(terms, kind_at(kinds, v), message);
-    match tested {
-        Tested::Not(reason) => Walked::Stuck(row, reason),
-        Tested::Holds => {
-            set_object(objects, v, message);
-            Walked::Next(walk)
-        }
-    }
+    let message = asked_at(row, set_row(walk.message))?;
+    asked_at(row, world::is_kind(terms, kind_at(kinds, v), message))?;
+    set_object(objects, v, message);
+    Ok(walk)
 }

@@ -3,7 +3,7 @@ use mathlib.Core.Path.{◌≡◌, refl, ◌∙◌, ap}
 use mathlib.Core.Logic.Iff
 use mathlib.Core.Logic.{◌↔◌, ◌⊎◌, inl, inr}
 use mathlib.Core.Bool.{Bool, true, false, not}
-use mathlib.Core.Option.{Option, none, some}
+use Rattle.std.specs.Prelude.{Option, None, Some}
 use mathlib.Core.List.{List, [], ◌∷◌}
 use Prim.Native.Nat.{ℕ, zero, suc, ◌+◌, ◌<◌}
 use native.Mathlib.Nat.{zero-add, add-zero, add-suc, suc-add}
@@ -64,8 +64,8 @@ module _ {A : Type 0} (test : ℕ → A → Bool) (default : A) where
 
   -- what an answer says of what is left of a list, from a place on
   abbrev Says : ℕ → List A → Option ℕ → Type 0
-  Says place all none = (i : ℕ) → i < length all → T (not (test (place + i) (get_or all i default)))
-  Says place all (some found) =
+  Says place all None = (i : ℕ) → i < length all → T (not (test (place + i) (get_or all i default)))
+  Says place all (Some found) =
       (i : ℕ) × (found ≡ place + i) × (i < length all) × T (test (place + i) (get_or all i default))
       × ((j : ℕ) → j < i → T (not (test (place + j) (get_or all j default))))
 
@@ -83,54 +83,54 @@ module _ {A : Type 0} (test : ℕ → A → Bool) (default : A) where
       none_before n e h zero l = rw (add-zero, e) tt
       none_before n e h (suc j) l = next j (λ p. T (not (test p (get_or rest j default)))) (h j (omega arith))
 
-      go : (b : Bool) → test place a ≡ b → (o : Option ℕ) → Says (suc place) rest o → Says place (a ∷ rest) (elim b [ true ↦ some place | false ↦ o ])
+      go : (b : Bool) → test place a ≡ b → (o : Option ℕ) → Says (suc place) rest o → Says place (a ∷ rest) (elim b [ true ↦ Some place | false ↦ o ])
       go true e o h = (zero, omega arith, omega arith, rw (add-zero, e) tt, λ j l. absurd (omega arith))
-      go false e none h = none_before (length rest) e h
-      go false e (some found) h =
+      go false e None h = none_before (length rest) e h
+      go false e (Some found) h =
           let i = h.0 in
           (suc i, h.1 ∙ next i (λ p. suc place + i ≡ p) refl, omega (arith, h.2), next i (λ p. T (test p (get_or rest i default))) h.3, none_before i e h.4)
 
   abbrev Found : List A → Option ℕ → Type 0
-  Found all none = (i : ℕ) → i < length all → T (not (passes all i))
-  Found all (some i) = Lowest all i
+  Found all None = (i : ℕ) → i < length all → T (not (passes all i))
+  Found all (Some i) = Lowest all i
 
   found : (all : List A) → Found all (lowest test all)
   found all = go (lowest_from 0 test all) (says 0 all)
     where
       go : (o : Option ℕ) → Says 0 all o → Found all o
-      go none h = λ i l. rw zero-add at (h i l)
-      go (some i) h =
+      go None h = λ i l. rw zero-add at (h i l)
+      go (Some i) h =
           rw (h.1, zero-add) (record { inside = h.2; holds = rw zero-add at h.3; earlier = λ j l. rw zero-add at (h.4 j l) })
 
   -- none where no element passes, and only there
-  pub lowest_none : (all : List A) → (lowest test all ≡ none) ↔ ((i : ℕ) → i < length all → T (not (passes all i)))
+  pub lowest_none : (all : List A) → (lowest test all ≡ None) ↔ ((i : ℕ) → i < length all → T (not (passes all i)))
   lowest_none all = (λ e. rw e at (found all), λ h. go h (lowest test all) (found all))
     where
-      go : ((i : ℕ) → i < length all → T (not (passes all i))) → (o : Option ℕ) → Found all o → o ≡ none
-      go h none f = refl
-      go h (some i) f = absurd (T_not (passes all i) (h i f.inside) f.holds)
+      go : ((i : ℕ) → i < length all → T (not (passes all i))) → (o : Option ℕ) → Found all o → o ≡ None
+      go h None f = refl
+      go h (Some i) f = absurd (T_not (passes all i) (h i f.inside) f.holds)
 
   -- some place where it is the lowest, and only there
-  pub lowest_some : (all : List A) (i : ℕ) → (lowest test all ≡ some i) ↔ Lowest all i
+  pub lowest_some : (all : List A) (i : ℕ) → (lowest test all ≡ Some i) ↔ Lowest all i
   lowest_some all i = (λ e. rw e at (found all), λ h. go h (lowest test all) (found all))
     where
-      go : Lowest all i → (o : Option ℕ) → Found all o → o ≡ some i
-      go h none f = absurd (T_not (passes all i) (f i h.inside) h.holds)
-      go h (some j) f =
+      go : Lowest all i → (o : Option ℕ) → Found all o → o ≡ Some i
+      go h None f = absurd (T_not (passes all i) (f i h.inside) h.holds)
+      go h (Some j) f =
           let not_before : ¬ (j < i) = λ l. T_not (passes all j) (h.earlier j l) f.holds in
           let not_after : ¬ (i < j) = λ l. T_not (passes all i) (f.earlier i l) h.holds in
           let same : j ≡ i = omega arith in
-          ap some same
+          ap Some same
 
 -- where the test of a place says a property of it, so does the answer
 module _ {A : Type 0} (test : ℕ → A → Bool) (P : ℕ → Type 0) (all : List A) (default : A) (says : (i : ℕ) → i < length all → T (test i (get_or all i default)) ↔ P i) where
-  pub none_with : (lowest test all ≡ none) ↔ NoneWith P (length all)
+  pub none_with : (lowest test all ≡ None) ↔ NoneWith P (length all)
   none_with = (
     λ e i inside h. T_not (passes test default all i) ((lowest_none test default all).0 e i inside) ((says i inside).1 h),
     λ h. (lowest_none test default all).1 λ i inside. not_T (passes test default all i) λ t. h i inside ((says i inside).0 t),
   )
 
-  pub lowest_with : (i : ℕ) → (lowest test all ≡ some i) ↔ LowestWith P (length all) i
+  pub lowest_with : (i : ℕ) → (lowest test all ≡ Some i) ↔ LowestWith P (length all) i
   lowest_with i = (
     λ e.
         let h = (lowest_some test default all i).0 e in
@@ -152,10 +152,10 @@ module _ {A : Type 0} (test : ℕ → A → Bool) (P : ℕ → Type 0) (all : Li
 
 -- where the test of a place says that it is not good
 module _ {A : Type 0} (test : ℕ → A → Bool) (Good : ℕ → Type 0) (all : List A) (default : A) (says : (i : ℕ) → i < length all → T (not (test i (get_or all i default))) ↔ Good i) where
-  pub none_bad : (lowest test all ≡ none) ↔ AllGood Good (length all)
+  pub none_bad : (lowest test all ≡ None) ↔ AllGood Good (length all)
   none_bad = Iff.trans (lowest_none test default all) (λ h i inside. (says i inside).0 (h i inside), λ h i inside. (says i inside).1 (h i inside))
 
-  pub lowest_bad : (i : ℕ) → (lowest test all ≡ some i) ↔ LowestBad Good (length all) i
+  pub lowest_bad : (i : ℕ) → (lowest test all ≡ Some i) ↔ LowestBad Good (length all) i
   lowest_bad i = Iff.trans (lowest_some test default all i) (
     λ h.
         let inside : i < length all = h.inside in

@@ -3,7 +3,8 @@ use Prim.Native.Nat.{ℕ, suc, ◌+◌, ◌<◌, ◌≤◌}
 use mathlib.Core.Path.{◌≡◌, refl, sym, ◌∙◌}
 use mathlib.Core.Logic.{◌⊎◌, inl, inr}
 use mathlib.Core.Bool.{Bool, true, false, ◌&&◌, and_assoc, and-true}
-use mathlib.Core.Option.{Option, none, some}
+use Rattle.std.specs.Prelude.{Option, None, Some}
+use Rattle.std.specs.List.{list_all}
 use mathlib.Core.List.{List, [], ◌∷◌}
 use native.Mathlib.Numerals.{add-one}
 use native.Mathlib.Omega.{arith}
@@ -11,9 +12,7 @@ use borrow.Author.Tests.{ltb-true, ltb-false}
 use lib.ListN.{length, get_or, drop, drop_of_length-le}
 use lib.Seq.{drop-cons}
 use lib.Dec.{ltb}
-use Rattle.word.specs.Lowest.{lowest_from, lowest, each, place_of}
-use Rattle.word.specs.declared.Place.{Place}
-use Rattle.word.specs.declared.Place.TheVariants.{At, Nowhere}
+use Rattle.word.specs.Lowest.{lowest_from, lowest, each}
 use Rattle.word.proofs.LowestLaws.{lowest_none, lowest_some}
 
 pub lt_or_ge : (m n : ℕ) → (m < n) ⊎ (n ≤ m)
@@ -24,16 +23,16 @@ lt_or_ge m n = go (ltb m n) refl
     go false e = inr (ltb-false m n e)
 
 -- an answer of the code, read back
-pub placed_at : (answer : Option ℕ) {found : Place} {place : ℕ} → found ≡ place_of answer → found ≡ At place → answer ≡ some place
-placed_at none says e = let clash : ◌≡◌ {A = ℕ} 0 1 = cc in absurd (omega arith)
-placed_at (some place) says e = cc
+pub placed_at : (answer : Option ℕ) {found : Option ℕ} {place : ℕ} → found ≡ answer → found ≡ Some place → answer ≡ Some place
+placed_at None says e = let clash : ◌≡◌ {A = ℕ} 0 1 = cc in absurd (omega arith)
+placed_at (Some place) says e = cc
 
-pub placed_nowhere : (answer : Option ℕ) {found : Place} → found ≡ place_of answer → found ≡ Nowhere → answer ≡ none
-placed_nowhere none says e = refl
-placed_nowhere (some place) says e = let clash : ◌≡◌ {A = ℕ} 0 1 = cc in absurd (omega arith)
+pub placed_nowhere : (answer : Option ℕ) {found : Option ℕ} → found ≡ answer → found ≡ None → answer ≡ None
+placed_nowhere None says e = refl
+placed_nowhere (Some place) says e = let clash : ◌≡◌ {A = ℕ} 0 1 = cc in absurd (omega arith)
 
 module _ {A : Type 0} (test : ℕ → A → Bool) where
-  lowest_hit : (i : ℕ) (a : A) (rest : List A) → test i a ≡ true → lowest_from i test (a ∷ rest) ≡ some i
+  lowest_hit : (i : ℕ) (a : A) (rest : List A) → test i a ≡ true → lowest_from i test (a ∷ rest) ≡ Some i
   unfolding lowest_from
   lowest_hit i a rest h = rw (h, lowest_from)
 
@@ -41,7 +40,7 @@ module _ {A : Type 0} (test : ℕ → A → Bool) where
   unfolding lowest_from
   lowest_miss i a rest h = rw (h, lowest_from)
 
-  lowest_end : (i : ℕ) → lowest_from i test [] ≡ none
+  lowest_end : (i : ℕ) → lowest_from i test [] ≡ None
   unfolding lowest_from
   lowest_end i = refl
 
@@ -51,13 +50,13 @@ module _ {A : Type 0} (test : ℕ → A → Bool) where
 
   -- what is left may give the answer of any search
   module _ (all : List A) (default : A) (i : ℕ) {answer : Option ℕ} (left : answer ≡ lowest_from i test (drop i all)) where
-    pub scan_hit : i < length all → test i (get_or all i default) ≡ true → answer ≡ some i
+    pub scan_hit : i < length all → test i (get_or all i default) ≡ true → answer ≡ Some i
     scan_hit inside h = left ∙ rw (drop-cons all i default) (lowest_hit i (get_or all i default) (drop (suc i) all) h)
 
     pub scan_miss : i < length all → test i (get_or all i default) ≡ false → answer ≡ lowest_from (i + 1) test (drop (i + 1) all)
     scan_miss inside h = left ∙ rw (add-one, drop-cons all i default) (lowest_miss i (get_or all i default) (drop (suc i) all) h)
 
-    pub scan_end : length all ≤ i → answer ≡ none
+    pub scan_end : length all ≤ i → answer ≡ None
     scan_end past = left ∙ rw (drop_of_length-le all {i = i} past) (lowest_end i)
 
 -- two tests that agree at each place
@@ -66,9 +65,9 @@ module _ {A B : Type 0} (test : ℕ → A → Bool) (other : ℕ → B → Bool)
   lowest_same long same = go (lowest test all) refl
     where
       go : (o : Option ℕ) → lowest test all ≡ o → lowest test all ≡ lowest other others
-      go none e =
+      go None e =
           e ∙ sym ((lowest_none other b others).1 λ i l. let l' : i < length all = omega arith in rw (← (same i l')) ((lowest_none test a all).0 e i l'))
-      go (some i) e =
+      go (Some i) e =
           let h = (lowest_some test a all i).0 e in
           let inside : i < length all = h.inside in
           e
@@ -93,6 +92,11 @@ module _ {A : Type 0} (test : A → Bool) where
       go : (b : Bool) → elim b [ true ↦ each test rest | false ↦ false ] ≡ (b && each test rest)
       go true = refl
       go false = refl
+
+  -- the library's word for it
+  pub all_each : (all : List A) → list_all test all ≡ each test all
+  all_each [] = sym each_none
+  all_each (a ∷ rest) = rw (each_more, all_each rest)
 
   module _ (whole : Bool) (all : List A) (default : A) (i : ℕ) (left : whole ≡ each test (drop i all)) where
     each_here : i < length all → whole ≡ (test (get_or all i default) && each test (drop (suc i) all))

@@ -1,14 +1,12 @@
 -- The lowest place at which a test holds.
 use Rattle.std.specs.Prelude.{ℕ, suc, ◌<◌, Bool, true, false, ◌||◌, List, [], ◌∷◌, eqb}
-use Rattle.std.proofs.Math.Option.{Option, none, some}
-use Rattle.word.specs.declared.Place.{Place}
-use Rattle.word.specs.declared.Place.TheVariants.{At, Nowhere}
+use Rattle.std.specs.Prelude.{Option, None, Some}
 
 module _ {A : Type 0} where
   -- the lowest from a place on, in what is left of a list
   unfoldable pub lowest_from : ℕ → (ℕ → A → Bool) → List A → Option ℕ
-  lowest_from place test [] = none
-  lowest_from place test (a ∷ rest) = elim (test place a) [ true ↦ some place | false ↦ lowest_from (suc place) test rest ]
+  lowest_from place test [] = None
+  lowest_from place test (a ∷ rest) = elim (test place a) [ true ↦ Some place | false ↦ lowest_from (suc place) test rest ]
 
   abbrev pub lowest : (ℕ → A → Bool) → List A → Option ℕ
   lowest test all = lowest_from 0 test all
@@ -42,8 +40,3 @@ AllGood Good count = (i : ℕ) → i < count → Good i
 unfoldable pub one_of : List ℕ → ℕ → Bool
 one_of [] number = false
 one_of (n ∷ rest) number = eqb n number || one_of rest number
-
--- the code's answer for such a place
-abbrev pub place_of : Option ℕ → Place
-place_of (some place) = At place
-place_of none = Nowhere

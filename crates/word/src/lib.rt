@@ -5,13 +5,6 @@ ghost use Rattle.std.specs.Prelude.{◌≡◌, ◌++◌, ◌+◌, ◌*◌, ◌/�
 ghost use Rattle.std.proofs.lemmas.List.Edits.{sets};
 ghost use Rattle.word.specs.Bytes.{number, bytes_of, elements, spelled};
 
-// The lowest place at which a test holds, or that there is none.
-#[derive(Clone, Copy)]
-pub enum Place {
-    At(u32),
-    Nowhere,
-}
-
 // A byte that was read, with its bound.
 fn wide(byte: u8) -> u16
     ensures { (result ≡ byte) × (result < 256) }
@@ -70,7 +63,9 @@ pub fn put_word(bytes: &mut [u8], at: usize, value: u64)
     put_quad(bytes, at + 4, (value % 4294967296) as u32);
 }
 
-// The elements of two bytes to the front of a slice, two at a time: one at a time, the compiler takes the bytes apart.
+// The three sizes stay three functions each: a trait of elements, with its sizes, numbers and laws, and its three impls are longer than what they would replace.
+
+// The elements of two bytes to the front of a slice, two at a time: one at a time, the compiler takes the bytes apart. An element's place says where its bytes are.
 pub fn unpack_pairs(bytes: &[u8], out: &mut [u16])
     requires { length bytes.now / 2 ≤ length out.old }
     ensures { out.new ≡ elements 2 bytes.now ++ drop (length bytes.now / 2) out.old }
@@ -112,9 +107,8 @@ pub fn pack_pairs(values: &[u16], bytes: &mut [u8])
     requires { length bytes.old ≡ 2 * length values.now }
     ensures { bytes.new ≡ spelled 2 values.now }
 {
-    let count = values.len();
-    for place in 0..count {
-        put_pair(bytes, 2 * place, values[place]);
+    for (place, &value) in values.iter().enumerate() {
+        put_pair(bytes, 2 * place, value);
     }
 }
 
@@ -122,9 +116,8 @@ pub fn pack_quads(values: &[u32], bytes: &mut [u8])
     requires { length bytes.old ≡ 4 * length values.now }
     ensures { bytes.new ≡ spelled 4 values.now }
 {
-    let count = values.len();
-    for place in 0..count {
-        put_quad(bytes, 4 * place, values[place]);
+    for (place, &value) in values.iter().enumerate() {
+        put_quad(bytes, 4 * place, value);
     }
 }
 
@@ -132,8 +125,7 @@ pub fn pack_words(values: &[u64], bytes: &mut [u8])
     requires { length bytes.old ≡ 8 * length values.now }
     ensures { bytes.new ≡ spelled 8 values.now }
 {
-    let count = values.len();
-    for place in 0..count {
-        put_word(bytes, 8 * place, values[place]);
+    for (place, &value) in values.iter().enumerate() {
+        put_word(bytes, 8 * place, value);
     }
 }

@@ -1,8 +1,10 @@
 -- What is opened or looked up, a way out at a time.
+use Rattle.std.specs.Prelude.{Result, Ok, Err}
+use Rattle.std.specs.Option.{ok_or}
 use Prim.Native.Nat.{ℕ, ◌<◌, ◌≤◌}
 use mathlib.Core.Path.{◌≡◌, refl, sym, ◌∙◌, ap}
 use mathlib.Core.Bool.{Bool, true, false, not}
-use mathlib.Core.Option.{Option, none, some}
+use Rattle.std.specs.Prelude.{Option, None, Some}
 use mathlib.Core.List.{List, [], ◌∷◌}
 use native.Mathlib.Omega.{arith}
 use borrow.Author.Tests.{eq-eqb, ne_eqb, not-true, not-false}
@@ -19,48 +21,44 @@ use Rattle.terms.specs.Row.{term_widths, tag_of, shape_of}
 use Rattle.terms.proofs.ShapeLaws.{shape_tupled}
 use Rattle.stores.specs.Certificates.{agent_of, key_of as key_in, certified}
 use Rattle.certificates.specs.Answer.{certificate_of}
-use Rattle.certificates.specs.declared.Certificate.{Certificate}
-use Rattle.certificates.specs.declared.Certificate.TheVariants.{Key, None}
 use Rattle.theory.specs.Outcome.{got, and_then, sure}
 use Rattle.theory.specs.Outcome as Outcome
 use Rattle.theory.specs.World.{decrypt}
 use Rattle.theory.specs.Model.{goes_with, opened, taken}
 use Rattle.theory.specs.RowModel.{Table, row_model, row_world}
-use Rattle.world.specs.declared.Opened.TheVariants.{Row, Not}
-use Rattle.world.specs.declared.Parted.TheVariants as Parted
 use Rattle.world.specs.Operations.{OpensOver, CertifiedBy, PartsOver, keys_pair}
 use Rattle.world.proofs.LookLaws.{as_word, kind_tag, look_encrypted}
 
 -- an answer that is no row
-no_row : {A : Type 0} {reason : Reason} {row : TermRow} → Not reason ≡ Row row → A
+no_row : {A : Type 0} {reason : Reason} {row : TermRow} → Err reason ≡ Ok row → A
 no_row e = let z : ◌≡◌ {A = ℕ} 0 1 = cc in absurd (omega arith)
 
 -- the key of an agent's certificate
-no_certificate : (key : Option ℕ) → certificate_of key ≡ None → key ≡ none
-no_certificate none e = refl
-no_certificate (some key) e = let z : ◌≡◌ {A = ℕ} 0 1 = cc in absurd (omega arith)
+no_certificate : (key : Option ℕ) → certificate_of key ≡ None → key ≡ None
+no_certificate None e = refl
+no_certificate (Some key) e = let z : ◌≡◌ {A = ℕ} 0 1 = cc in absurd (omega arith)
 
-a_certificate : (key : Option ℕ) {row : TermRow} → certificate_of key ≡ Key row → key ≡ some row.0
-a_certificate none e = let z : ◌≡◌ {A = ℕ} 0 1 = cc in absurd (omega arith)
-a_certificate (some key) {row} e = let same : key ≡ row.0 = cc in ap some same
+a_certificate : (key : Option ℕ) {row : TermRow} → certificate_of key ≡ Some row → key ≡ Some row.0
+a_certificate None e = let z : ◌≡◌ {A = ℕ} 0 1 = cc in absurd (omega arith)
+a_certificate (Some key) {row} e = let same : key ≡ row.0 = cc in ap Some same
 
-keys_below : (certificates : List ℕ) (agent key : ℕ) → certified certificates agent ≡ some key → key < most_term_rows
+keys_below : (certificates : List ℕ) (agent key : ℕ) → certified certificates agent ≡ Some key → key < most_term_rows
 unfolding certified key_in
 keys_below [] agent key e = let z : ◌≡◌ {A = ℕ} 0 1 = cc in absurd (omega arith)
 keys_below (word ∷ rest) agent key e = go (eqb (agent_of word) agent) e (keys_below rest agent key)
   where
-    go : (b : Bool) → elim b [ true ↦ some (key_in word) | false ↦ certified rest agent ] ≡ some key → (certified rest agent ≡ some key → key < most_term_rows) → key < most_term_rows
+    go : (b : Bool) → elim b [ true ↦ Some (key_in word) | false ↦ certified rest agent ] ≡ Some key → (certified rest agent ≡ Some key → key < most_term_rows) → key < most_term_rows
     go true q later = let same : key_in word ≡ key = cc in omega arith
     go false q later = later q
 
-module _ (certificates : List ℕ) (agent : ℕ) (says : Certificate) (certificate : says ≡ certificate_of (certified certificates agent)) where
-  pub key_of_none : says ≡ None → CertifiedBy certificates agent (Not NoCertificate)
+module _ (certificates : List ℕ) (agent : ℕ) (says : Option TermRow) (certificate : says ≡ certificate_of (certified certificates agent)) where
+  key_of_none : says ≡ None → CertifiedBy certificates agent (Err NoCertificate)
   key_of_none e = record {
     says = λ x same. rw (same, no_certificate (certified certificates agent) (sym certificate ∙ e));
     below = λ row q. no_row q;
   }
 
-  pub key_of_key : (key : TermRow) → says ≡ Key key → CertifiedBy certificates agent (Row key)
+  key_of_key : (key : TermRow) → says ≡ Some key → CertifiedBy certificates agent (Ok key)
   key_of_key key e =
       let is = a_certificate (certified certificates agent) (sym certificate ∙ e) in
       record {
@@ -68,7 +66,12 @@ module _ (certificates : List ℕ) (agent : ℕ) (says : Certificate) (certifica
         below = λ row q. let k : key.0 ≡ row.0 = cc in rw k at (keys_below certificates agent key.0 is);
       }
 
-pub ruleset key-of-ways = (key_of_none, key_of_key)
+  pub key_of_either : (answer : Result TermRow Reason) → answer ≡ ok_or says NoCertificate → CertifiedBy certificates agent answer
+  key_of_either answer is = rw is (go says refl)
+    where
+      go : (found : Option TermRow) → says ≡ found → CertifiedBy certificates agent (ok_or found NoCertificate)
+      go None e = key_of_none e
+      go (Some key) e = key_of_key key e
 
 -- what a key opens
 opened_other : (key : ℕ) (shape : Shape ℕ) (x : Table) → (kind_of shape ≡ 7 → ⊥) → opened row_model key shape x ≡ Outcome.not (reason_number NotOpened)
@@ -84,7 +87,7 @@ unfolding keys_pair
 pairs_over key other x over = rw over
 
 module _ (rows : List ℕ) (key sealed word tag : ℕ) (looked : word ≡ get_or rows sealed 0) (tagged : tag ≡ tag_of word) where
-  pub decrypt_other : (tag ≡ 7 → ⊥) → OpensOver rows (decrypt key sealed) (Not NotOpened)
+  pub decrypt_other : (tag ≡ 7 → ⊥) → OpensOver rows (decrypt key sealed) (Err NotOpened)
   decrypt_other other = record {
     says = λ x over. opened_other key (row_model.look sealed x) x (λ e. other (sym (kind_tag sealed looked tagged x over) ∙ e));
     below = λ row q. no_row q;
@@ -97,10 +100,10 @@ module _ (rows : List ℕ) (key sealed word tag : ℕ) (looked : word ≡ get_or
         ap (λ shape. opened row_model key shape x) (look_encrypted sealed looked tagged x over encryption locked holds)
         ∙ ap (λ b. and_then (sure (reason_number NotOpened) b) (λ _. got (inner, x))) (pairs_over key lock x over ∙ sym goes)
 
-    pub decrypt_closed : not verdict ≡ true → OpensOver rows (decrypt key sealed) (Not NotOpened)
+    pub decrypt_closed : not verdict ≡ true → OpensOver rows (decrypt key sealed) (Err NotOpened)
     decrypt_closed e = record { says = λ x over. opening refl x over ∙ rw (not-true verdict e); below = λ row q. no_row q }
 
-    pub decrypt_open : (inner : TermRow) → not verdict ≡ false → inner.0 ≡ at 4 (split term_widths word) → OpensOver rows (decrypt key sealed) (Row inner)
+    pub decrypt_open : (inner : TermRow) → not verdict ≡ false → inner.0 ≡ at 4 (split term_widths word) → OpensOver rows (decrypt key sealed) (Ok inner)
     decrypt_open inner e holds = record {
       says = λ x over. opening holds x over ∙ rw (not-false verdict e);
       below = λ row q. let k : inner.0 ≡ row.0 = cc in omega arith;
@@ -116,11 +119,11 @@ taken_other row n (signed key body) other = refl
 taken_other row n (hashed body) other = refl
 taken_other row n (tupled parts) other = absurd (other refl)
 
-no_tuple : {A : Type 0} {reason : Reason} {word : ℕ} → Parted.Not reason ≡ Parted.Tuple word → A
+no_tuple : {A : Type 0} {reason : Reason} {word : ℕ} → Err reason ≡ Ok word → A
 no_tuple e = let z : ◌≡◌ {A = ℕ} 0 1 = cc in absurd (omega arith)
 
 module _ (rows : List ℕ) (row n word tag : ℕ) (looked : word ≡ get_or rows row 0) (tagged : tag ≡ tag_of word) where
-  pub parts_other : (tag ≡ 10 → ⊥) → PartsOver rows row n (Parted.Not PartCount)
+  pub parts_other : (tag ≡ 10 → ⊥) → PartsOver rows row n (Err PartCount)
   parts_other other = record {
     says = λ x over. taken_other row n (row_model.look row x) (λ e. other (sym (kind_tag row looked tagged x over) ∙ e));
     exactly = λ w q. no_tuple q;
@@ -132,14 +135,14 @@ module _ (rows : List ℕ) (row n word tag : ℕ) (looked : word ≡ get_or rows
         → row_world.parts row n x ≡ and_then (sure (reason_number PartCount) (eqb size n)) (λ _. got (λ i. get_or (parts_of (shape_of word)) i row))
     tuple_parts x over = let shape = shape_tupled word (sym tagged ∙ tuple) in ap (taken row_model row n) (as_word row looked tagged x over ∙ shape) ∙ rw (sized, shape)
 
-    pub parts_differ : (size ≡ n → ⊥) → PartsOver rows row n (Parted.Not PartCount)
+    pub parts_differ : (size ≡ n → ⊥) → PartsOver rows row n (Err PartCount)
     parts_differ differs = record {
       says = λ x over. tuple_parts x over ∙ rw (ne_eqb size n differs);
       exactly = λ w q. no_tuple q;
       few = λ w q. no_tuple q;
     }
 
-    pub parts_taken : size ≡ n → size ≤ most_parts → PartsOver rows row n (Parted.Tuple word)
+    pub parts_taken : size ≡ n → size ≤ most_parts → PartsOver rows row n (Ok word)
     parts_taken same small = record {
       says = λ x over. tuple_parts x over ∙ rw (eq-eqb size n same);
       exactly = λ w q. let k : word ≡ w = cc in rw (← k) (sym sized ∙ same);

@@ -4,7 +4,6 @@ ghost use Rattle.numbers.specs.Limits.{most_parts};
 ghost use Rattle.theory.specs.World.{byte, op, encrypt, sign, hash, tuple};
 ghost use Rattle.world.specs.Operations.{MakesWord, MakesOver, NamesAt};
 
-use super::{Made, Named};
 use answers::Reason;
 use numbers::TermRow;
 use numbers::kinds::{BYTE, PRIVATE_KEY, PUBLIC_KEY};
@@ -17,25 +16,25 @@ pub fn byte(number: u8) -> u64
 }
 
 // A created name takes the counter's number and raises it by one.
-pub fn create(kind: u8, counter: u32) -> Named
+pub fn create(kind: u8, counter: u32) -> Option<(u64, u32)>
     requires { kind < 16 }
     ensures { NamesAt kind counter result }
 {
     if MOST_NAMES <= counter {
-        return Named::NoName;
+        return None;
     }
-    Named::Word(terms::atom_word(kind, counter as u16), counter + 1)
+    Some((terms::atom_word(kind, counter as u16), counter + 1))
 }
 
 // The opposite of private key i is public key i.
-pub fn opposite(rows: &[u64], key: TermRow) -> Made
+pub fn opposite(rows: &[u64], key: TermRow) -> Result<u64, Reason>
     ensures { MakesOver rows.now (op key.0) result }
 {
     let known = terms::row_at(rows, key);
     if terms::tag(known) != PRIVATE_KEY {
-        return Made::Not(Reason::OtherKind);
+        return Err(Reason::OtherKind);
     }
-    Made::Word(terms::atom_word(PUBLIC_KEY, terms::number(known)))
+    Ok(terms::atom_word(PUBLIC_KEY, terms::number(known)))
 }
 
 pub fn encrypt(key: TermRow, body: TermRow) -> u64
@@ -61,5 +60,5 @@ pub fn tuple(rows: [u16; 4], n: usize) -> u64
     requires { n ≤ most_parts }
     ensures { MakesWord (tuple (take n rows)) result }
 {
-    terms::tuple_word(rows, n)
+    terms::tuple_word(&rows[..n])
 }

@@ -12,4 +12,4 @@ pub returns : goal.returns
 returns c =
     let named = (fields _ _ c.requires.0).named in
     rest_filled unset 64 (bundle_in c.args.bytes.now).named c.args.cells.now {middle = c.read_cells.new.cells} (omega arith)
-    (rw (named, ← c.kinds_at-from.ensures) c.read_cells.ensures) c.read_cells.auto.cells c.unset_all.ensures
+    (rw (named, ← c.kinds_at-from.ensures) c.read_cells.ensures) c.read_cells.auto.cells (c.fill.ensures.after (λ y e. e))

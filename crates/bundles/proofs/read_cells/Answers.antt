@@ -7,4 +7,4 @@ pub returns : goal.returns
 returns c =
     let args = c.args in
     c.unpack_pairs.ensures
-    ∙ cells_read args.bytes.now args.from 16 (omega arith) (λ place. (c.shared_slice_known-1.given place).fits) args.cells.now
+    ∙ cells_read args.bytes.now args.from 16 (omega arith) (λ place. (c.type_inv.bytes place).fits) args.cells.now

@@ -11,4 +11,4 @@ pub returns : goal.returns
 returns c =
     let terms = (fields _ _ c.requires.0).terms in
     rest_filled 0 c.args.header.term_rows (bundle_in c.args.bytes.now).terms c.args.rows.now (omega arith)
-    (rw terms c.read_words.ensures) c.read_words.auto.rows c.clear.ensures
+    (rw terms c.read_words.ensures) c.read_words.auto.rows (c.fill.ensures.after (λ y e. e))

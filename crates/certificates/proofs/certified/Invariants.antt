@@ -1,11 +1,7 @@
-use Prim.Native.Nat.{◌-◌, ◌≤◌}
 use mathlib.Core.Path.{◌≡◌}
-use lib.ListN.{length, drop}
+use lib.ListN.{drop}
 use Rattle.stores.specs.Certificates.{certified}
 use Rattle.certificates.proofs.certified.Given as goal
 
-abbrev pub invariant-loop-i : goal.invariant-loop-i
-invariant-loop-i l = (l.i ≤ length l.certificates) × (certified l.certificates l.agent.0 ≡ certified (drop l.i l.certificates) l.agent.0)
-
-abbrev pub decreases-loop-i : goal.decreases-loop-i
-decreases-loop-i l = length l.certificates - l.i
+abbrev pub invariant-loop-word : goal.invariant-loop-word
+invariant-loop-word l = certified l.certificates l.agent.0 ≡ certified (drop l.word-index l.certificates) l.agent.0

@@ -1,5 +1,4 @@
 -- The invariant: none of the rows passed repeats an earlier one, and each is on its chain.
-use Prim.Native.Nat.{◌≤◌, ◌-◌}
 use mathlib.Core.Path.{◌≡◌}
 use lib.ListN.{length}
 use Rattle.chains.specs.Chains.{Headed, Linked}
@@ -8,7 +7,4 @@ use Rattle.chains.proofs.distinct_by_chains.Given as goal
 
 abbrev pub invariant-loop-row : goal.invariant-loop-row
 invariant-loop-row l =
-    (l.row ≤ l.used) × (length l.newest ≡ 4096) × (length l.older ≡ 4096) × Passed l.rows l.used l.row × Headed l.rows l.newest l.row × Linked l.rows l.older l.row
-
-abbrev pub decreases-loop-row : goal.decreases-loop-row
-decreases-loop-row l = l.used - l.row
+    (length l.newest ≡ 4096) × (length l.older ≡ 4096) × Passed l.rows l.used l.row × Headed l.rows l.newest l.row × Linked l.rows l.older l.row

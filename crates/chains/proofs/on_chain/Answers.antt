@@ -15,7 +15,7 @@ returns-then-rows-at c =
     earlier_some c.args.rows.now c.args.row c.args.word (omega arith) λ absent. absent l.at (omega arith) c.if-rows-at.true
 
 pub overflow_cast-at-in-loop-at : goal.overflow_cast-at-in-loop-at
-overflow_cast-at-in-loop-at c = omega (arith, c.shared_slice_known-in-loop-at-1.given c.loop-at.at)
+overflow_cast-at-in-loop-at c = omega (arith, c.type_inv.older c.loop-at.at)
 
 pub loop-at-preserved : goal.loop-at-preserved
 loop-at-preserved c =

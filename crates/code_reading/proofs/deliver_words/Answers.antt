@@ -1,5 +1,5 @@
 use mathlib.Core.Path.{sym}
-use mathlib.Core.Option.{Option}
+use Rattle.std.specs.Prelude.{Option}
 use native.Mathlib.Omega.{arith}
 use lib.ListN.{take}
 use lib.Seq.{length-take-le}
@@ -9,23 +9,23 @@ use Rattle.code_reading.specs.declared.answer.ReadBack.{ReadBack}
 use Rattle.code_reading.proofs.DeliverLaws.{found_fits, delivers_refusal, delivers_words}
 use Rattle.code_reading.proofs.deliver_words.Goals as goal
 
-pub slice_bounds-read-end : goal.slice_bounds-read-end
-slice_bounds-read-end c =
-    let count = c.in-Words.count in
-    sym (length-take-le count c.args.words.now (found_fits c.args.lines c.args.words.now c.args.kinds.now c.requires c.look_words-looked.ensures c.in-Words.is).1)
+pub slice_bounds-fill-end : goal.slice_bounds-fill-end
+slice_bounds-fill-end c =
+    let count = c.in-Ok.count in
+    sym (length-take-le count c.args.words.now (found_fits c.args.lines c.args.words.now c.args.kinds.now c.requires c.look_words.ensures c.in-Ok.is).1)
 
 pub fill-requires : goal.fill-requires
 fill-requires c =
-    let count = c.in-Words.count in
-    let found = found_fits c.args.lines c.args.words.now c.args.kinds.now c.requires c.look_words-looked.ensures c.in-Words.is in
+    let count = c.in-Ok.count in
+    let found = found_fits c.args.lines c.args.words.now c.args.kinds.now c.requires c.look_words.ensures c.in-Ok.is in
     omega (arith, found.0, length-take-le count c.args.words.now found.1)
 
-pub returns-in-Words : goal.returns-in-Words
-returns-in-Words c =
+pub returns-in-Ok : goal.returns-in-Ok
+returns-in-Ok c =
     let refused : Option ReadBack = first (word_refusals c.args.lines (take c.args.lines c.args.words.now) c.args.kinds.now) in
-    delivers_words refused c.args.lines c.args.words.now c.args.code.now c.look_words-looked.ensures c.in-Words.is c.fill.ensures
+    delivers_words refused c.args.lines c.args.words.now c.args.code.now c.look_words.ensures c.in-Ok.is c.fill.ensures
 
-pub returns-in-Refused : goal.returns-in-Refused
-returns-in-Refused c =
+pub returns-in-Err : goal.returns-in-Err
+returns-in-Err c =
     let refused : Option ReadBack = first (word_refusals c.args.lines (take c.args.lines c.args.words.now) c.args.kinds.now) in
-    delivers_refusal refused c.args.lines c.args.words.now c.args.code.now c.look_words-looked.ensures c.in-Refused.is
+    delivers_refusal refused c.args.lines c.args.words.now c.args.code.now c.look_words.ensures c.in-Err.is

@@ -1,13 +1,11 @@
-use mathlib.Core.Path.{refl, sym, ◌∙◌}
+use mathlib.Core.Path.{ap}
+use lib.ListN.{take}
 use native.Mathlib.Omega.{arith}
-use Rattle.emission.proofs.BudgetLaws.{leaf_room}
 use Rattle.patterns.proofs.StandingLaws.{slot, encryption_key, encryption_child, let_children, variable_low}
-use Rattle.emission.proofs.PartLaws.{parts_begin, parts_end}
+use Rattle.emission.proofs.PartLaws.{parts_end}
 use Rattle.creating.proofs.LeafLaws.{key_room}
 use Rattle.creating.proofs.ChildLaws.{encryption_inside, encrypt_room, seal_room, encryption_done, let_first, let_store, let_second, let_done}
 use Rattle.creating.proofs.PartLaws.{in_turn_lem, part_asks, part_stores, part_done, tuple_asks, tuple_create, tuple_encode, tuple_done}
-use Prim.Native.Nat.{◌-◌}
-use borrow.Author.Rules.{rules}
 use Rattle.creating.proofs.+creating.Goals as goal
 
 pub create_encryption-create_key-requires : goal.create_encryption-create_key-requires
@@ -88,98 +86,22 @@ create_let-returns t c =
     c.create_row.ensures c.store.ensures
     c.create_row-2.ensures
 
-pub create_parts-loop-k-init : goal.create_parts-loop-k-init
-create_parts-loop-k-init t c =
-    parts_begin (in_turn_lem _) _ _ _ _ (search rules) c.requires _
-
-pub create_parts-create_row-requires : goal.create_parts-create_row-requires
-create_parts-create_row-requires t c =
-    let less = c.loop-k-test.true in
-    (omega (arith, c.decreases, c.requires.below _ less), part_asks _ _ _ _ _ (search rules) c.requires _ c.loop-k.invariant less)
-
-pub create_parts-scratch-requires : goal.create_parts-scratch-requires
-create_parts-scratch-requires t c =
-    let k = c.loop-k.k in
-    let less = c.loop-k-test.true in
-    omega (arith, c.requires.laid k less, c.requires.cells, less)
-
-pub create_parts-store-requires : goal.create_parts-store-requires
-create_parts-store-requires t c =
-    part_stores _ _ _ _ _ (search rules) c.requires _ c.loop-k.invariant
-    c.loop-k-test.true c.create_row.ensures
-
-pub create_parts-loop-k-preserved : goal.create_parts-loop-k-preserved
-create_parts-loop-k-preserved t c =
-    part_done _ _ _ _ _ (search rules) c.requires _ c.loop-k.invariant
-    c.loop-k-test.true
-    c.create_row.ensures c.scratch.ensures c.store.ensures
-
-pub create_parts-returns : goal.create_parts-returns
-create_parts-returns t c =
-    parts_end (in_turn_lem _) _ _ _ _ (search rules) c.requires _ c.loop-k.invariant c.loop-k-test.false
-
-pub create_row-create_encryption-requires : goal.create_row-create_encryption-requires
-create_row-create_encryption-requires t c = (
-  omega (arith, c.decreases),
-  (record { standing = record { here = refl; stands = c.requires.stands }; room = c.requires.room }, sym c.tag-tag.ensures ∙ c.in-5.is),
-)
-
-pub create_row-create_tuple-requires : goal.create_row-create_tuple-requires
-create_row-create_tuple-requires t c = (
-  omega (arith, c.decreases),
-  (record { standing = record { here = refl; stands = c.requires.stands }; room = c.requires.room }, sym c.tag-tag.ensures ∙ c.in-8.is),
-)
-
-pub create_row-create_let-requires : goal.create_row-create_let-requires
-create_row-create_let-requires t c = (
-  omega (arith, c.decreases),
-  (record { standing = record { here = refl; stands = c.requires.stands }; room = c.requires.room }, sym c.tag-tag.ensures ∙ c.in-9.is),
-)
-
-pub create_row-create_leaf-requires : goal.create_row-create_leaf-requires
-create_row-create_leaf-requires t c =
-    let tag = c.tag-tag.ensures in
-    let other = c.in_default.in_default-own.rest in record {
-      row_at = record {
-        standing = record { here = refl; stands = c.requires.stands };
-        room = c.requires.room;
-      };
-      leaf = record
-          { encryption = λ h. other.0.0.1 (tag ∙ h); tuple = λ h. other.0.1 (tag ∙ h); let_in = λ h. other.1 (tag ∙ h) };
-    }
-
-pub create_tuple-take-first-requires : goal.create_tuple-take-first-requires
-create_tuple-take-first-requires t c =
-    let room = leaf_room _ _ _ _ c.requires.row_at in
-    (room.long, omega (arith, room.free))
-
-pub create_tuple-parts_of-requires : goal.create_tuple-parts_of-requires
-create_tuple-parts_of-requires t c = omega (arith, c.take-first.ensures.0, (leaf_room _ _ _ _ c.requires.row_at).free)
-
 pub create_tuple-create_parts-requires : goal.create_tuple-create_parts-requires
 create_tuple-create_parts-requires t c =
     let asked = c.requires in
     let taken = c.take-first.ensures in (
       omega (arith, c.decreases),
       tuple_asks _ _ _ asked.row_at asked.word_value _
-          c.count-n.ensures _ c.slots.ensures _ _ c.parts_of.ensures taken.0
+          c.count-n.ensures _ c.slots.ensures _ _ (ap (take c.count-n.result) c.parts_of-parts.ensures) taken.0
           taken.1,
     )
-
-pub create_tuple-scratch-cell-requires : goal.create_tuple-scratch-cell-requires
-create_tuple-scratch-cell-requires t c = omega (
-  arith,
-  c.take-first.ensures.0,
-  (leaf_room _ _ _ _
-      c.requires.row_at).free,
-)
 
 pub create_tuple-create_tuple-requires : goal.create_tuple-create_tuple-requires
 create_tuple-create_tuple-requires t c =
     let asked = c.requires in
     let taken = c.take-first.ensures in record {
       room_for = tuple_create _ _ _ asked.row_at asked.word_value _ c.count-n.ensures
-          _ c.slots.ensures _ _ c.parts_of.ensures taken.0
+          _ c.slots.ensures _ _ (ap (take c.count-n.result) c.parts_of-parts.ensures) taken.0
           taken.1 _ c.create_parts.ensures;
       t_lt_variables = variable_low _ _
           c.variable-t.ensures;
@@ -192,7 +114,7 @@ create_tuple-encode-requires t c =
     tuple_encode _ _ _ asked.row_at asked.word_value _
     c.count-n.ensures _
     c.slots.ensures _ _
-    c.parts_of.ensures taken.0 taken.1 _
+    (ap (take c.count-n.result) c.parts_of-parts.ensures) taken.0 taken.1 _
     c.create_parts.ensures c.create_tuple.ensures
 
 pub create_tuple-returns : goal.create_tuple-returns
@@ -202,8 +124,23 @@ create_tuple-returns t c =
     tuple_done _ _ _ asked.row_at asked.word_value _
     c.count-n.ensures _
     c.slots.ensures _ _
-    c.parts_of.ensures taken.0 taken.1 _ _ _
+    (ap (take c.count-n.result) c.parts_of-parts.ensures) taken.0 taken.1 _ _ _
     c.variable-t.ensures
     c.scratch-cell.ensures
     c.create_parts.ensures c.create_tuple.ensures
     c.encode.ensures
+
+pub create_parts-create_row-requires : goal.create_parts-create_row-requires
+create_parts-create_row-requires t c =
+    let inside = c.loop-part-test.true in
+    (omega (arith, c.decreases, c.requires.below _ inside), part_asks _ _ _ _ c.requires _ c.loop-part.invariant inside)
+
+pub create_parts-store-requires : goal.create_parts-store-requires
+create_parts-store-requires t c = part_stores _ _ _ _ c.requires _ c.loop-part.invariant c.loop-part-test.true c.create_row.ensures
+
+pub create_parts-loop-part-preserved : goal.create_parts-loop-part-preserved
+create_parts-loop-part-preserved t c =
+    part_done _ _ _ _ c.requires _ c.loop-part.invariant c.loop-part-test.true c.create_row.ensures c.scratch.ensures c.store.ensures
+
+pub create_parts-returns : goal.create_parts-returns
+create_parts-returns t c = parts_end (in_turn_lem _) _ _ _ c.requires _ c.loop-part.invariant c.loop-part-test.false

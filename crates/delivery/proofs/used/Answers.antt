@@ -5,9 +5,6 @@ use lib.Seq.{length-take-le}
 use Rattle.delivery.proofs.DeliveryLaws.{part_fits, part_short}
 use Rattle.delivery.proofs.used.Goals as goal
 
-pub slice_bounds-result-end : goal.slice_bounds-result-end
-slice_bounds-result-end c = sym (length-take-le c.args.n c.args.code.now (omega (arith, c.if-n-code.true)))
-
 pub returns-then-n-code : goal.returns-then-n-code
 returns-then-n-code c = (part_fits c.args.n c.args.code.now (omega (arith, c.if-n-code.true)), refl)
 

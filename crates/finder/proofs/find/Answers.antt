@@ -7,10 +7,10 @@ use Rattle.finder.proofs.find.Goals as goal
 pub overflow_cast-result : goal.overflow_cast-result
 overflow_cast-result c =
     let place = c.equal_row-place in
-    omega (arith, find_below _ _ _ _ place.ensures (search rules) _ c.in-At.is)
+    omega (arith, find_below _ _ _ _ place.ensures (search rules) _ c.in-Some.is)
 
-pub returns-in-At : goal.returns-in-At
-returns-in-At c = search find-ways
+pub returns-in-Some : goal.returns-in-Some
+returns-in-Some c = search find-ways
 
 pub returns-then-unused-rows : goal.returns-then-unused-rows
 returns-then-unused-rows c = search find-ways

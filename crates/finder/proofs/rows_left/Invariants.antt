@@ -1,5 +1,5 @@
 -- The invariant: the search over all rows is the search over those that are left.
-use Prim.Native.Nat.{◌-◌, ◌≤◌}
+use Prim.Native.Nat.{◌≤◌}
 use mathlib.Core.Path.{◌≡◌}
 use Rattle.terms.specs.Finder.{equal_row}
 use Rattle.finder.proofs.rows_left.Given as goal

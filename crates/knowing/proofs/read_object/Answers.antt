@@ -1,8 +1,8 @@
 use Rattle.knowing.proofs.StepLaws.{read-ways}
 use Rattle.knowing.proofs.read_object.Goals as goal
 
-pub returns-then-object_known : goal.returns-then-object_known
-returns-then-object_known c = search read-ways
+pub returns-then-not-object_known : goal.returns-then-not-object_known
+returns-then-not-object_known c = search read-ways
 
-pub returns-else-object_known : goal.returns-else-object_known
-returns-else-object_known c = search read-ways
+pub returns-else-not-object_known : goal.returns-else-not-object_known
+returns-else-not-object_known c = search read-ways

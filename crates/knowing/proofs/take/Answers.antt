@@ -3,4 +3,4 @@ use Rattle.knowing.proofs.StepLaws.{raised}
 use Rattle.knowing.proofs.take.Goals as goal
 
 pub returns : goal.returns
-returns c = (refl, raised _ _ c.requires.0)
+returns c = (refl, raised _ _)

@@ -3,9 +3,6 @@ use Rattle.knowing.proofs.StepLaws.{write-ways}
 use borrow.Author.Rules.{rules}
 use Rattle.knowing.proofs.write_object.Goals as goal
 
-pub with_known-requires : goal.with_known-requires
-with_known-requires c = (search rules, sym c.object_known.ensures ∙ c.if-object_known.false)
-
 pub returns-then-object_known : goal.returns-then-object_known
 returns-then-object_known c = search write-ways
 

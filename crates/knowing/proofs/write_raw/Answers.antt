@@ -3,9 +3,6 @@ use Rattle.knowing.proofs.StepLaws.{write-raw-ways}
 use borrow.Author.Rules.{rules}
 use Rattle.knowing.proofs.write_raw.Goals as goal
 
-pub with_known-requires : goal.with_known-requires
-with_known-requires c = (search rules, sym c.raw_known.ensures ∙ c.if-raw_known.false)
-
 pub returns-then-raw_known : goal.returns-then-raw_known
 returns-then-raw_known c = search write-raw-ways
 

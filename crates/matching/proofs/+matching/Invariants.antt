@@ -1,4 +1,4 @@
-use Prim.Native.Nat.{◌+◌, ◌-◌, ◌*◌}
+use Prim.Native.Nat.{◌+◌, ◌*◌}
 use Rattle.theory.specs.Compilers.{compile↓parts}
 use Rattle.emission.proofs.PartLaws.{Walked}
 use Rattle.matching.proofs.+matching.Given as goal
@@ -18,8 +18,5 @@ decreases-match_row l = 8 * l.row + 7
 abbrev pub decreases-match_tuple : goal.decreases-match_tuple
 decreases-match_tuple l = 8 * l.row + 6
 
-abbrev pub invariant-match_parts-loop-k : goal.invariant-match_parts-loop-k
-invariant-match_parts-loop-k l = Walked compile↓parts l.rows l.row l.parts l.n l.initial.emission l.initial.code l.k l.emission l.code
-
-abbrev pub decreases-match_parts-loop-k : goal.decreases-match_parts-loop-k
-decreases-match_parts-loop-k l = l.n - l.k
+abbrev pub invariant-match_parts-loop-part : goal.invariant-match_parts-loop-part
+invariant-match_parts-loop-part l = Walked compile↓parts l.rows l.row l.parts l.initial.emission l.initial.code l.part-index l.emission l.code

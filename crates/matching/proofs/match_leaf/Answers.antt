@@ -35,8 +35,4 @@ pub returns-in-4 : goal.returns-in-4
 returns-in-4 c = search (leaf_key_of)
 
 pub returns-in_default : goal.returns-in_default
-returns-in_default c =
-    let n = c.in_default.in_default-own.rest in
-    leaf_hash _ _ _ c.requires.row_at _ c.tag-tag.ensures _
-    c.variable-v.ensures _ c.raw-in_default.ensures c.requires.leaf n.0.0.0.0.0.1
-    n.0.0.0.0.1 n.0.0.0.1 n.0.0.1 n.0.1 n.1 c.match_hash.ensures
+returns-in_default c = search (leaf_hash)

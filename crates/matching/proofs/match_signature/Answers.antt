@@ -33,10 +33,4 @@ pub returns-in-1 : goal.returns-in-1
 returns-in-1 c = search (signed_opposite)
 
 pub returns-in_default : goal.returns-in_default
-returns-in_default c =
-    let n = c.in_default.in_default-own.rest in
-    signed_certified _ _ _ c.requires.row_at c.requires.word_value _ _ _ _
-    c.variable.ensures
-    c.key-key.ensures c.raw-r.ensures
-    c.key_form-by.ensures
-    c.decode.ensures _ c.y-in_default.ensures n.0.1 n.1 c.verify_certified.ensures
+returns-in_default c = search (signed_certified)

@@ -1,4 +1,3 @@
-use Prim.Native.Nat.{◌-◌}
 use Rattle.code.proofs.ReadLaws.{checking}
 use Rattle.operands.proofs.first_bad_word.Goals as goal
 

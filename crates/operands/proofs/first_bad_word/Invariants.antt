@@ -1,10 +1,6 @@
-use Prim.Native.Nat.{◌-◌}
 use lib.ListN.{get_or}
 use Rattle.code.proofs.ReadLaws.{GoodBefore}
 use Rattle.operands.proofs.first_bad_word.Given as goal
 
 abbrev pub invariant-loop-place : goal.invariant-loop-place
 invariant-loop-place l = GoodBefore (λ n. get_or l.kinds n 0) l.code l.place
-
-abbrev pub decreases-loop-place : goal.decreases-loop-place
-decreases-loop-place l = l.count - l.place

@@ -7,5 +7,5 @@ returns-then-word_of-word c = search judging
 pub returns-else-word_of-word : goal.returns-else-word_of-word
 returns-else-word_of-word c = search judging
 
-pub returns-in-Not : goal.returns-in-Not
-returns-in-Not c = search judging
+pub returns-in-None : goal.returns-in-None
+returns-in-None c = search judging

@@ -1,17 +1,11 @@
-use mathlib.Core.Path.{sym}
-use mathlib.Core.Logic.{⊎_elim}
+use mathlib.Core.Path.{sym, ◌∙◌}
 use native.Mathlib.Omega.{arith}
-use borrow.Author.Tests.{ltb-false}
 use lib.Seq.{get_or-take}
 use Rattle.code.proofs.KindLaws.{kind_none}
 use Rattle.operands.proofs.kind_at.Goals as goal
 
-pub returns-then-at-kinds : goal.returns-then-at-kinds
-returns-then-at-kinds c =
-    let given = c.args in
-    sym (get_or-take 64 given.kinds.now given.v.0 0 c.if-at-lt-VARIABLES.true)
+pub returns-then-v-lt-VARIABLES : goal.returns-then-v-lt-VARIABLES
+returns-then-v-lt-VARIABLES c = c.kind_at.ensures ∙ sym (get_or-take 64 c.args.kinds.now c.args.v.0 0 c.if-v-lt-VARIABLES.true)
 
-pub returns-else-at-lt-VARIABLES : goal.returns-else-at-lt-VARIABLES
-returns-else-at-lt-VARIABLES c =
-    let given = c.args in
-    kind_none given.kinds.now given.v.0 (⊎_elim (λ way. omega (arith, ltb-false)) (λ way. omega arith) c.else-at-lt-VARIABLES.either)
+pub returns-else-v-lt-VARIABLES : goal.returns-else-v-lt-VARIABLES
+returns-else-v-lt-VARIABLES c = kind_none c.args.kinds.now c.args.v.0 (omega arith)

@@ -6,8 +6,8 @@ use Rattle.printing.proofs.ran.Goals as goal
 pub end_line-after_end-requires : goal.end_line-after_end-requires
 end_line-after_end-requires c = omega (arith, code_end _ c.code_lines-after_code.ensures (omega arith))
 
-pub returns-then-number-ne0 : goal.returns-then-number-ne0
-returns-then-number-ne0 c = search ways
+pub returns-in_default : goal.returns-in_default
+returns-in_default c = search ways
 
 pub store_lines-requires : goal.store_lines-requires
 store_lines-requires c = omega (
@@ -17,5 +17,5 @@ store_lines-requires c = omega (
   word_line_end _ _ c.end_line-after_end.ensures,
 )
 
-pub returns : goal.returns
-returns c = search ways
+pub returns-in-Done : goal.returns-in-Done
+returns-in-Done c = search ways

@@ -1,5 +1,5 @@
 use mathlib.Core.Path.{sym}
-use mathlib.Core.Option.{Option}
+use Rattle.std.specs.Prelude.{Option}
 use native.Mathlib.Omega.{arith}
 use lib.ListN.{take}
 use lib.Seq.{length-take-le}
@@ -15,25 +15,25 @@ returns-then-code-ne0 c =
     let refused : Option ReadBack = first (word_refusals c.args.lines (take c.args.lines c.args.words.now) c.args.kinds.now) in
     rw c.numbers.ensures (not_words refused c.args.lines c.args.words.now c.args.code.now c.if-code-ne0.true)
 
-pub slice_bounds-read-end : goal.slice_bounds-read-end
-slice_bounds-read-end c =
-    sym (length-take-le c.in-Words.count c.args.words.now (found_fits c.args.lines c.args.words.now c.args.kinds.now c.requires c.look_words-looked.ensures c.in-Words.is).1)
+pub slice_bounds-pack-end : goal.slice_bounds-pack-end
+slice_bounds-pack-end c =
+    sym (length-take-le c.in-Ok.count c.args.words.now (found_fits c.args.lines c.args.words.now c.args.kinds.now c.requires c.look_words.ensures c.in-Ok.is).1)
 
 pub pack-requires : goal.pack-requires
 pack-requires c =
-    let few = found_fits c.args.lines c.args.words.now c.args.kinds.now c.requires c.look_words-looked.ensures c.in-Words.is in
-    (omega (arith, few.0, length-take-le c.in-Words.count c.args.words.now few.1), c.if-code-ne0.false)
+    let few = found_fits c.args.lines c.args.words.now c.args.kinds.now c.requires c.look_words.ensures c.in-Ok.is in
+    (omega (arith, few.0, length-take-le c.in-Ok.count c.args.words.now few.1), c.if-code-ne0.false)
 
-pub returns-in-Words : goal.returns-in-Words
-returns-in-Words c =
+pub returns-in-Ok : goal.returns-in-Ok
+returns-in-Ok c =
     let refused : Option ReadBack = first (word_refusals c.args.lines (take c.args.lines c.args.words.now) c.args.kinds.now) in
     fills_bytes refused c.args.lines c.args.words.now c.args.code.now
-    c.if-code-ne0.false c.look_words-looked.ensures c.in-Words.is
+    c.if-code-ne0.false c.look_words.ensures c.in-Ok.is
     c.pack.ensures
 
-pub returns-in-Refused : goal.returns-in-Refused
-returns-in-Refused c =
+pub returns-in-Err : goal.returns-in-Err
+returns-in-Err c =
     let refused : Option ReadBack = first (word_refusals c.args.lines (take c.args.lines c.args.words.now) c.args.kinds.now) in
-    rw c.numbers-in-Refused.ensures
+    rw c.numbers-in-Err.ensures
     (refuses_bytes refused c.args.lines c.args.words.now c.args.code.now
-    c.if-code-ne0.false c.look_words-looked.ensures c.in-Refused.is)
+    c.if-code-ne0.false c.look_words.ensures c.in-Err.is)

@@ -3,4 +3,4 @@ use mathlib.Core.Path.{ap₂}
 use Rattle.read_lending.proofs.numbers.Goals as goal
 
 pub returns : goal.returns
-returns c = ap₂ (λ (n p : ℕ). record { number = n; place = p }) c.number-number.ensures.0 c.place-place.ensures
+returns c = ap₂ (λ (n p : ℕ). record { number = n; place = p }) c.number.ensures.0 c.place.ensures

@@ -1,70 +1,36 @@
 -- The halves so far are counted, and the rest goes on from the cells that they set.
-use Prim.Native.Nat.{◌-◌}
-use mathlib.Core.Path.{refl, sym, ◌∙◌}
+use mathlib.Core.Path.{refl}
 use native.Mathlib.Omega.{arith}
 use Rattle.calls.proofs.RoleLaws.{rows_inside}
-use Rattle.role_counting.proofs.CountLaws.{part_of, counting_none, counting_small, counting_few, counting_more, counting_refused, counting_all}
+use Rattle.role_counting.proofs.CountLaws.{part_of, counting_none, counting_small, counting_all, refused_half, done_few, done_more}
 use Rattle.role_counting.proofs.count_words.Goals as goal
 
 pub loop-half-init : goal.loop-half-init
-loop-half-init c = (counting_none _ _ _ _ c.requires.2 refl, omega arith)
-
-pub bounds-counts-half : goal.bounds-counts-half
-bounds-counts-half c = c.loop-half-test.true
-
-pub overflow_cast-end : goal.overflow_cast-end
-overflow_cast-end c = omega (arith, c.shared_slice_known-in-loop-half-1.given c.loop-half.half)
+loop-half-init g c = counting_none _ _ _ _ c.requires.2 refl
 
 pub overflow_add-end : goal.overflow_add-end
-overflow_add-end c = omega (arith, rows_inside _ _ _ _ c.loop-half.invariant.0.reached c.loop-half-test.true, c.well_formed.0.1)
+overflow_add-end g c =
+    omega (arith, rows_inside _ _ _ _ c.loop-half.invariant.reached c.loop-half-test.true, g.met.R.RowUnit.fewer c.args.rows.now, c.well_formed.0.1)
 
-pub offset_bounds-rows-row : goal.offset_bounds-rows-row
-offset_bounds-rows-row c = omega (arith, rows_inside _ _ _ _ c.loop-half.invariant.0.reached c.loop-half-test.true, c.well_formed.0.1)
+pub count_half-left-requires : goal.count_half-left-requires
+count_half-left-requires g c = (omega arith, rows_inside _ _ _ _ c.loop-half.invariant.reached c.loop-half-test.true)
 
-pub slice_bounds-count_half-end : goal.slice_bounds-count_half-end
-slice_bounds-count_half-end c = rows_inside _ _ _ _ c.loop-half.invariant.0.reached c.loop-half-test.true
-
-pub overflow_cast-result : goal.overflow_cast-result
-overflow_cast-result c = omega (arith, c.loop-half-test.true, c.requires.1)
-
-pub returns-then-number-ne0 : goal.returns-then-number-ne0
-returns-then-number-ne0 c =
-    counting_refused _ _ _ _ c.loop-half.invariant.0
-    c.loop-half-test.true (rw (part_of c.loop-half.row _ _)
-    at c.count_half-left.ensures)
-    (λ e. c.if-number-ne0.true (c.number.ensures.0 ∙ e))
-
-pub overflow_add-words : goal.overflow_add-words
-overflow_add-words c = omega (
-  arith,
-  counting_small _ _ _ _ c.loop-half.invariant.0,
-  c.loop-half.invariant.1,
-  c.requires.1,
-)
+pub returns-in_default : goal.returns-in_default
+returns-in_default g c =
+    refused_half _ _ _ _ c.loop-half.invariant c.loop-half-test.true (rw (part_of c.loop-half.row _ _) at c.count_half-left.ensures) c.in_default.not-Done
 
 pub overflow_add-words-in-loop-half : goal.overflow_add-words-in-loop-half
-overflow_add-words-in-loop-half c =
-    let loop = c.loop-half in
+overflow_add-words-in-loop-half g c =
     omega (
       arith,
-      counting_small _ _ _ _ loop.invariant.0,
-      loop.invariant.1,
-      c.place.ensures,
-      counting_few _ _ _ _ loop.invariant.0 c.loop-half-test.true
-          (rw (part_of loop.row _ _) at c.count_half-left.ensures)
-          (sym c.number.ensures.0 ∙ c.if-number-ne0.false),
+      counting_small _ _ _ _ c.loop-half.invariant,
+      done_few _ _ _ _ c.loop-half.invariant c.loop-half-test.true (rw (part_of c.loop-half.row _ _) at c.count_half-left.ensures) c.in-Done.is,
       c.requires.1,
     )
 
 pub loop-half-preserved : goal.loop-half-preserved
-loop-half-preserved c =
-    let loop = c.loop-half in
-    rw c.place.ensures (
-      counting_more _ _ _ _ loop.invariant.0 c.loop-half-test.true
-          (rw (part_of loop.row _ _) at c.count_half-left.ensures)
-          (sym c.number.ensures.0 ∙ c.if-number-ne0.false),
-      omega arith,
-    )
+loop-half-preserved g c =
+    done_more _ _ _ _ c.loop-half.invariant c.loop-half-test.true (rw (part_of c.loop-half.row _ _) at c.count_half-left.ensures) c.in-Done.is
 
 pub returns : goal.returns
-returns c = counting_all _ _ _ _ c.loop-half.invariant.0 c.loop-half-test.false c.loop-half.invariant.1 c.requires.0
+returns g c = counting_all _ _ _ _ c.loop-half.invariant c.loop-half-test.false (omega arith) c.requires.0

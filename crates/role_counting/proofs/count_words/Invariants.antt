@@ -1,14 +1,8 @@
 -- The halves so far are counted, and the rest goes on from the cells that they set.
-use Prim.Native.Nat.{◌-◌, ◌≤◌}
-use lib.ListN.{length}
-use Rattle.knowing.specs.Known.{known}
-use Rattle.compiler.specs.CompileKnown.{from_known}
+use Rattle.role_counting.specs.Counted.{set_env}
 use Rattle.role_counting.proofs.CountLaws.{Counting}
 use Rattle.role_counting.proofs.count_words.Given as goal
 
 abbrev pub invariant-loop-half : goal.invariant-loop-half
-invariant-loop-half l =
-    Counting l.kinds l.counts l.rows (from_known (known l.objects) (known l.named)) l.half l.row l.create (from_known (known l.set_objects) (known l.set_named)) l.words × (l.half ≤ length l.counts)
-
-abbrev pub decreases-loop-half : goal.decreases-loop-half
-decreases-loop-half l = l.half-end - l.half
+invariant-loop-half g l =
+    Counting l.kinds l.counts (g.R.RowUnit.rows_of l.rows) (set_env l.fn.set) l.half l.row l.create (set_env l.set) l.words

@@ -1,87 +1,43 @@
 -- INPUT, the first half behind it, the second behind that, OUTPUT.
-use Prim.Native.Nat.{◌<◌}
-use mathlib.Core.Path.{◌≡◌, ◌∙◌}
+use native.Mathlib.Nat.{div-le_self}
 use native.Mathlib.Omega.{arith}
-use lib.ListN.{length, length-set}
-use Rattle.calls.specs.Frame.{output_word}
-use Rattle.knowing.specs.Known.{known}
-use Rattle.compiler.specs.CompileKnown.{from_known}
-use Rattle.role_writing.proofs.WriteLaws.{BothHalves, both_halves, first_fits, second_fits, output_inside, round_long, round_left}
+use lib.ListN.{length}
+use Rattle.role_writing.proofs.WriteLaws.{both_halves, first_fits, second_fits, output_inside, output_fits, round_left}
 use Rattle.role_writing.proofs.write_round.Goals as goal
 
-pub offset_bounds-code-place : goal.offset_bounds-code-place
-offset_bounds-code-place c =
-    let halves : BothHalves c.args.kinds.now c.args.matching.now c.args.creating.now (from_known (known c.args.objects) (known c.args.named)) c.args.place
-    (length c.args.code.now) = both_halves _ _ _ _ _ _ c.requires in
-    omega (arith, halves.least, c.well_formed.1.1.1.1.1.1.0.1)
+pub put-requires : goal.put-requires
+put-requires g c = omega (arith, (both_halves _ _ _ _ _ _ c.requires.fits).least)
 
-pub bounds-code-place : goal.bounds-code-place
-bounds-code-place c =
-    let halves : BothHalves c.args.kinds.now c.args.matching.now c.args.creating.now (from_known (known c.args.objects) (known c.args.named)) c.args.place
-    (length c.args.code.now) = both_halves _ _ _ _ _ _ c.requires in
-    omega (arith, halves.least)
+pub write_half-matched-requires-clause-fits : goal.write_half-matched-requires-clause-fits
+write_half-matched-requires-clause-fits g c =
+    let halves = both_halves _ _ _ _ _ _ c.requires.fits in
+    rw c.put.ensures (first_fits _ _ _ _ g.met.C.WordUnit.packs _ c.args.code.now halves)
 
-pub overflow_add-place : goal.overflow_add-place
-overflow_add-place c =
-    let halves : BothHalves c.args.kinds.now c.args.matching.now c.args.creating.now (from_known (known c.args.objects) (known c.args.named)) c.args.place
-    (length c.args.code.now) = both_halves _ _ _ _ _ _ c.requires in
-    omega (arith, halves.least, c.well_formed.1.1.1.1.1.1.0.1)
+pub write_half-created-requires-clause-fits : goal.write_half-created-requires-clause-fits
+write_half-created-requires-clause-fits g c =
+    let halves = both_halves _ _ _ _ _ _ c.requires.fits in
+    let matched = rw c.put.ensures at c.write_half-matched.ensures in
+    second_fits _ _ _ _ g.met.C.WordUnit.packs _ c.args.code.now halves matched
 
-pub write_half-matched-requires : goal.write_half-matched-requires
-write_half-matched-requires c =
-    let halves : BothHalves c.args.kinds.now c.args.matching.now c.args.creating.now (from_known (known c.args.objects) (known c.args.named)) c.args.place
-    (length c.args.code.now) = both_halves _ _ _ _ _ _ c.requires in
-    first_fits _ _ _ _ _ c.args.code.now halves
-
-pub write_half-created-requires : goal.write_half-created-requires
-write_half-created-requires c =
-    let halves : BothHalves c.args.kinds.now c.args.matching.now c.args.creating.now (from_known (known c.args.objects) (known c.args.named)) c.args.place
-    (length c.args.code.now) = both_halves _ _ _ _ _ _ c.requires in
-    second_fits _ _ _ _ _
-    c.args.code.now halves c.write_half-matched.ensures
-
-pub offset_bounds-code-output : goal.offset_bounds-code-output
-offset_bounds-code-output c =
-    let halves : BothHalves c.args.kinds.now c.args.matching.now c.args.creating.now (from_known (known c.args.objects) (known c.args.named)) c.args.place
-    (length c.args.code.now) = both_halves _ _ _ _ _ _ c.requires in
-    let inside : c.write_half-created.result.end < length c.write_half-created.new.code = output_inside _ _ _ _ _
-    c.args.code.now halves c.write_half-matched.ensures c.write_half-created.ensures in
-    let long : length c.write_half-created.new.code ≡ length
-    c.args.code.now = round_long _ _ _ _ _
-    c.args.code.now halves c.write_half-matched.ensures c.write_half-created.ensures in
-    omega (arith, inside, long, c.well_formed.1.1.1.1.1.1.0.1)
-
-pub bounds-code-output : goal.bounds-code-output
-bounds-code-output c =
-    let halves : BothHalves c.args.kinds.now c.args.matching.now c.args.creating.now (from_known (known c.args.objects) (known c.args.named)) c.args.place
-    (length c.args.code.now) = both_halves _ _ _ _ _ _ c.requires in
-    let inside : c.write_half-created.result.end < length c.write_half-created.new.code = output_inside _ _ _ _ _
-    c.args.code.now halves c.write_half-matched.ensures c.write_half-created.ensures in
-    inside
+pub put-requires-2 : goal.put-requires-2
+put-requires-2 g c =
+    let halves = both_halves _ _ _ _ _ _ c.requires.fits in
+    let matched = rw c.put.ensures at c.write_half-matched.ensures in
+    output_fits _ _ _ _ g.met.C.WordUnit.packs _ c.args.code.now halves matched c.write_half-created.ensures
 
 pub overflow_add-result : goal.overflow_add-result
-overflow_add-result c =
-    let halves : BothHalves c.args.kinds.now c.args.matching.now c.args.creating.now (from_known (known c.args.objects) (known c.args.named)) c.args.place
-    (length c.args.code.now) = both_halves _ _ _ _ _ _ c.requires in
-    let inside : c.write_half-created.result.end < length c.write_half-created.new.code = output_inside _ _ _ _ _
-    c.args.code.now halves c.write_half-matched.ensures c.write_half-created.ensures in
-    let long : length c.write_half-created.new.code ≡ length
-    c.args.code.now = round_long _ _ _ _ _
-    c.args.code.now halves c.write_half-matched.ensures c.write_half-created.ensures in
-    omega (arith, inside, long, c.well_formed.1.1.1.1.1.1.0.1)
-
-pub shape_of-code : goal.shape_of-code
-shape_of-code c =
-    let halves : BothHalves c.args.kinds.now c.args.matching.now c.args.creating.now (from_known (known c.args.objects) (known c.args.named)) c.args.place
-    (length c.args.code.now) = both_halves _ _ _ _ _ _ c.requires in
-    let long : length c.write_half-created.new.code ≡ length
-    c.args.code.now = round_long _ _ _ _ _
-    c.args.code.now halves c.write_half-matched.ensures c.write_half-created.ensures in
-    length-set c.write_half-created.new.code c.write_half-created.result.end output_word ∙ long
+overflow_add-result g c =
+    let halves = both_halves _ _ _ _ _ _ c.requires.fits in
+    let matched = rw c.put.ensures at c.write_half-matched.ensures in
+    omega (
+      arith,
+      output_inside _ _ _ _ g.met.C.WordUnit.packs _ c.args.code.now halves matched c.write_half-created.ensures,
+      div-le_self (length c.args.code.now) g.C.WordUnit.size,
+      c.well_formed.1.1.1.1.1.1.1.0.1,
+    )
 
 pub returns : goal.returns
-returns c =
-    let halves : BothHalves c.args.kinds.now c.args.matching.now c.args.creating.now (from_known (known c.args.objects) (known c.args.named)) c.args.place
-    (length c.args.code.now) = both_halves _ _ _ _ _ _ c.requires in
-    round_left _ _ _ _ _
-    c.args.code.now halves c.write_half-matched.ensures c.write_half-created.ensures
+returns g c =
+    let halves = both_halves _ _ _ _ _ _ c.requires.fits in
+    let matched = rw c.put.ensures at c.write_half-matched.ensures in
+    round_left _ _ _ _ g.met.C.WordUnit.packs _ c.args.code.now halves matched c.write_half-created.ensures c.put-2.ensures

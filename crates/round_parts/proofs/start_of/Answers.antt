@@ -6,8 +6,5 @@ use Rattle.round_parts.proofs.start_of.Goals as goal
 pub returns-then-round-eq0 : goal.returns-then-round-eq0
 returns-then-round-eq0 c = start_first _ c.if-round-eq0.true
 
-pub overflow_cast-result : goal.overflow_cast-result
-overflow_cast-result c = omega (arith, c.shared_slice_known-1.given (c.args.round - 1))
-
 pub returns : goal.returns
 returns c = start_later _ c.args.round c.if-round-eq0.false

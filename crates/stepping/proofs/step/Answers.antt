@@ -1,26 +1,10 @@
 -- `stepping::step` meets its contract: each way out is a step of the table.
 use mathlib.Core.Path.{refl}
-use Rattle.stepping.proofs.OperandLaws.{store_const_object, decode_object, create_object, create_kind, analyze_cells, create_tuple_object, create_tuple_count, opposite_object, stepped, stepped_alike}
+use Rattle.stepping.proofs.OperandLaws.{create_kind, stepped, stepped_alike}
 use Rattle.stepping.proofs.step.Goals as goal
 
-pub store_const-requires : goal.store_const-requires
-store_const-requires c = record { within = search; c_in_bounds = search store_const_object }
-
-pub decode-requires : goal.decode-requires
-decode-requires c = search decode_object
-
-pub create-requires : goal.create-requires
-create-requires c =
-    let fits = c.requires.t in record { within = search; v_in_bounds = search create_object; v_bound = create_kind _ _ fits _ c.in-Create.is }
-
-pub analyze_tuple-requires : goal.analyze_tuple-requires
-analyze_tuple-requires c = search analyze_cells
-
-pub create_tuple-requires : goal.create_tuple-requires
-create_tuple-requires c = record { within = search; t_in_bounds = search create_tuple_object; n_le_most_parts = search create_tuple_count }
-
-pub opposite-requires : goal.opposite-requires
-opposite-requires c = record { within = search; public_in_bounds = search opposite_object }
+pub create-requires-clause-v_bound : goal.create-requires-clause-v_bound
+create-requires-clause-v_bound c = create_kind _ _ c.requires.t _ c.in-Create.is
 
 pub returns-in-Load : goal.returns-in-Load
 returns-in-Load c = stepped_alike _ _ _ _ _ _ c.in-Load.is c.load.ensures refl refl

@@ -1,4 +1,4 @@
-use Prim.Native.Nat.{◌+◌, ◌-◌, ◌*◌}
+use Prim.Native.Nat.{◌+◌, ◌*◌}
 use Rattle.surveys.proofs.PartLaws.{PartsLooked}
 use Rattle.surveys.proofs.+surveying.Given as goal
 
@@ -17,8 +17,5 @@ decreases-survey_row l = 8 * l.row + 7
 abbrev pub decreases-survey_tuple : goal.decreases-survey_tuple
 decreases-survey_tuple l = 8 * l.row + 6
 
-abbrev pub invariant-survey_parts-loop-k : goal.invariant-survey_parts-loop-k
-invariant-survey_parts-loop-k l = PartsLooked l.create l.rows l.kinds l.children l.n l.initial.emission l.k l.emission
-
-abbrev pub decreases-survey_parts-loop-k : goal.decreases-survey_parts-loop-k
-decreases-survey_parts-loop-k l = l.n - l.k
+abbrev pub invariant-survey_parts-loop-child : goal.invariant-survey_parts-loop-child
+invariant-survey_parts-loop-child l = PartsLooked l.create l.rows l.kinds l.children l.initial.emission l.child-index l.emission

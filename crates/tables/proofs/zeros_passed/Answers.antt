@@ -1,5 +1,4 @@
 -- The invariant: the rows passed leave the same answer.
-use Prim.Native.Nat.{◌-◌}
 use mathlib.Core.Path.{refl, sym, ◌∙◌}
 use native.Mathlib.Omega.{arith}
 use Rattle.finder.proofs.BlockLaws.{nonzero_block}

@@ -1,7 +1,7 @@
 -- The cycle of `create_row` meets its contracts: the row number falls at each child.
 use Rattle.machine.specs.Machine.{slices}
 use Rattle.walk_creating.proofs.PartLaws.{Gathered}
-use Prim.Native.Nat.{◌+◌, ◌-◌, ◌*◌}
+use Prim.Native.Nat.{◌+◌, ◌*◌}
 use Rattle.walk_creating.proofs.+creating.Given as goal
 
 abbrev pub decreases-create_encryption : goal.decreases-create_encryption
@@ -18,7 +18,5 @@ decreases-create_tuple l = 8 * l.row + 6
 
 abbrev pub invariant-create_tuple-loop-k : goal.invariant-create_tuple-loop-k
 invariant-create_tuple-loop-k l =
-    Gathered l.rows l.kinds l.word l.initial.here (slices l.initial.objects l.initial.named l.initial.terms l.certificates) l.k l.parts l.here (slices l.objects l.named l.terms l.certificates)
-
-abbrev pub decreases-create_tuple-loop-k : goal.decreases-create_tuple-loop-k
-decreases-create_tuple-loop-k l = l.count - l.k
+    Gathered l.ground.rows.now l.ground.kinds.now l.word l.initial.here (slices l.initial.cells.objects l.initial.cells.named l.initial.terms l.ground.certificates.now) l.k l.parts l.here
+    (slices l.cells.objects l.cells.named l.terms l.ground.certificates.now)

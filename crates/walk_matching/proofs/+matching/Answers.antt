@@ -1,276 +1,95 @@
-use Prim.Native.Nat.{◌-◌}
 use mathlib.Core.Path.{refl, sym, ◌∙◌}
 use native.Mathlib.Omega.{arith}
 use Rattle.numbers.specs.Kinds.{kind_in}
 use Rattle.patterns.proofs.StandingLaws.{slot, stands_below, encryption_child, let_children}
-use Rattle.walk_matching.proofs.LeafLaws.{ready_within, variable_inside}
-use Rattle.walk_matching.proofs.WalkLaws.{ready_met, encryption_wrong, encryption_stuck, encryption_full, encryption_ready, encryption_done, tuple_stuck, tuple_full, tuple_ready, tuple_in_hand, tuple_parts, tuple_not, tuple_done}
-use Rattle.walk_matching.proofs.WalkLaws.{parts_end, part_below, parts_further, parts_stuck, parts_full, parts_ready, parts_in_hand, parts_done, let_set, let_stuck, let_full, let_ready, let_unset, let_done}
+use Rattle.walks.proofs.AskedLaws.{asked_given, asked_ends, set_read, set_ends}
+use Rattle.walk_matching.proofs.LeafLaws.{variable_inside}
+use Rattle.walk_matching.proofs.WalkLaws.{within_met, encryption_wrong, encryption_ended, encryption_within, encryption_done, tuple_ended}
+use Rattle.walk_matching.proofs.WalkLaws.{tuple_within, tuple_in_hand, let_set, let_ended, let_within, let_unset, let_done}
+use Rattle.walk_matching.proofs.WalkLaws.{tuple_few, tuple_parts, tuple_not, tuple_done, parts_none, parts_more, parts_end, parts_ended}
+use borrow.Author.Rules.{rules}
 use Rattle.walk_matching.proofs.+matching.Goals as goal
 
 pub match_encryption-returns-then-key_form-ne-PLAIN_KEY : goal.match_encryption-returns-then-key_form-ne-PLAIN_KEY
 match_encryption-returns-then-key_form-ne-PLAIN_KEY t c =
-    let inputs = c.args in
-    let start = c.requires in
-    let key_form_lem = c.key_form in
-    let if1 = c.if-key_form-ne-PLAIN_KEY in
-    encryption_wrong _ (kind_in inputs.kinds.now) _ _ _ _ _ _ _ start.stands_at start.word_value _ key_form_lem.ensures if1.true
+    encryption_wrong _ (kind_in c.args.ground.now.kinds.now) _ _ _ _ _ _ _ c.requires.stands_at c.requires.word_value _ c.key_form.ensures c.if-key_form-ne-PLAIN_KEY.true
 
-pub match_encryption-open-opened-requires : goal.match_encryption-open-opened-requires
-match_encryption-open-opened-requires t c =
-    let start = c.requires in
-    let variable = c.variable-e in record { within = ready_within start.walk_ready; e_in_bounds = variable_inside start.walk_ready _ _ variable.ensures }
+pub match_encryption-open-requires : goal.match_encryption-open-requires
+match_encryption-open-requires t c =
+    record { within = c.requires.within; e_in_bounds = variable_inside _ (search rules) _ _ c.variable-e.ensures }
 
 pub match_encryption-match_row-requires : goal.match_encryption-match_row-requires
 match_encryption-match_row-requires t c =
-    let start = c.requires in
-    let slots = c.slots-children in
-    let inputs = c.args in
-    let key_form_lem = c.key_form in
-    let if1 = c.if-key_form-ne-PLAIN_KEY in
-    let variable = c.variable-e in
-    let key = c.key in
-    let opening = c.open-opened in (
-      omega (arith, c.decreases, (encryption_child start.stands_at _ (slot _ _ 0 slots.ensures) start.word_value)),
-      (
-        stands_below start.stands_at.stands (encryption_child start.stands_at _ (slot _ _ 0 slots.ensures) start.word_value),
-        encryption_ready _ (kind_in
-            inputs.kinds.now) _ _ _ _ _ _ _ start.stands_at start.word_value _ key_form_lem.ensures if1.false _ _ variable.ensures key.ensures opening.ensures _
-            c.in-Next.is start.walk_ready,
-      ),
-    )
+    let low = encryption_child c.requires.stands_at _ (slot _ _ 0 c.slots-children.ensures) c.requires.word_value in
+    let within = encryption_within _ (kind_in c.args.ground.now.kinds.now) c.args.ground.now.certificates.now _ _ c.args.cells.now.named _ _ _ c.requires.stands_at c.requires.word_value _
+    c.key_form.ensures c.if-key_form-ne-PLAIN_KEY.false _ _ c.variable-e.ensures c.key.ensures c.open.ensures _ c.in_ok-inner.was c.requires.within in
+    (omega (arith, c.decreases, low), (stands_below c.requires.stands_at.stands low, within))
 
-pub match_encryption-returns-in-Stuck : goal.match_encryption-returns-in-Stuck
-match_encryption-returns-in-Stuck t c =
-    let inputs = c.args in
-    let start = c.requires in
-    let key_form_lem = c.key_form in
-    let if1 = c.if-key_form-ne-PLAIN_KEY in
-    let variable = c.variable-e in
-    let key = c.key in
-    let opening = c.open-opened in
-    encryption_stuck _ (kind_in inputs.kinds.now) _ _ _ _ _ _ _ start.stands_at start.word_value _ key_form_lem.ensures if1.false _ _ variable.ensures key.ensures
-    opening.ensures _ _ c.in-Stuck.is
+pub match_encryption-returns-in_err-inner : goal.match_encryption-returns-in_err-inner
+match_encryption-returns-in_err-inner t c =
+    encryption_ended _ (kind_in c.args.ground.now.kinds.now) _ _ _ _ _ _ _ c.requires.stands_at c.requires.word_value _ c.key_form.ensures c.if-key_form-ne-PLAIN_KEY.false _ _
+    c.variable-e.ensures c.key.ensures c.open.ensures c.in_err-inner.was c.from_residual.ensures.1
 
-pub match_encryption-returns-in-NoRoom : goal.match_encryption-returns-in-NoRoom
-match_encryption-returns-in-NoRoom t c =
-    let inputs = c.args in
-    let start = c.requires in
-    let key_form_lem = c.key_form in
-    let if1 = c.if-key_form-ne-PLAIN_KEY in
-    let variable = c.variable-e in
-    let key = c.key in
-    let opening = c.open-opened in
-    encryption_full _ (kind_in inputs.kinds.now) _ _ _ _ _ _ _ start.stands_at start.word_value _ key_form_lem.ensures if1.false _ _ variable.ensures key.ensures
-    opening.ensures _ c.in-NoRoom.is
-
-pub match_encryption-returns-in-Next : goal.match_encryption-returns-in-Next
-match_encryption-returns-in-Next t c =
-    let inputs = c.args in
-    let start = c.requires in
-    let key_form_lem = c.key_form in
-    let if1 = c.if-key_form-ne-PLAIN_KEY in
-    let variable = c.variable-e in
-    let key = c.key in
-    let opening = c.open-opened in
-    let slots = c.slots-children in
-    let match-row = c.match_row in
-    encryption_done _ (kind_in inputs.kinds.now) _ _ _ _ _ _ _ start.stands_at start.word_value _ key_form_lem.ensures if1.false _ _ variable.ensures key.ensures
-    opening.ensures _ c.in-Next.is _ slots.ensures match-row.ensures
+pub match_encryption-returns : goal.match_encryption-returns
+match_encryption-returns t c =
+    encryption_done _ (kind_in c.args.ground.now.kinds.now) _ _ _ _ _ _ _ c.requires.stands_at c.requires.word_value _ c.key_form.ensures c.if-key_form-ne-PLAIN_KEY.false _ _
+    c.variable-e.ensures c.key.ensures c.open.ensures _ c.in_ok-inner.was _ c.slots-children.ensures c.match_row.ensures
 
 pub match_let-returns-then-known : goal.match_let-returns-then-known
 match_let-returns-then-known t c =
-    let inputs = c.args in
-    let start = c.requires in
-    let raw = c.raw-r in
-    let message-at = c.message_at-known in
-    let if1 = c.if-known in
-    let_set _ (kind_in inputs.kinds.now) _ _ _ _ _ _ _ start.stands_at start.word_value _ raw.ensures _ message-at.ensures if1.true
-
-pub match_let-match_row-walked-requires : goal.match_let-match_row-walked-requires
-match_let-match_row-walked-requires t c =
-    let start = c.requires in
-    let slots = c.slots-children in (
-      omega (arith, c.decreases, (let_children start.stands_at _ (slot _ _ 0 slots.ensures) _ (slot _ _ 1 slots.ensures) start.word_value).1),
-      (stands_below start.stands_at.stands (let_children start.stands_at _ (slot _ _ 0 slots.ensures) _ (slot _ _ 1 slots.ensures) start.word_value).1, start.walk_ready),
-    )
-
-pub match_let-returns-then-bound : goal.match_let-returns-then-bound
-match_let-returns-then-bound t c =
-    let inputs = c.args in
-    let start = c.requires in
-    let raw = c.raw-r in
-    let message-at = c.message_at-known in
-    let if1 = c.if-known in
-    let slots = c.slots-children in
-    let match-row = c.match_row-walked in
-    let message-at2 = c.message_at-bound in
-    let if2 = c.if-bound in
-    let_unset _ (kind_in inputs.kinds.now) _ _ _ _ _ _ _ start.stands_at start.word_value _ raw.ensures _ message-at.ensures if1.false _ slots.ensures
-    match-row.ensures _ c.in-Next.is _ message-at2.ensures if2.true
+    let_set _ (kind_in c.args.ground.now.kinds.now) _ _ _ _ _ _ _ c.requires.stands_at c.requires.word_value _ c.raw-r.ensures _ c.message_at-known.ensures c.if-known.true
 
 pub match_let-match_row-requires : goal.match_let-match_row-requires
 match_let-match_row-requires t c =
-    let start = c.requires in
-    let slots = c.slots-children in
-    let meeting = c.meeting in
-    let inputs = c.args in
-    let raw = c.raw-r in
-    let message-at = c.message_at-known in
-    let if1 = c.if-known in
-    let match-row = c.match_row-walked in (
-      omega (arith, c.decreases, (let_children start.stands_at _ (slot _ _ 0 slots.ensures) _ (slot _ _ 1 slots.ensures) start.word_value).0),
-      (
-        stands_below start.stands_at.stands (let_children start.stands_at _ (slot _ _ 0 slots.ensures) _ (slot _ _ 1 slots.ensures) start.word_value).0,
-        ready_met
-            meeting.ensures (let_ready _ (kind_in inputs.kinds.now) _ _ _ _ _ _ _ start.stands_at start.word_value _ raw.ensures _ message-at.ensures if1.false _
-            slots.ensures match-row.ensures _ c.in-Next.is start.walk_ready),
-      ),
-    )
+    let slots = c.slots-children.ensures in
+    let low = (let_children c.requires.stands_at _ (slot _ _ 0 slots) _ (slot _ _ 1 slots) c.requires.word_value).1 in
+    (omega (arith, c.decreases, low), (stands_below c.requires.stands_at.stands low, c.requires.within))
 
-pub match_let-returns-in-Stuck : goal.match_let-returns-in-Stuck
-match_let-returns-in-Stuck t c =
-    let inputs = c.args in
-    let start = c.requires in
-    let raw = c.raw-r in
-    let message-at = c.message_at-known in
-    let if1 = c.if-known in
-    let slots = c.slots-children in
-    let match-row = c.match_row-walked in
-    let_stuck _ (kind_in inputs.kinds.now) _ _ _ _ _ _ _ start.stands_at start.word_value _ raw.ensures _ message-at.ensures if1.false _ slots.ensures
-    match-row.ensures _ _ c.in-Stuck.is
+pub match_let-returns-in_err-bound : goal.match_let-returns-in_err-bound
+match_let-returns-in_err-bound t c =
+    let (e, ends) = set_ends c.args.row c.set_row.ensures c.asked_at.ensures c.in_err-bound.was c.from_residual-in_err-bound.ensures.1 in
+    rw ends
+    (let_unset _ (kind_in c.args.ground.now.kinds.now) _ _ _ _ _ _ _ c.requires.stands_at c.requires.word_value _ c.raw-r.ensures _ c.message_at-known.ensures c.if-known.false _
+    c.slots-children.ensures c.match_row.ensures _ c.in_ok-after.was _ c.message_at.ensures e)
 
-pub match_let-returns-in-NoRoom : goal.match_let-returns-in-NoRoom
-match_let-returns-in-NoRoom t c =
-    let inputs = c.args in
-    let start = c.requires in
-    let raw = c.raw-r in
-    let message-at = c.message_at-known in
-    let if1 = c.if-known in
-    let slots = c.slots-children in
-    let match-row = c.match_row-walked in
-    let_full _ (kind_in inputs.kinds.now) _ _ _ _ _ _ _ start.stands_at start.word_value _ raw.ensures _ message-at.ensures if1.false _ slots.ensures
-    match-row.ensures _ c.in-NoRoom.is
+pub match_let-match_row-requires-2 : goal.match_let-match_row-requires-2
+match_let-match_row-requires-2 t c =
+    let slots = c.slots-children.ensures in
+    let low = (let_children c.requires.stands_at _ (slot _ _ 0 slots) _ (slot _ _ 1 slots) c.requires.word_value).0 in
+    let within = let_within _ (kind_in c.args.ground.now.kinds.now) _ _ _ _ _ _ _ c.requires.stands_at c.requires.word_value _ c.raw-r.ensures _ c.message_at-known.ensures c.if-known.false _ slots
+    c.match_row.ensures _ c.in_ok-after.was c.requires.within in
+    (omega (arith, c.decreases, low), (stands_below c.requires.stands_at.stands low, within_met c.meeting-met.ensures within))
 
-pub match_let-returns-else-bound : goal.match_let-returns-else-bound
-match_let-returns-else-bound t c =
-    let inputs = c.args in
-    let start = c.requires in
-    let raw = c.raw-r in
-    let message-at = c.message_at-known in
-    let if1 = c.if-known in
-    let slots = c.slots-children in
-    let match-row = c.match_row-walked in
-    let message-at2 = c.message_at-bound in
-    let if2 = c.if-bound in
-    let meeting = c.meeting in
-    let match-row2 = c.match_row in
-    let_done _ (kind_in inputs.kinds.now) _ _ _ _ _ _ _ start.stands_at start.word_value _ raw.ensures _ message-at.ensures if1.false _ slots.ensures
-    match-row.ensures _ c.in-Next.is _ message-at2.ensures if2.false _ meeting.ensures match-row2.ensures
+pub match_let-returns-in_err-after : goal.match_let-returns-in_err-after
+match_let-returns-in_err-after t c =
+    let_ended _ (kind_in c.args.ground.now.kinds.now) _ _ _ _ _ _ _ c.requires.stands_at c.requires.word_value _ c.raw-r.ensures _ c.message_at-known.ensures c.if-known.false _
+    c.slots-children.ensures c.match_row.ensures c.in_err-after.was c.from_residual.ensures.1
 
-pub match_parts-returns-then-n-k : goal.match_parts-returns-then-n-k
-match_parts-returns-then-n-k t c =
-    let inputs = c.args in
-    let start = c.requires in
-    let if1 = c.if-n-k in
-    parts_end _ (kind_in inputs.kinds.now) _ _ _ _ _ _ _ _ _ _ start.parts_stand if1.true start.walk_ready start.fact
-
-pub match_parts-part-requires : goal.match_parts-part-requires
-match_parts-part-requires t c =
-    let start = c.requires in
-    let if1 = c.if-n-k in
-    omega (arith, start.parts_stand.few, start.parts_stand.low, if1.false)
-
-pub match_parts-match_row-walked-requires : goal.match_parts-match_row-walked-requires
-match_parts-match_row-walked-requires t c =
-    let start = c.requires in
-    let if1 = c.if-n-k in
-    let meeting = c.meeting-met in (
-      omega (arith, c.decreases, part_below start.parts_stand if1.false, start.parts_stand.few, if1.false),
-      (stands_below start.parts_stand.stands (part_below start.parts_stand if1.false), ready_met meeting.ensures start.walk_ready),
-    )
-
-pub match_parts-overflow_add-k : goal.match_parts-overflow_add-k
-match_parts-overflow_add-k t c =
-    let start = c.requires in
-    let if1 = c.if-n-k in
-    omega (arith, start.parts_stand.few, if1.false)
-
-pub match_parts-match_parts-requires : goal.match_parts-match_parts-requires
-match_parts-match_parts-requires t c =
-    let start = c.requires in
-    let if1 = c.if-n-k in
-    let inputs = c.args in
-    let part = c.part in
-    let meeting = c.meeting-met in
-    let match-row = c.match_row-walked in (
-      omega (arith, c.decreases, start.parts_stand.few, if1.false),
-      (
-        parts_further start.parts_stand if1.false,
-        (
-          parts_ready _ (kind_in inputs.kinds.now) _ _ _ _ _ _ _ _ _ inputs.walk start.parts_stand if1.false _ part.ensures _
-              meeting.ensures match-row.ensures _ c.in-Next.is start.walk_ready,
-          parts_in_hand _ (kind_in inputs.kinds.now) _ _ _ _ _ _ _ _ _ inputs.walk start.parts_stand
-              if1.false _ part.ensures _ meeting.ensures match-row.ensures _ c.in-Next.is,
-        ),
-      ),
-    )
-
-pub match_parts-returns-in-Stuck : goal.match_parts-returns-in-Stuck
-match_parts-returns-in-Stuck t c =
-    let inputs = c.args in
-    let start = c.requires in
-    let if1 = c.if-n-k in
-    let part = c.part in
-    let meeting = c.meeting-met in
-    let match-row = c.match_row-walked in
-    parts_stuck _ (kind_in inputs.kinds.now) _ _ _ _ _ _ _ _ _ _ start.parts_stand if1.false _ part.ensures _ meeting.ensures match-row.ensures _ _ c.in-Stuck.is
-
-pub match_parts-returns-in-NoRoom : goal.match_parts-returns-in-NoRoom
-match_parts-returns-in-NoRoom t c =
-    let inputs = c.args in
-    let start = c.requires in
-    let if1 = c.if-n-k in
-    let part = c.part in
-    let meeting = c.meeting-met in
-    let match-row = c.match_row-walked in
-    parts_full _ (kind_in inputs.kinds.now) _ _ _ _ _ _ _ _ _ _ start.parts_stand if1.false _ part.ensures _ meeting.ensures match-row.ensures _ c.in-NoRoom.is
-
-pub match_parts-returns-in-Next : goal.match_parts-returns-in-Next
-match_parts-returns-in-Next t c =
-    let inputs = c.args in
-    let start = c.requires in
-    let if1 = c.if-n-k in
-    let part = c.part in
-    let meeting = c.meeting-met in
-    let match-row = c.match_row-walked in
-    let match_parts = c.match_parts in
-    parts_done _ (kind_in inputs.kinds.now) _ _ _ _ _ _ _ _ _ _ start.parts_stand if1.false _ part.ensures _ meeting.ensures match-row.ensures _ c.in-Next.is
-    match_parts.ensures
+pub match_let-returns : goal.match_let-returns
+match_let-returns t c =
+    let (is_row, read) = set_read c.args.row c.set_row.ensures c.asked_at.ensures c.message_at.ensures c.in_ok-bound.was in
+    let_done _ (kind_in c.args.ground.now.kinds.now) _ _ _ _ _ _ _ c.requires.stands_at c.requires.word_value _ c.raw-r.ensures _ c.message_at-known.ensures c.if-known.false _ c.slots-children.ensures
+    c.match_row.ensures _ c.in_ok-after.was _ read is_row _ c.meeting-met.ensures c.match_row-2.ensures
 
 pub match_row-match_encryption-requires : goal.match_row-match_encryption-requires
 match_row-match_encryption-requires t c =
-    let start = c.requires in
-    let tag = c.tag-tag in
-    (omega (arith, c.decreases), (record { here = refl; stands = start.stands }, (sym tag.ensures ∙ c.in-5.is, start.walk_ready)))
+    (omega (arith, c.decreases), (record { here = refl; stands = c.requires.stands }, (sym c.tag.ensures ∙ c.in-5.is, c.requires.within)))
 
 pub match_row-match_tuple-requires : goal.match_row-match_tuple-requires
 match_row-match_tuple-requires t c =
-    let start = c.requires in
-    let tag = c.tag-tag in
-    (omega (arith, c.decreases), (record { here = refl; stands = start.stands }, (sym tag.ensures ∙ c.in-8.is, start.walk_ready)))
+    (omega (arith, c.decreases), (record { here = refl; stands = c.requires.stands }, (sym c.tag.ensures ∙ c.in-8.is, c.requires.within)))
 
 pub match_row-match_let-requires : goal.match_row-match_let-requires
 match_row-match_let-requires t c =
-    let start = c.requires in
-    let tag = c.tag-tag in
-    (omega (arith, c.decreases), (record { here = refl; stands = start.stands }, (sym tag.ensures ∙ c.in-9.is, start.walk_ready)))
+    (omega (arith, c.decreases), (record { here = refl; stands = c.requires.stands }, (sym c.tag.ensures ∙ c.in-9.is, c.requires.within)))
 
 pub match_row-match_leaf-requires : goal.match_row-match_leaf-requires
 match_row-match_leaf-requires t c =
-    let start = c.requires in
-    let arm = c.in_default in
-    let tag = c.tag-tag in record { stands_at = record { here = refl; stands = start.stands }; leaf = record { encryption = λ h. arm.in_default-own.rest.0.0.1 (tag.ensures ∙ h); tuple = λ h. arm.in_default-own.rest.0.1 (tag.ensures ∙ h); let_in = λ h. arm.in_default-own.rest.1 (tag.ensures ∙ h) }; walk_ready = start.walk_ready }
+    record {
+      stands_at = record { here = refl; stands = c.requires.stands };
+      leaf = record { encryption = λ h. omega arith; tuple = λ h. omega arith; let_in = λ h. omega arith };
+      within = c.requires.within;
+    }
 
 pub match_row-returns-in-5 : goal.match_row-returns-in-5
 match_row-returns-in-5 t c = c.match_encryption.ensures
@@ -284,69 +103,57 @@ match_row-returns-in-9 t c = c.match_let.ensures
 pub match_row-returns-in_default : goal.match_row-returns-in_default
 match_row-returns-in_default t c = c.match_leaf.ensures
 
-pub match_tuple-decode-decoded-requires : goal.match_tuple-decode-decoded-requires
-match_tuple-decode-decoded-requires t c =
-    let start = c.requires in
-    let variable = c.variable in record { within = ready_within start.walk_ready; v_in_bounds = variable_inside start.walk_ready _ _ variable.ensures }
+pub match_tuple-decode-requires : goal.match_tuple-decode-requires
+match_tuple-decode-requires t c =
+    record { within = c.requires.within; v_in_bounds = variable_inside _ (search rules) _ _ c.variable.ensures }
 
-pub match_tuple-match_parts-requires : goal.match_tuple-match_parts-requires
-match_tuple-match_parts-requires t c =
-    let start = c.requires in
-    let inputs = c.args in
-    let variable = c.variable in
-    let decode = c.decode-decoded in
-    let count = c.count-n in
-    let slots = c.slots-children in (
-      omega (arith, c.decreases),
-      (
-        tuple_parts _ (kind_in inputs.kinds.now) inputs.certificates.now _ _ inputs.named.now _ _ _ start.stands_at start.word_value _
-            variable.ensures decode.ensures _ c.in-Next.is _ count.ensures _ slots.ensures,
-        (
-          tuple_ready _ (kind_in inputs.kinds.now) inputs.certificates.now _ _
-              inputs.named.now _ _ _ start.stands_at start.word_value _ variable.ensures decode.ensures _ c.in-Next.is start.walk_ready,
-          tuple_in_hand _ (kind_in
-              inputs.kinds.now) inputs.certificates.now _ _ inputs.named.now _ _ _ start.stands_at start.word_value _ variable.ensures decode.ensures _ c.in-Next.is,
-        ),
-      ),
-    )
+pub match_tuple-returns-in_err-inner : goal.match_tuple-returns-in_err-inner
+match_tuple-returns-in_err-inner t c =
+    tuple_ended _ (kind_in c.args.ground.now.kinds.now) _ _ _ _ _ _ _ c.requires.stands_at c.requires.word_value _ c.variable.ensures c.decode.ensures c.in_err-inner.was c.from_residual.ensures.1
 
-pub match_tuple-returns-in-Stuck : goal.match_tuple-returns-in-Stuck
-match_tuple-returns-in-Stuck t c =
-    let inputs = c.args in
-    let start = c.requires in
-    let variable = c.variable in
-    let decode = c.decode-decoded in
-    tuple_stuck _ (kind_in inputs.kinds.now) _ _ _ _ _ _ _ start.stands_at start.word_value _ variable.ensures decode.ensures _ _ c.in-Stuck.is
+pub match_tuple-returns-in_err-parts : goal.match_tuple-returns-in_err-parts
+match_tuple-returns-in_err-parts t c =
+    let (reason, refused, ends) = asked_ends c.args.row c.parts.result c.asked_at.ensures c.in_err-parts.was c.from_residual-in_err-parts.ensures.1 in
+    rw ends (tuple_not _ (kind_in c.args.ground.now.kinds.now) _ _ _ _ _ _ _ c.requires.stands_at c.requires.word_value _ c.variable.ensures c.decode.ensures _ c.in_ok-inner.was _ c.count-n.ensures _
+    c.slots-children.ensures c.parts.ensures _ refused)
 
-pub match_tuple-returns-in-NoRoom : goal.match_tuple-returns-in-NoRoom
-match_tuple-returns-in-NoRoom t c =
-    let inputs = c.args in
-    let start = c.requires in
-    let variable = c.variable in
-    let decode = c.decode-decoded in
-    tuple_full _ (kind_in inputs.kinds.now) _ _ _ _ _ _ _ start.stands_at start.word_value _ variable.ensures decode.ensures _ c.in-NoRoom.is
+pub match_tuple-slice_bounds-children-end : goal.match_tuple-slice_bounds-children-end
+match_tuple-slice_bounds-children-end t c =
+    tuple_few c.requires.stands_at c.requires.word_value _ c.count-n.ensures _ c.slots-children.ensures
 
-pub match_tuple-returns-in-Not : goal.match_tuple-returns-in-Not
-match_tuple-returns-in-Not t c =
-    let inputs = c.args in
-    let start = c.requires in
-    let variable = c.variable in
-    let decode = c.decode-decoded in
-    let count = c.count-n in
-    let slots = c.slots-children in
-    let parts = c.parts-parted in
-    tuple_not _ (kind_in inputs.kinds.now) _ _ _ _ _ _ _ start.stands_at start.word_value _ variable.ensures decode.ensures _ c.in-Next.is _ count.ensures _
-    slots.ensures parts.ensures _ c.in-Not.is
+pub match_tuple-loop-slot-init : goal.match_tuple-loop-slot-init
+match_tuple-loop-slot-init t c =
+    parts_none _ _ _ _ _ _
+    (tuple_in_hand _ (kind_in c.args.ground.now.kinds.now) c.args.ground.now.certificates.now _ _ c.args.cells.now.named _ _ _ c.requires.stands_at c.requires.word_value _ c.variable.ensures
+    c.decode.ensures _ c.in_ok-inner.was)
+    (tuple_within _ (kind_in c.args.ground.now.kinds.now) c.args.ground.now.certificates.now _ _ c.args.cells.now.named _ _ _ c.requires.stands_at c.requires.word_value _ c.variable.ensures
+    c.decode.ensures _ c.in_ok-inner.was c.requires.within)
 
-pub match_tuple-returns-in-Tuple : goal.match_tuple-returns-in-Tuple
-match_tuple-returns-in-Tuple t c =
-    let inputs = c.args in
-    let start = c.requires in
-    let variable = c.variable in
-    let decode = c.decode-decoded in
-    let count = c.count-n in
-    let slots = c.slots-children in
-    let parts = c.parts-parted in
-    let match_parts = c.match_parts in
-    tuple_done _ (kind_in inputs.kinds.now) _ _ _ _ _ _ _ start.stands_at start.word_value _ variable.ensures decode.ensures _ c.in-Next.is _ count.ensures _
-    slots.ensures parts.ensures _ c.in-Tuple.is match_parts.ensures
+pub match_tuple-part-requires : goal.match_tuple-part-requires
+match_tuple-part-requires t c =
+    let asks = tuple_parts c.requires.stands_at c.requires.word_value _ c.count-n.ensures _ c.slots-children.ensures in
+    omega (arith, asks.few, c.loop-slot-test.true)
+
+pub match_tuple-match_row-requires : goal.match_tuple-match_row-requires
+match_tuple-match_row-requires t c =
+    let asks = tuple_parts c.requires.stands_at c.requires.word_value _ c.count-n.ensures _ c.slots-children.ensures in
+    let low = asks.below _ c.loop-slot-test.true in
+    (omega (arith, c.decreases, low), (stands_below asks.stands low, within_met c.meeting-met.ensures c.loop-slot.invariant.within))
+
+pub match_tuple-returns-in_err-here : goal.match_tuple-returns-in_err-here
+match_tuple-returns-in_err-here t c =
+    let taken = asked_given c.args.row c.parts.result c.asked_at.ensures c.in_ok-parts.was in
+    let ended = parts_ended _ _ _ _ _ _ _ _ _ c.loop-slot.invariant c.loop-slot-test.true _ c.part.ensures _ c.meeting-met.ensures c.match_row.ensures c.in_err-here.was
+    c.from_residual-in_err-here.ensures.1 in
+    tuple_done _ (kind_in c.args.ground.now.kinds.now) _ _ _ _ _ _ _ c.requires.stands_at c.requires.word_value _ c.variable.ensures c.decode.ensures _ c.in_ok-inner.was _ c.count-n.ensures _
+    c.slots-children.ensures c.parts.ensures _ taken ended
+
+pub match_tuple-loop-slot-preserved : goal.match_tuple-loop-slot-preserved
+match_tuple-loop-slot-preserved t c =
+    parts_more _ _ _ _ _ _ _ _ _ c.loop-slot.invariant c.loop-slot-test.true _ c.part.ensures _ c.meeting-met.ensures c.match_row.ensures _ c.in_ok-here.was
+
+pub match_tuple-returns : goal.match_tuple-returns
+match_tuple-returns t c =
+    let taken = asked_given c.args.row c.parts.result c.asked_at.ensures c.in_ok-parts.was in
+    tuple_done _ (kind_in c.args.ground.now.kinds.now) _ _ _ _ _ _ _ c.requires.stands_at c.requires.word_value _ c.variable.ensures c.decode.ensures _ c.in_ok-inner.was _ c.count-n.ensures _
+    c.slots-children.ensures c.parts.ensures _ taken (parts_end _ _ _ _ _ _ _ _ _ c.loop-slot.invariant c.loop-slot-test.false)

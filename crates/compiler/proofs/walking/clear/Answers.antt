@@ -1,17 +1,11 @@
--- Up to the place the words are zero.
-use Prim.Native.Nat.{◌-◌}
+use mathlib.Core.Path.{◌≡◌}
 use native.Mathlib.Omega.{arith}
-use Rattle.compiler.proofs.ClearLaws.{cleared_none, cleared_more, cleared_all}
+use lib.ListN.{length}
+use Rattle.compiler.specs.CompileKnown.{no_words}
 use Rattle.compiler.proofs.walking.clear.Goals as goal
 
-pub loop-place-init : goal.loop-place-init
-loop-place-init c = cleared_none c.requires
-
-pub bounds-buffer-place : goal.bounds-buffer-place
-bounds-buffer-place c = omega (arith, c.loop-place.invariant.long)
-
-pub loop-place-preserved : goal.loop-place-preserved
-loop-place-preserved c = cleared_more c.loop-place.invariant c.loop-place-test.true
-
 pub returns : goal.returns
-returns c = cleared_all c.loop-place.invariant c.loop-place-test.false
+unfolding no_words
+returns c =
+    let long : length c.args.buffer.now ≡ 768 = omega arith in
+    rw (c.fill.ensures.after (λ y same. same), long)

@@ -1,7 +1,8 @@
 use Prim.Native.Nat.{ℕ}
 use mathlib.Core.Path.{◌≡◌, refl}
 use mathlib.Core.List.{List}
-use borrow.Author.Rules.{rules}
+use native.Mathlib.Omega.{arith}
+use lib.ListN.{length-take}
 use Rattle.word.specs.Bytes.{elements}
 use Rattle.terms.specs.Rules.{used_rows}
 use Rattle.calls.specs.Round.{RoundLent, RoundOutcome, round}
@@ -16,39 +17,10 @@ new : (x : RoundLent) (words : List ℕ) {ended : RoundOutcome} {rows : List ℕ
     → from ≡ used_rows (elements 8 x.terms) → to ≡ ended.session.used → SameBut (elements 8 x.terms) ended.terms from to
 new x words {rows = rows} r e f t = new_rows x.terms r f t (rw e (round_new_rows (with_rows x rows) words))
 
-pub unpack-read-requires : goal.unpack-read-requires
-unpack-read-requires c = c.requires
-
-pub round_front-ended-requires : goal.round_front-ended-requires
-round_front-ended-requires c = let read = c.unpack-read.ensures in rw read.0 read.2
-
 pub pack_new-requires : goal.pack_new-requires
-pack_new-requires c =
-    let lent : RoundLent = record {
-      session = c.args.session;
-      rounds = c.args.rounds;
-      kinds = c.args.kinds.now;
-      objects = c.args.objects;
-      messages = c.args.messages;
-      certificates = c.args.certificates.now;
-      terms = c.args.terms.now;
-    } in
-    let read = c.unpack-read.ensures in (
-      search rules,
-      used_few c.args.terms.now (search rules) read.1,
-      new lent c.args.words.now read.0 c.round_front-ended.ensures read.1 refl,
-    )
+pack_new-requires g c =
+    let read = c.unpack-read.ensures in
+    (omega (arith, length-take {A = ℕ}), used_few c.args.terms.now (omega (arith, length-take {A = ℕ})) read.1, new _ _ read.0 c.round_front-ended.ensures read.1 refl)
 
 pub returns : goal.returns
-returns c =
-    let lent : RoundLent = record {
-      session = c.args.session;
-      rounds = c.args.rounds;
-      kinds = c.args.kinds.now;
-      objects = c.args.objects;
-      messages = c.args.messages;
-      certificates = c.args.certificates.now;
-      terms = c.args.terms.now;
-    } in
-    let read = c.unpack-read.ensures in
-    round_rows_packed lent c.args.words.now read.0 c.round_front-ended.ensures c.pack_new.ensures
+returns g c = round_rows_packed _ _ c.unpack-read.ensures.0 c.round_front-ended.ensures c.pack_new.ensures

@@ -1,7 +1,8 @@
 use Prim.Native.Nat.{ℕ}
 use mathlib.Core.Path.{◌≡◌}
 use mathlib.Core.List.{List}
-use borrow.Author.Rules.{rules}
+use native.Mathlib.Omega.{arith}
+use lib.ListN.{length-take}
 use Rattle.word.specs.Bytes.{elements}
 use Rattle.terms.specs.Rules.{used_rows}
 use Rattle.calls.specs.Run.{Lent, RunOutcome, run}
@@ -17,39 +18,10 @@ new : (x : Lent) (words : List ℕ) {ran : RunOutcome} {rows : List ℕ} {from t
     → from ≡ used_rows (elements 8 x.terms) → to ≡ used_with ran.answer ran.terms → SameBut (elements 8 x.terms) ran.terms from to
 new x words {rows = rows} r e f t = new_rows x.terms r f t (rw e (run_new_rows (with_rows x rows) words))
 
-pub unpack-read-requires : goal.unpack-read-requires
-unpack-read-requires c = c.requires
-
-pub run_cells-left-requires : goal.run_cells-left-requires
-run_cells-left-requires c = let read = c.unpack-read.ensures in rw read.0 read.2
-
 pub pack_new-requires : goal.pack_new-requires
-pack_new-requires c =
-    let lent : Lent = record {
-      kinds = c.args.kinds.now;
-      objects = c.args.objects;
-      messages = c.args.messages;
-      certificates = c.args.certificates.now;
-      accumulator = c.args.accumulator;
-      terms = c.args.terms.now;
-      counter = c.args.counter;
-    } in
-    let read = c.unpack-read.ensures in (
-      search rules,
-      used_few c.args.terms.now (search rules) read.1,
-      new lent c.args.words.now read.0 c.run_cells-left.ensures.0 read.1 c.run_cells-left.ensures.1,
-    )
+pack_new-requires g c =
+    let read = c.unpack-read.ensures in
+    (omega (arith, length-take {A = ℕ}), used_few c.args.terms.now (omega (arith, length-take {A = ℕ})) read.1, new _ _ read.0 c.run_cells-left.ensures.0 read.1 c.run_cells-left.ensures.1)
 
 pub returns : goal.returns
-returns c =
-    let lent : Lent = record {
-      kinds = c.args.kinds.now;
-      objects = c.args.objects;
-      messages = c.args.messages;
-      certificates = c.args.certificates.now;
-      accumulator = c.args.accumulator;
-      terms = c.args.terms.now;
-      counter = c.args.counter;
-    } in
-    let read = c.unpack-read.ensures in
-    rows_packed lent c.args.words.now read.0 c.run_cells-left.ensures.0 c.run_cells-left.ensures.1 c.pack_new.ensures
+returns g c = rows_packed _ _ c.unpack-read.ensures.0 c.run_cells-left.ensures.0 c.run_cells-left.ensures.1 c.pack_new.ensures

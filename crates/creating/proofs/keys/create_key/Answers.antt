@@ -1,4 +1,4 @@
-use Rattle.creating.proofs.KeyLaws.{key_plain, key_opposite, key_certified}
+use Rattle.creating.proofs.KeyLaws.{key_plain, key_certified}
 use Rattle.patterns.proofs.StandingLaws.{key_low, second_low}
 use Rattle.creating.proofs.keys.create_key.Goals as goal
 
@@ -14,9 +14,6 @@ opposite_key-requires c = record {
 
 pub returns-in-0 : goal.returns-in-0
 returns-in-0 c = search (key_plain)
-
-pub returns-in-1 : goal.returns-in-1
-returns-in-1 c = search (key_opposite)
 
 pub returns-in_default : goal.returns-in_default
 returns-in_default c =

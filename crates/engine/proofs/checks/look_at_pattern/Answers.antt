@@ -2,19 +2,20 @@
 use mathlib.Core.Path.{sym, ◌∙◌}
 use Rattle.knowing.specs.Known.{known}
 use Rattle.knowing.proofs.FindingLaws.{found_some, found_none}
-use Rattle.engine.proofs.FoundLaws.{pattern_refused, pattern_surveyed}
+use Rattle.engine.proofs.FoundLaws.{raised, pattern_refused, pattern_surveyed}
 use Rattle.engine.proofs.checks.look_at_pattern.Goals as goal
 
 pub survey-requires : goal.survey-requires
-survey-requires c = found_none _ (sym c.in-Accepted.is ∙ c.look-found.ensures)
+survey-requires c = found_none _ (sym c.in_ok-look.was ∙ c.look.ensures)
 
-pub returns-in-Refused : goal.returns-in-Refused
-returns-in-Refused c =
-    pattern_refused c.args.create c.args.pattern.now c.args.kinds.now (known c.args.objects) (known c.args.named)
-    (found_some _ (sym c.in-Refused.is ∙ c.look-found.ensures))
+pub returns-in_err-look : goal.returns-in_err-look
+returns-in_err-look c =
+    raised c.from_residual.ensures.1
+    ∙ pattern_refused c.args.create c.args.pattern.now c.args.kinds.now (known c.args.objects) (known c.args.named)
+    (found_some _ (sym c.in_err-look.was ∙ c.look.ensures))
 
-pub returns-in-Accepted : goal.returns-in-Accepted
-returns-in-Accepted c =
+pub returns : goal.returns
+returns c =
     c.survey.ensures
     ∙ pattern_surveyed c.args.create c.args.pattern.now c.args.kinds.now (known c.args.objects) (known c.args.named)
-    (found_none _ (sym c.in-Accepted.is ∙ c.look-found.ensures))
+    (found_none _ (sym c.in_ok-look.was ∙ c.look.ensures))

@@ -1,108 +1,45 @@
 -- Each check's answer, in the checks' order.
-use Prim.Native.Nat.{◌≤◌}
-use mathlib.Core.Path.{◌≡◌, sym, ◌∙◌}
-use mathlib.Core.Bool.{true}
-use mathlib.Core.Option.{none}
 use native.Mathlib.Omega.{arith}
-use lib.ListN.{length}
+use mathlib.Core.Path.{sym, ◌∙◌}
+use Rattle.answers.specs.declared.direct.Direct.TheVariants.{BadTerm}
 use Rattle.word.proofs.TestLaws.{both, at_most}
-use Rattle.numbers.specs.Limits.{most_term_rows}
-use Rattle.terms.specs.Rules.{used_rows, bad_term}
 use Rattle.terms.proofs.TableLaws.{used_rows_lem}
 use Rattle.calls.specs.Run.{Lent}
-use Rattle.calls.specs.Direct.{table_fits}
 use Rattle.looking.proofs.LookLaws.{true_holds, checked_bad, checked_used}
-use Rattle.engine.proofs.FoundLaws.{stores_limit, stores_term, stores_bad, stores_accepted}
+use Rattle.engine.proofs.FoundLaws.{lent, mapped_ok, mapped_err, raised, stores_limit, stores_term, stores_bad, stores_accepted}
 use Rattle.engine.proofs.checks.look_at_stores.Goals as goal
 
--- what each check that is passed leaves true
 pub returns-then-not-fits : goal.returns-then-not-fits
 returns-then-not-fits c =
-    let x : Lent = record {
-      kinds = c.args.kinds.now;
-      objects = c.args.objects.now;
-      messages = c.args.named.now;
-      certificates = c.args.certificates.now;
-      accumulator = c.args.accumulator;
-      terms = c.args.terms.now;
-      counter = c.args.counter;
-    } in
-    stores_limit x (c.if-not-fits.true)
+    let x : Lent = lent c.args.kinds.now c.args.objects.now c.args.named.now c.args.certificates.now c.args.accumulator c.args.terms.now c.args.counter in
+    stores_limit x c.if-not-fits.true
 
-pub first_bad_row-checked-requires : goal.first_bad_row-checked-requires
-first_bad_row-checked-requires c =
-    let x : Lent = record {
-      kinds = c.args.kinds.now;
-      objects = c.args.objects.now;
-      messages = c.args.named.now;
-      certificates = c.args.certificates.now;
-      accumulator = c.args.accumulator;
-      terms = c.args.terms.now;
-      counter = c.args.counter;
-    } in
-    let fits : table_fits x ≡ true = c.if-not-fits.false in
-    let few : length x.terms ≤ most_term_rows = (simp (both, at_most) at (true_holds fits)).0.1 in
-    few
+pub first_bad_row-requires : goal.first_bad_row-requires
+first_bad_row-requires c = let fits = simp (both, at_most) at (true_holds c.if-not-fits.false) in fits.0.1
+
+pub returns-in_err-count : goal.returns-in_err-count
+returns-in_err-count c =
+    let x : Lent = lent c.args.kinds.now c.args.objects.now c.args.named.now c.args.certificates.now c.args.accumulator c.args.terms.now c.args.counter in
+    let (row, bad, same) = mapped_err BadTerm c.map_err.result c.first_bad_row.result c.map_err.ensures.cases c.in_err-count.was in
+    rw (raised c.from_residual.ensures.1, same) (stores_term x c.if-not-fits.false (checked_bad _ _ c.first_bad_row.ensures bad))
 
 pub overflow_cast-used : goal.overflow_cast-used
 overflow_cast-used c =
-    let x : Lent = record {
-      kinds = c.args.kinds.now;
-      objects = c.args.objects.now;
-      messages = c.args.named.now;
-      certificates = c.args.certificates.now;
-      accumulator = c.args.accumulator;
-      terms = c.args.terms.now;
-      counter = c.args.counter;
-    } in
-    let fits : table_fits x ≡ true = c.if-not-fits.false in
-    let few : length x.terms ≤ most_term_rows = (simp (both, at_most) at (true_holds fits)).0.1 in
-    let lent : Lent = x in
-    let counted : (bad_term lent.terms lent.counter ≡ none) × (c.in-Used.count ≡ used_rows lent.terms) = checked_used lent.terms _ c.first_bad_row-checked.ensures c.in-Used.is in
-    omega (arith, counted.1, (used_rows_lem x.terms).inside, few)
+    let found = mapped_ok BadTerm c.map_err.result c.first_bad_row.result c.map_err.ensures.cases c.in_ok-count.was in
+    let counted = checked_used c.args.terms.now _ c.first_bad_row.ensures found in
+    let fits = simp (both, at_most) at (true_holds c.if-not-fits.false) in
+    omega (arith, counted.1, (used_rows_lem c.args.terms.now).inside, fits.0.1)
 
-pub returns-in-Bad : goal.returns-in-Bad
-returns-in-Bad c =
-    let x : Lent = record {
-      kinds = c.args.kinds.now;
-      objects = c.args.objects.now;
-      messages = c.args.named.now;
-      certificates = c.args.certificates.now;
-      accumulator = c.args.accumulator;
-      terms = c.args.terms.now;
-      counter = c.args.counter;
-    } in
-    let fits : table_fits x ≡ true = c.if-not-fits.false in
-    stores_term x fits (checked_bad _ _ c.first_bad_row-checked.ensures c.in-Bad.is)
+pub returns-then-valid : goal.returns-then-valid
+returns-then-valid c =
+    let x : Lent = lent c.args.kinds.now c.args.objects.now c.args.named.now c.args.certificates.now c.args.accumulator c.args.terms.now c.args.counter in
+    let found = mapped_ok BadTerm c.map_err.result c.first_bad_row.result c.map_err.ensures.cases c.in_ok-count.was in
+    let counted = checked_used c.args.terms.now _ c.first_bad_row.ensures found in
+    stores_accepted x c.if-not-fits.false counted.0 counted.1 (rw (← counted.1) (sym c.valid.ensures ∙ c.if-valid.true))
 
-pub returns-then-good : goal.returns-then-good
-returns-then-good c =
-    let x : Lent = record {
-      kinds = c.args.kinds.now;
-      objects = c.args.objects.now;
-      messages = c.args.named.now;
-      certificates = c.args.certificates.now;
-      accumulator = c.args.accumulator;
-      terms = c.args.terms.now;
-      counter = c.args.counter;
-    } in
-    let fits : table_fits x ≡ true = c.if-not-fits.false in
-    let lent : Lent = x in
-    let counted : (bad_term lent.terms lent.counter ≡ none) × (c.in-Used.count ≡ used_rows lent.terms) = checked_used lent.terms _ c.first_bad_row-checked.ensures c.in-Used.is in
-    stores_accepted x fits counted.0 counted.1 (rw (← counted.1) (sym c.valid-good.ensures ∙ c.if-good.true))
-
-pub returns-else-good : goal.returns-else-good
-returns-else-good c =
-    let x : Lent = record {
-      kinds = c.args.kinds.now;
-      objects = c.args.objects.now;
-      messages = c.args.named.now;
-      certificates = c.args.certificates.now;
-      accumulator = c.args.accumulator;
-      terms = c.args.terms.now;
-      counter = c.args.counter;
-    } in
-    let fits : table_fits x ≡ true = c.if-not-fits.false in
-    let lent : Lent = x in
-    let counted : (bad_term lent.terms lent.counter ≡ none) × (c.in-Used.count ≡ used_rows lent.terms) = checked_used lent.terms _ c.first_bad_row-checked.ensures c.in-Used.is in
-    stores_bad x fits counted.0 (rw (← counted.1) (sym c.valid-good.ensures ∙ c.if-good.false))
+pub returns-else-valid : goal.returns-else-valid
+returns-else-valid c =
+    let x : Lent = lent c.args.kinds.now c.args.objects.now c.args.named.now c.args.certificates.now c.args.accumulator c.args.terms.now c.args.counter in
+    let found = mapped_ok BadTerm c.map_err.result c.first_bad_row.result c.map_err.ensures.cases c.in_ok-count.was in
+    let counted = checked_used c.args.terms.now _ c.first_bad_row.ensures found in
+    stores_bad x c.if-not-fits.false counted.0 (rw (← counted.1) (sym c.valid.ensures ∙ c.if-valid.false))

@@ -1,7 +1,7 @@
-use Prim.Native.Nat.{ℕ, ◌-◌, ◌≤◌}
+use Prim.Native.Nat.{ℕ}
 use mathlib.Core.Bool.{Bool, not}
 use mathlib.Core.List.{List}
-use lib.ListN.{length, get_or}
+use lib.ListN.{get_or}
 use Rattle.word.proofs.ScanLaws.{Left}
 use Rattle.patterns.specs.Row.{pattern_fields}
 use Rattle.patterns.specs.RowKinds.{row_kinds}
@@ -11,7 +11,4 @@ abbrev pub wrong : Bool → List ℕ → ℕ → ℕ → Bool
 wrong create kinds place word = not (row_kinds create (λ v. get_or kinds v 0) (pattern_fields word))
 
 abbrev pub invariant-loop-place : goal.invariant-loop-place
-invariant-loop-place l = (l.place ≤ length l.rows) × Left (wrong l.create l.kinds) l.rows l.place
-
-abbrev pub decreases-loop-place : goal.decreases-loop-place
-decreases-loop-place l = length l.rows - l.place
+invariant-loop-place l = Left (wrong l.create l.kinds) l.rows l.place

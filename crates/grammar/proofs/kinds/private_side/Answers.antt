@@ -13,9 +13,9 @@ returns-in-2 c = rw (← c.key_form-form.ensures, c.in-2.is)
 pub returns-in_default : goal.returns-in_default
 returns-in_default c =
     let form = c.key_form-form.ensures in
-    one_of_pair c.kind_of-key.result 5 6 ∙ rw (
+    one_of_pair c.kind_at-key.result 5 6 ∙ rw (
       plain_else (pattern_fields c.args.word)
           (λ op. c.in_default.in_default-own.rest.0.1 (form ∙ op)) (λ own. c.in_default.in_default-own.rest.1 (form ∙ own)),
-      c.kind_of-key.ensures,
+      c.kind_at-key.ensures,
       c.key.ensures,
     )

@@ -6,18 +6,18 @@ use Rattle.grammar.proofs.kinds.public_side.Goals as goal
 
 pub returns-in-1 : goal.returns-in-1
 returns-in-1 c =
-    rw (← c.key_form-form.ensures, c.in-1.is, c.kind_of-key.ensures, c.key.ensures, c.kind_of-other.ensures, c.y.ensures)
+    rw (← c.key_form-form.ensures, c.in-1.is, c.kind_at-key.ensures, c.key.ensures, c.kind_at-other.ensures, c.y.ensures)
 
 pub returns-in-2 : goal.returns-in-2
 returns-in-2 c =
-    rw (← c.key_form-form.ensures, c.in-2.is, c.kind_of-key.ensures, c.key.ensures, c.kind_of-other.ensures, c.y.ensures)
+    rw (← c.key_form-form.ensures, c.in-2.is, c.kind_at-key.ensures, c.key.ensures, c.kind_at-other.ensures, c.y.ensures)
 
 pub returns-in_default : goal.returns-in_default
 returns-in_default c =
     let form = c.key_form-form.ensures in
-    one_of_pair c.kind_of-key.result 4 6 ∙ rw (
+    one_of_pair c.kind_at-key.result 4 6 ∙ rw (
       plain_else (pattern_fields c.args.word)
           (λ op. c.in_default.in_default-own.rest.0.1 (form ∙ op)) (λ own. c.in_default.in_default-own.rest.1 (form ∙ own)),
-      c.kind_of-key.ensures,
+      c.kind_at-key.ensures,
       c.key.ensures,
     )

@@ -19,10 +19,10 @@ pub returns-in-4 : goal.returns-in-4
 returns-in-4 c = rw (← c.tag-form.ensures, c.in-4.is, c.form_fits-in-4.ensures)
 
 pub returns-in-5 : goal.returns-in-5
-returns-in-5 c = rw (← c.tag-form.ensures, c.in-5.is, c.form_fits-in-5.ensures, c.key_form-uses_y.ensures)
+returns-in-5 c = rw (← c.tag-form.ensures, c.in-5.is, c.form_fits-in-5.ensures, c.key_form.ensures)
 
 pub returns-in-6 : goal.returns-in-6
-returns-in-6 c = rw (← c.tag-form.ensures, c.in-6.is, c.form_fits-in-6.ensures, c.key_form-uses_y.ensures)
+returns-in-6 c = rw (← c.tag-form.ensures, c.in-6.is, c.form_fits-in-6.ensures, c.key_form.ensures)
 
 pub returns-in-7 : goal.returns-in-7
 returns-in-7 c = rw (← c.tag-form.ensures, c.in-7.is, c.form_fits-in-7.ensures)

@@ -1,4 +1,3 @@
-use Prim.Native.Nat.{◌-◌, ◌≤◌}
 use mathlib.Core.Path.{◌≡◌}
 use mathlib.Core.Bool.{false}
 use lib.ListN.{length, drop}
@@ -8,7 +7,4 @@ use Rattle.grammar.proofs.rules.take_children.Given as goal
 
 abbrev pub invariant-loop-slot : goal.invariant-loop-slot
 invariant-loop-slot l =
-    (l.slot ≤ l.n) × (length l.marks ≡ 128) × (take_every (taking l.initial.marks false) (children_of l.word) ≡ take_every (taking l.marks l.again) (drop l.slot (children_of l.word)))
-
-abbrev pub decreases-loop-slot : goal.decreases-loop-slot
-decreases-loop-slot l = l.n - l.slot
+    (length l.marks ≡ 128) × (take_every (taking l.initial.marks false) (children_of l.word) ≡ take_every (taking l.marks l.again) (drop l.slot-index (children_of l.word)))

@@ -5,9 +5,7 @@ use Rattle.leaf_matching.proofs.forms.match_hash.Goals as goal
 
 pub hashed-made-requires : goal.hashed-made-requires
 hashed-made-requires c =
-    let start = c.requires in
-    let inputs = c.args in
-    let decode = c.decode-decoded in record { r_lt_named_cells = start.r_lt_named_cells; inside = decoded_inside _ (kind_in inputs.kinds.now) _ _ _ _ decode.ensures start.within }
+    record { r_lt_named_cells = c.requires.r_lt_named_cells; inside = decoded_inside _ (kind_in c.args.kinds.now) _ _ _ _ c.decode-decoded.ensures c.requires.within }
 
 pub returns : goal.returns
 returns c = search (hash_same)

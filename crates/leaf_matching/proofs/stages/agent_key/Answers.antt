@@ -1,27 +1,21 @@
 -- `leaf_matching::stages::agent_key` meets its contract, a way out at a time.
-use Rattle.leaf_matching.proofs.StageLaws.{stage_stuck, stage_full, agent_unset, agent_not, agent_row}
+use Rattle.walks.proofs.AskedLaws.{asked_given, asked_ends, set_read, set_ends}
+use Rattle.leaf_matching.proofs.StageLaws.{agent_unset, agent_not, agent_row}
 use Rattle.leaf_matching.proofs.stages.agent_key.Goals as goal
 
-pub returns-then-whose : goal.returns-then-whose
-returns-then-whose c = agent_unset _ _ _ _ _ c.in-Next.is _ c.object_at-whose.ensures c.if-whose.true
+pub returns-in_err-whose : goal.returns-in_err-whose
+returns-in_err-whose c =
+    let (e, ends) = set_ends c.args.row c.set_row.ensures c.asked_at.ensures c.in_err-whose.was c.from_residual-in_err-whose.ensures.1 in
+    rw ends (agent_unset _ _ _ _ _ c.in_ok-walk.was _ c.object_at.ensures e)
 
-pub returns-in-Stuck : goal.returns-in-Stuck
-returns-in-Stuck c = search (stage_stuck)
+pub returns-in_err-key : goal.returns-in_err-key
+returns-in_err-key c =
+    let (is_row, read) = set_read c.args.row c.set_row.ensures c.asked_at.ensures c.object_at.ensures c.in_ok-whose.was in
+    let (reason, refused, ends) = asked_ends c.args.row c.key_of.result c.asked_at-2.ensures c.in_err-key.was c.from_residual-in_err-key.ensures.1 in
+    rw ends (agent_not _ _ _ _ _ c.in_ok-walk.was _ read is_row c.key_of.ensures _ refused)
 
-pub returns-in-NoRoom : goal.returns-in-NoRoom
-returns-in-NoRoom c = search (stage_full)
-
-pub returns-in-Not : goal.returns-in-Not
-returns-in-Not c =
-    let object-at = c.object_at-whose in
-    let if1 = c.if-whose in
-    let key_of_lem = c.key_of-opened in
-    agent_not _ _ _ _ _ c.in-Next.is _ object-at.ensures if1.false key_of_lem.ensures _ c.in-Not.is
-
-pub returns-in-Row : goal.returns-in-Row
-returns-in-Row c =
-    let object-at = c.object_at-whose in
-    let if1 = c.if-whose in
-    let key_of_lem = c.key_of-opened in
-    let meeting = c.meeting in
-    agent_row _ _ _ _ _ c.in-Next.is _ object-at.ensures if1.false key_of_lem.ensures _ _ c.in-Row.is meeting.ensures
+pub returns : goal.returns
+returns c =
+    let (is_row, read) = set_read c.args.row c.set_row.ensures c.asked_at.ensures c.object_at.ensures c.in_ok-whose.was in
+    let found = asked_given c.args.row c.key_of.result c.asked_at-2.ensures c.in_ok-key.was in
+    agent_row _ _ _ _ _ c.in_ok-walk.was _ read is_row c.key_of.ensures _ _ found c.meeting.ensures

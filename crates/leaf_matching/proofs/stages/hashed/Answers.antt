@@ -1,28 +1,14 @@
 -- `leaf_matching::stages::hashed` meets its contract, a way out at a time.
-use Rattle.leaf_matching.proofs.StageLaws.{stage_stuck, stage_full, inside_next, hash_unset, hash_made}
+use Rattle.walks.proofs.AskedLaws.{set_read, set_ends}
+use Rattle.leaf_matching.proofs.StageLaws.{hash_unset, hash_made}
 use Rattle.leaf_matching.proofs.stages.hashed.Goals as goal
 
-pub returns-then-body : goal.returns-then-body
-returns-then-body c =
-    let start = c.requires in
-    let message-at = c.message_at-body in
-    let if1 = c.if-body in
-    hash_unset _ _ _ _ start.r_lt_named_cells _ c.in-Next.is _ message-at.ensures if1.true
+pub returns-in_err-body : goal.returns-in_err-body
+returns-in_err-body c =
+    let (e, ends) = set_ends c.args.row c.set_row.ensures c.asked_at.ensures c.in_err-body.was c.from_residual-in_err-body.ensures.1 in
+    rw ends (hash_unset _ _ _ _ c.requires.r_lt_named_cells _ c.in_ok-walk.was _ c.message_at.ensures e)
 
-pub make-requires : goal.make-requires
-make-requires c = search (inside_next)
-
-pub returns-in-Stuck : goal.returns-in-Stuck
-returns-in-Stuck c = search (stage_stuck)
-
-pub returns-in-NoRoom : goal.returns-in-NoRoom
-returns-in-NoRoom c = search (stage_full)
-
-pub returns-else-body : goal.returns-else-body
-returns-else-body c =
-    let start = c.requires in
-    let message-at = c.message_at-body in
-    let if1 = c.if-body in
-    let hash = c.hash in
-    let make = c.make in
-    hash_made _ _ _ _ start.r_lt_named_cells _ c.in-Next.is _ message-at.ensures if1.false hash.ensures make.ensures
+pub returns : goal.returns
+returns c =
+    let (is_row, read) = set_read c.args.row c.set_row.ensures c.asked_at.ensures c.message_at.ensures c.in_ok-body.was in
+    hash_made _ _ _ _ c.requires.r_lt_named_cells _ c.in_ok-walk.was _ read is_row c.hash.ensures c.make.ensures

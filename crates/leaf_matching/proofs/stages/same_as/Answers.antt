@@ -1,19 +1,17 @@
 -- `leaf_matching::stages::same_as` meets its contract, a way out at a time.
-use Rattle.leaf_matching.proofs.StageLaws.{stage_stuck, stage_full, same_not, same_holds}
+use Rattle.walks.proofs.AskedLaws.{asked_given, asked_ends}
+use Rattle.leaf_matching.proofs.StageLaws.{stage_ended, same_not, same_holds}
 use Rattle.leaf_matching.proofs.stages.same_as.Goals as goal
 
-pub returns-in-Stuck : goal.returns-in-Stuck
-returns-in-Stuck c = search (stage_stuck)
+pub returns-in_err-walk : goal.returns-in_err-walk
+returns-in_err-walk c = λ kind. stage_ended c.in_err-walk.was c.from_residual.ensures.1
 
-pub returns-in-NoRoom : goal.returns-in-NoRoom
-returns-in-NoRoom c = search (stage_full)
+pub returns-in_err-asked_at : goal.returns-in_err-asked_at
+returns-in_err-asked_at c =
+    let (reason, refused, ends) = asked_ends c.args.row c.same.result c.asked_at.ensures c.in_err-asked_at.was c.from_residual-in_err-asked_at.ensures.1 in
+    λ kind. rw ends (same_not _ _ kind _ c.in_ok-walk.was c.same.ensures _ refused)
 
-pub returns-in-Not : goal.returns-in-Not
-returns-in-Not c =
-    let same = c.same-tested in
-    λ kind. same_not _ _ kind _ c.in-Next.is same.ensures _ c.in-Not.is
-
-pub returns-in-Holds : goal.returns-in-Holds
-returns-in-Holds c =
-    let same = c.same-tested in
-    λ kind. same_holds _ _ kind _ c.in-Next.is same.ensures c.in-Holds.is
+pub returns : goal.returns
+returns c =
+    let holds = asked_given c.args.row c.same.result c.asked_at.ensures c.in_ok-asked_at.was in
+    λ kind. same_holds _ _ kind _ c.in_ok-walk.was c.same.ensures holds

@@ -1,32 +1,24 @@
 -- `leaf_matching::stages::verified` meets its contract, a way out at a time.
-use Rattle.leaf_matching.proofs.StageLaws.{stage_stuck, stage_full, verify_unset, verify_not, verify_holds}
+use Rattle.walks.proofs.AskedLaws.{asked_given, asked_ends, set_read, set_ends}
+use Rattle.leaf_matching.proofs.StageLaws.{stage_ended, verify_unset, verify_not, verify_holds}
 use Rattle.leaf_matching.proofs.stages.verified.Goals as goal
 
-pub returns-then-body : goal.returns-then-body
-returns-then-body c =
-    let start = c.requires in
-    let message-at = c.message_at-body in
-    let if1 = c.if-body in
-    verify_unset _ _ _ _ (start) _ _ c.in-Next.is _ message-at.ensures if1.true
+pub returns-in_err-walk : goal.returns-in_err-walk
+returns-in_err-walk c = stage_ended c.in_err-walk.was c.from_residual.ensures.1
 
-pub returns-in-Stuck : goal.returns-in-Stuck
-returns-in-Stuck c = search (stage_stuck)
+pub returns-in_err-body : goal.returns-in_err-body
+returns-in_err-body c =
+    let (e, ends) = set_ends c.args.row c.set_row.ensures c.asked_at.ensures c.in_err-body.was c.from_residual-in_err-body.ensures.1 in
+    rw ends (verify_unset _ _ _ _ c.requires _ _ c.in_ok-walk.was _ c.message_at.ensures e)
 
-pub returns-in-NoRoom : goal.returns-in-NoRoom
-returns-in-NoRoom c = search (stage_full)
+pub returns-in_err-asked_at : goal.returns-in_err-asked_at
+returns-in_err-asked_at c =
+    let (is_row, read) = set_read c.args.row c.set_row.ensures c.asked_at.ensures c.message_at.ensures c.in_ok-body.was in
+    let (reason, refused, ends) = asked_ends c.args.row c.verify.result c.asked_at-2.ensures c.in_err-asked_at.was c.from_residual-in_err-asked_at.ensures.1 in
+    rw ends (verify_not _ _ _ _ c.requires _ _ c.in_ok-walk.was _ read is_row c.verify.ensures _ refused)
 
-pub returns-in-Not : goal.returns-in-Not
-returns-in-Not c =
-    let start = c.requires in
-    let message-at = c.message_at-body in
-    let if1 = c.if-body in
-    let verify = c.verify-tested in
-    verify_not _ _ _ _ (start) _ _ c.in-Next.is _ message-at.ensures if1.false verify.ensures _ c.in-Not.is
-
-pub returns-in-Holds : goal.returns-in-Holds
-returns-in-Holds c =
-    let start = c.requires in
-    let message-at = c.message_at-body in
-    let if1 = c.if-body in
-    let verify = c.verify-tested in
-    verify_holds _ _ _ _ (start) _ _ c.in-Next.is _ message-at.ensures if1.false verify.ensures c.in-Holds.is
+pub returns : goal.returns
+returns c =
+    let (is_row, read) = set_read c.args.row c.set_row.ensures c.asked_at.ensures c.message_at.ensures c.in_ok-body.was in
+    let holds = asked_given c.args.row c.verify.result c.asked_at-2.ensures c.in_ok-asked_at.was in
+    verify_holds _ _ _ _ c.requires _ _ c.in_ok-walk.was _ read is_row c.verify.ensures holds

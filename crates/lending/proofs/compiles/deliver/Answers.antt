@@ -8,7 +8,7 @@ pub returns-then-code-count : goal.returns-then-code-count
 returns-then-code-count c =
     let a = c.args in
     rw c.numbers.ensures (bytes_short a.words.now a.code.now c.requires.1
-    (λ place. (c.slice_known-1.given place).fits) c.if-code-count.true)
+    (λ place. (c.type_inv.code place).fits) c.if-code-count.true)
 
 pub slice_bounds-pack_quads-end-2 : goal.slice_bounds-pack_quads-end-2
 slice_bounds-pack_quads-end-2 c = sym (length-take-le _ _ (search rules))

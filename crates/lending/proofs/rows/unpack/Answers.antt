@@ -1,27 +1,20 @@
-use Prim.Native.Nat.{◌*◌, ◌≤◌}
+use Prim.Native.Nat.{◌*◌}
 use mathlib.Core.Path.{sym, ◌∙◌, ap}
 use lib.Dec.{eqb}
-use lib.ListN.{length}
 use native.Mathlib.Omega.{arith}
 use Rattle.word.specs.Lowest.{each}
 use Rattle.word.proofs.ByteLaws.{filled}
 use Rattle.lending.proofs.TableLaws.{used_few, all_rows, bytes_behind, front_zero, rest_zero}
 use Rattle.lending.proofs.rows.unpack.Goals as goal
 
-pub overflow_mul-behind : goal.overflow_mul-behind
-overflow_mul-behind c =
-    let used_inside : c.unpack_used-used.result ≤ length c.args.rows.now = used_few c.args.bytes.now c.requires.0 c.unpack_used-used.ensures.0 in
-    omega (arith, used_inside, c.requires.1)
+pub overflow_mul-used : goal.overflow_mul-used
+overflow_mul-used c = omega (arith, used_few c.args.bytes.now c.requires.0 c.unpack_used-used.ensures.0, c.requires)
 
 pub slice_bounds-all_zero-count : goal.slice_bounds-all_zero-count
-slice_bounds-all_zero-count c =
-    let used_inside : c.unpack_used-used.result ≤ length c.args.rows.now = used_few c.args.bytes.now c.requires.0 c.unpack_used-used.ensures.0 in
-    omega (arith, used_inside, c.requires.0)
+slice_bounds-all_zero-count c = omega (arith, used_few c.args.bytes.now c.requires.0 c.unpack_used-used.ensures.0, c.requires)
 
 pub slice_bounds-all_zero-start : goal.slice_bounds-all_zero-start
-slice_bounds-all_zero-start c =
-    let used_inside : c.unpack_used-used.result ≤ length c.args.rows.now = used_few c.args.bytes.now c.requires.0 c.unpack_used-used.ensures.0 in
-    omega (arith, used_inside, c.requires.0)
+slice_bounds-all_zero-start c = omega (arith, used_few c.args.bytes.now c.requires.0 c.unpack_used-used.ensures.0, c.requires)
 
 pub returns-then-all_zero : goal.returns-then-all_zero
 returns-then-all_zero c =

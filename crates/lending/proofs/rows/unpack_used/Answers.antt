@@ -1,29 +1,25 @@
-use Prim.Native.Nat.{◌-◌}
 use native.Mathlib.Omega.{arith}
+use Rattle.std.proofs.lemmas.List.{set-get_or}
+use lib.ListN.{length}
+use mathlib.Core.Path.{◌≡◌}
 use Rattle.lending.proofs.TableLaws.{reading_none, reading_more, reading_zero, reading_all}
 use Rattle.lending.proofs.rows.unpack_used.Goals as goal
 
 pub loop-place-init : goal.loop-place-init
 loop-place-init c = reading_none _ _
 
-pub shape_of-rows-then-word-eq0 : goal.shape_of-rows-then-word-eq0
-shape_of-rows-then-word-eq0 c = c.loop-place.invariant.unpacked.long
-
 pub returns-then-word-eq0 : goal.returns-then-word-eq0
 returns-then-word-eq0 c =
     let loop = c.loop-place in
-    reading_zero c.requires loop.invariant c.loop-place-test.true c.word_at-word.ensures c.if-word-eq0.true
-
-pub bounds-rows-place : goal.bounds-rows-place
-bounds-rows-place c = omega (arith, c.loop-place.invariant.unpacked.long)
+    rw (set-get_or loop.rows) (reading_zero c.requires loop.invariant (omega arith) c.word_at-word.ensures c.if-word-eq0.true)
 
 pub loop-place-preserved : goal.loop-place-preserved
 loop-place-preserved c =
     let loop = c.loop-place in
-    reading_more c.requires loop.invariant c.loop-place-test.true c.word_at-word.ensures c.if-word-eq0.false
-
-pub shape_of-rows : goal.shape_of-rows
-shape_of-rows c = c.loop-place.invariant.unpacked.long
+    reading_more c.requires loop.invariant (omega arith) c.word_at-word.ensures c.if-word-eq0.false
 
 pub returns : goal.returns
-returns c = reading_all c.requires c.loop-place.invariant (omega arith)
+returns c =
+    let loop = c.loop-place in
+    let end : length loop.rows ≡ loop.place = omega (arith, loop.invariant.unpacked.long) in
+    rw end (reading_all c.requires loop.invariant (omega arith))

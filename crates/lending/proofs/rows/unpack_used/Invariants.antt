@@ -1,9 +1,5 @@
-use Prim.Native.Nat.{◌-◌}
 use Rattle.lending.proofs.TableLaws.{Reading}
 use Rattle.lending.proofs.rows.unpack_used.Given as goal
 
 abbrev pub invariant-loop-place : goal.invariant-loop-place
 invariant-loop-place l = Reading l.bytes l.initial.rows l.rows l.place
-
-abbrev pub decreases-loop-place : goal.decreases-loop-place
-decreases-loop-place l = l.count - l.place

@@ -1,10 +1,6 @@
 -- `machine::Registers::create_tuple` meets its contract: after i turns the first i cells are gathered.
-use Prim.Native.Nat.{◌-◌, ◌≤◌}
 use Rattle.machine.proofs.TupleLaws.{Gathered}
 use Rattle.machine.proofs.Registers.create_tuple.Given as goal
 
 abbrev pub invariant-loop-i : goal.invariant-loop-i
-invariant-loop-i l = (l.i ≤ l.count) × Gathered l.messages l.from l.parts l.i
-
-abbrev pub decreases-loop-i : goal.decreases-loop-i
-decreases-loop-i l = l.count - l.i
+invariant-loop-i l = Gathered l.messages l.from l.parts l.i

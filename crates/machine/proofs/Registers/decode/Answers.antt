@@ -2,11 +2,11 @@
 use Rattle.machine.proofs.MovingLaws.{decode-ways}
 use Rattle.machine.proofs.Registers.decode.Goals as goal
 
-pub returns-then-row : goal.returns-then-row
-returns-then-row c = search decode-ways
+pub returns-in_err-row : goal.returns-in_err-row
+returns-in_err-row c = search (decode-ways, c.in_err-row.ensures)
 
-pub returns-in-Not : goal.returns-in-Not
-returns-in-Not c = search decode-ways
+pub returns-in_err-is_kind : goal.returns-in_err-is_kind
+returns-in_err-is_kind c = search (decode-ways, c.in_ok-row.ensures, c.in_err-is_kind.ensures)
 
-pub returns-in-Holds : goal.returns-in-Holds
-returns-in-Holds c = search decode-ways
+pub returns : goal.returns
+returns c = search (decode-ways, c.in_ok-row.ensures, c.in_ok-is_kind.ensures)

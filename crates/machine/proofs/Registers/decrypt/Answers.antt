@@ -2,14 +2,14 @@
 use Rattle.machine.proofs.OpeningLaws.{decrypt-ways}
 use Rattle.machine.proofs.Registers.decrypt.Goals as goal
 
-pub returns-then-key : goal.returns-then-key
-returns-then-key c = search decrypt-ways
+pub returns-in_err-key : goal.returns-in_err-key
+returns-in_err-key c = search (decrypt-ways, c.in_err-key.ensures)
 
-pub returns-then-sealed : goal.returns-then-sealed
-returns-then-sealed c = search decrypt-ways
+pub returns-in_err-sealed : goal.returns-in_err-sealed
+returns-in_err-sealed c = search (decrypt-ways, c.in_ok-key.ensures, c.in_err-sealed.ensures)
 
-pub returns-in-Not : goal.returns-in-Not
-returns-in-Not c = search decrypt-ways
+pub returns-in_err-body : goal.returns-in_err-body
+returns-in_err-body c = search (decrypt-ways, c.in_ok-key.ensures, c.in_ok-sealed.ensures, c.in_err-body.ensures)
 
-pub returns-in-Row : goal.returns-in-Row
-returns-in-Row c = search decrypt-ways
+pub returns : goal.returns
+returns c = search (decrypt-ways, c.in_ok-key.ensures, c.in_ok-sealed.ensures, c.in_ok-body.ensures)

@@ -2,8 +2,8 @@
 use Rattle.machine.proofs.MovingLaws.{encode-ways}
 use Rattle.machine.proofs.Registers.encode.Goals as goal
 
-pub returns-then-row : goal.returns-then-row
-returns-then-row c = search encode-ways
+pub returns-in_err-row : goal.returns-in_err-row
+returns-in_err-row c = search (encode-ways, c.in_err-row.ensures)
 
 pub returns : goal.returns
-returns c = search encode-ways
+returns c = search (encode-ways, c.in_ok-row.ensures)

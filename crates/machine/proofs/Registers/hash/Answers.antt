@@ -2,11 +2,11 @@
 use Rattle.machine.proofs.MakingLaws.{hash-ways}
 use Rattle.machine.proofs.Registers.hash.Goals as goal
 
-pub returns-then-body : goal.returns-then-body
-returns-then-body c = search hash-ways
+pub returns-in_err-body : goal.returns-in_err-body
+returns-in_err-body c = search (hash-ways, c.in_err-body.ensures)
 
 pub returns-in_default : goal.returns-in_default
-returns-in_default c = search hash-ways
+returns-in_default c = search (hash-ways, c.in_ok-body.ensures)
 
 pub returns : goal.returns
-returns c = search hash-ways
+returns c = search (hash-ways, c.in_ok-body.ensures)

@@ -2,8 +2,8 @@
 use Rattle.machine.proofs.MovingLaws.{load-ways}
 use Rattle.machine.proofs.Registers.load.Goals as goal
 
-pub returns-then-row : goal.returns-then-row
-returns-then-row c = search load-ways
+pub returns-in_err-row : goal.returns-in_err-row
+returns-in_err-row c = search (load-ways, c.in_err-row.ensures)
 
 pub returns : goal.returns
-returns c = search load-ways
+returns c = search (load-ways, c.in_ok-row.ensures)

@@ -2,14 +2,14 @@
 use Rattle.machine.proofs.MakingLaws.{opposite-ways}
 use Rattle.machine.proofs.Registers.opposite.Goals as goal
 
-pub returns-then-key : goal.returns-then-key
-returns-then-key c = search opposite-ways
+pub returns-in_err-key : goal.returns-in_err-key
+returns-in_err-key c = search (opposite-ways, c.in_err-key.ensures)
+
+pub returns-in_err-word : goal.returns-in_err-word
+returns-in_err-word c = search (opposite-ways, c.in_ok-key.ensures, c.in_err-word.ensures)
 
 pub returns-in_default : goal.returns-in_default
-returns-in_default c = search opposite-ways
+returns-in_default c = search (opposite-ways, c.in_ok-key.ensures, c.in_ok-word.ensures)
 
-pub returns-in-Not : goal.returns-in-Not
-returns-in-Not c = search opposite-ways
-
-pub returns-in-At : goal.returns-in-At
-returns-in-At c = search opposite-ways
+pub returns : goal.returns
+returns c = search (opposite-ways, c.in_ok-key.ensures, c.in_ok-word.ensures)

@@ -2,14 +2,14 @@
 use Rattle.machine.proofs.MakingLaws.{sign-ways}
 use Rattle.machine.proofs.Registers.sign.Goals as goal
 
-pub returns-then-key : goal.returns-then-key
-returns-then-key c = search sign-ways
+pub returns-in_err-key : goal.returns-in_err-key
+returns-in_err-key c = search (sign-ways, c.in_err-key.ensures)
 
-pub returns-then-body : goal.returns-then-body
-returns-then-body c = search sign-ways
+pub returns-in_err-body : goal.returns-in_err-body
+returns-in_err-body c = search (sign-ways, c.in_ok-key.ensures, c.in_err-body.ensures)
 
 pub returns-in_default : goal.returns-in_default
-returns-in_default c = search sign-ways
+returns-in_default c = search (sign-ways, c.in_ok-key.ensures, c.in_ok-body.ensures)
 
 pub returns : goal.returns
-returns c = search sign-ways
+returns c = search (sign-ways, c.in_ok-key.ensures, c.in_ok-body.ensures)

@@ -2,8 +2,8 @@
 use Rattle.machine.proofs.MovingLaws.{store-ways}
 use Rattle.machine.proofs.Registers.store.Goals as goal
 
-pub returns-then-row : goal.returns-then-row
-returns-then-row c = search store-ways
+pub returns-in_err-row : goal.returns-in_err-row
+returns-in_err-row c = search (store-ways, c.in_err-row.ensures)
 
 pub returns : goal.returns
-returns c = search store-ways
+returns c = search (store-ways, c.in_ok-row.ensures)

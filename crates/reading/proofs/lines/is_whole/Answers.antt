@@ -1,11 +1,14 @@
-use Rattle.reading.proofs.RereadingLaws.{too_short, too_long, as_told}
+use mathlib.Core.Path.{◌≡◌}
+use mathlib.Core.Bool.{false}
+use native.Mathlib.Omega.{arith}
+use Rattle.reading.specs.Rereading.{whole_input}
+use Rattle.reading.proofs.RereadingLaws.{not_there, as_told}
 use Rattle.reading.proofs.lines.is_whole.Goals as goal
 
-pub returns-then-input-lt8 : goal.returns-then-input-lt8
-returns-then-input-lt8 c = too_short c.args.input.now c.if-input-lt8.true
+pub returns-then-input-le-MOST_INPUT : goal.returns-then-input-le-MOST_INPUT
+returns-then-input-le-MOST_INPUT c = as_told c.args.input.now (omega arith) (omega arith) c.word_at.ensures
 
-pub returns-then-input-gt-MOST_INPUT : goal.returns-then-input-gt-MOST_INPUT
-returns-then-input-gt-MOST_INPUT c = too_long c.args.input.now c.if-input-gt-MOST_INPUT.true
-
-pub returns : goal.returns
-returns c = as_told c.args.input.now c.if-input-lt8.false c.if-input-gt-MOST_INPUT.false c.word_at.ensures
+pub returns-else-input-le-MOST_INPUT : goal.returns-else-input-le-MOST_INPUT
+returns-else-input-le-MOST_INPUT c =
+    let other : ◌≡◌ false (whole_input c.args.input.now) = not_there c.args.input.now (λ f. omega (arith, c.if-input-le-MOST_INPUT.either)) in
+    cc

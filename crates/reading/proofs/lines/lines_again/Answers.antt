@@ -1,43 +1,29 @@
-use lib.ListN.{length}
-use Prim.Native.Nat.{◌≤◌}
-use mathlib.Core.Path.{sym, ◌∙◌}
+use mathlib.Core.Path.{sym}
 use native.Mathlib.Omega.{arith}
 use lib.Seq.{length-take-le}
-use Rattle.numbers.specs.Limits.{most_code_words}
-use Rattle.reading.proofs.AgainLaws.{place_fits, words_fit, refused_again, printed_again}
+use Rattle.reading.proofs.AgainLaws.{place_fits, done_fits, refused_again, printed_again}
 use Rattle.reading.proofs.lines.lines_again.Goals as goal
 
-pub overflow_cast-place : goal.overflow_cast-place
-overflow_cast-place c =
-    omega (arith, c.place-place.ensures, place_fits _ _ c.code_room-code.ensures c.read_code-answer.ensures c.requires)
-
-pub returns-then-number-ne0 : goal.returns-then-number-ne0
-returns-then-number-ne0 c =
-    refused_again _ _ c.code_room-code.ensures c.read_code-answer.ensures
-    c.number-number.ensures.0 c.place-place.ensures
-    c.if-number-ne0.true c.refused.ensures
-
 pub slice_bounds-code-end : goal.slice_bounds-code-end
-slice_bounds-code-end c =
-    let few : c.place-place.result ≤ most_code_words = let fits = words_fit _ _ c.code_room-code.ensures c.read_code-answer.ensures (sym c.number-number.ensures.0 ∙ c.if-number-ne0.false) in
-    omega (arith, fits, c.place-place.ensures) in
-    omega (arith, few, c.read_code-answer.auto)
+slice_bounds-code-end c = (done_fits _ _ c.code_room-code.ensures c.read_code-answer.ensures c.read_code-answer.auto.code c.in-Done.is).0
 
 pub slice_bounds-code_lines-end : goal.slice_bounds-code_lines-end
 slice_bounds-code_lines-end c =
-    let few : c.place-place.result ≤ most_code_words = let fits = words_fit _ _ c.code_room-code.ensures c.read_code-answer.ensures (sym c.number-number.ensures.0 ∙ c.if-number-ne0.false) in
-    omega (arith, fits, c.place-place.ensures) in
-    sym (length-take-le _ _ (omega (arith, few, c.read_code-answer.auto)))
+    let fits = done_fits _ _ c.code_room-code.ensures c.read_code-answer.ensures c.read_code-answer.auto.code c.in-Done.is in
+    sym (length-take-le _ _ fits.0)
 
 pub code_lines-requires : goal.code_lines-requires
 code_lines-requires c =
-    let few : c.place-place.result ≤ most_code_words = let fits = words_fit _ _ c.code_room-code.ensures c.read_code-answer.ensures (sym c.number-number.ensures.0 ∙ c.if-number-ne0.false) in
-    omega (arith, fits, c.place-place.ensures) in
-    let inside : c.place-place.result ≤ length c.read_code-answer.new.code = omega (arith, few, c.read_code-answer.auto) in
-    omega (arith, length-take-le c.place-place.result c.read_code-answer.new.code inside, few)
+    let fits = done_fits _ _ c.code_room-code.ensures c.read_code-answer.ensures c.read_code-answer.auto.code c.in-Done.is in
+    omega (arith, length-take-le _ _ fits.0, fits.1)
 
-pub returns : goal.returns
-returns c =
-    printed_again _ _ c.code_room-code.ensures c.read_code-answer.ensures
-    c.number-number.ensures.0 c.place-place.ensures
-    c.if-number-ne0.false c.code_lines.ensures
+pub returns-in-Done : goal.returns-in-Done
+returns-in-Done c = printed_again _ _ c.code_room-code.ensures c.read_code-answer.ensures c.in-Done.is c.code_lines.ensures
+
+pub overflow_cast-place : goal.overflow_cast-place
+overflow_cast-place c = omega (arith, c.place-place.ensures, place_fits _ _ c.code_room-code.ensures c.read_code-answer.ensures c.requires)
+
+pub returns-in_default : goal.returns-in_default
+returns-in_default c =
+    refused_again _ _ c.code_room-code.ensures c.read_code-answer.ensures c.number-number.ensures.0 c.place-place.ensures c.in_default.not-Done
+    c.refused.ensures

@@ -47,4 +47,4 @@ pub returns-in_default : goal.returns-in_default
 returns-in_default c =
     let n = c.in_default.in_default-own.rest in
     leaf_hash creating_looks _ _ _ c.requires.stands_at c.tag-tag.ensures _ c.variable-v.ensures _ c.raw-in_default.ensures
-    c.requires.emission_len.1 n.0.0.0.0.0.1 n.0.0.0.0.1 n.0.0.0.1 n.0.0.1 n.0.1 n.1 (c.create_hash.ensures _)
+    c.requires.leaf n.0.0.0.0.0.1 n.0.0.0.0.1 n.0.0.0.1 n.0.0.1 n.0.1 n.1 (c.create_hash.ensures _)

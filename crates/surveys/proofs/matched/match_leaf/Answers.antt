@@ -50,4 +50,4 @@ pub returns-in_default : goal.returns-in_default
 returns-in_default c =
     let n = c.in_default.in_default-own.rest in
     λ kind. leaf_hash matching_looks _ _ _ c.requires.stands_at c.tag-tag.ensures _ c.variable-v.ensures _ c.raw-in_default.ensures
-    c.requires.emission_len.1 n.0.0.0.0.0.1 n.0.0.0.0.1 n.0.0.0.1 n.0.0.1 n.0.1 n.1 (c.match_hash.ensures kind)
+    c.requires.leaf n.0.0.0.0.0.1 n.0.0.0.0.1 n.0.0.0.1 n.0.0.1 n.0.1 n.1 (c.match_hash.ensures kind)

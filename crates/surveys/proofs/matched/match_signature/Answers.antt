@@ -1,21 +1,18 @@
-use mathlib.Core.Path.{◌∙◌}
-use Rattle.patterns.proofs.StandingLaws.{signature_key, variable_low, key_low}
+use Rattle.patterns.proofs.StandingLaws.{variable_low}
 use Rattle.surveys.proofs.LeafLaws.{signed_plain, signed_derived}
 use Rattle.surveys.proofs.matched.match_signature.Goals as goal
+use Rattle.surveys.proofs.matched.match_signature.Goals.{then-key_form-eq-PLAIN_KEY, else-key_form-eq-PLAIN_KEY}
 
 pub write_object-requires : goal.write_object-requires
 write_object-requires c = search (variable_low)
 
-pub derive_key-requires : goal.derive_key-requires
-derive_key-requires c =
-    (c.write_object.ensures.long ∙ c.requires.emission_len.0, key_low _ (signature_key c.requires.stands_at c.requires.emission_len.1) _ c.key-key.ensures)
-
-pub read_raw-requires-else-key_form-eq-PLAIN_KEY : goal.read_raw-requires-else-key_form-eq-PLAIN_KEY
-read_raw-requires-else-key_form-eq-PLAIN_KEY c =
-    (c.derive_key.ensures (λ x. x)).long ∙ c.write_object.ensures.long ∙ c.requires.emission_len.0
-
-pub returns-then-key_form-eq-PLAIN_KEY : goal.returns-then-key_form-eq-PLAIN_KEY
-returns-then-key_form-eq-PLAIN_KEY c = search (signed_plain)
-
-pub returns-else-key_form-eq-PLAIN_KEY : goal.returns-else-key_form-eq-PLAIN_KEY
-returns-else-key_form-eq-PLAIN_KEY c = search (signed_derived)
+pub returns : goal.returns
+returns c =
+    elim c.if-key_form-eq-PLAIN_KEY.branch [
+      | then-key_form-eq-PLAIN_KEY w ↦
+          signed_plain _ _ _ c.requires.stands_at c.requires.word_value _ _ c.variable.ensures c.raw-r.ensures _ _ c.key-key.ensures c.key_form.ensures c.write_object.ensures
+          w.if-key_form-eq-PLAIN_KEY.true w.read_object.ensures (rw w.emission-is at c.read_raw.ensures)
+      | else-key_form-eq-PLAIN_KEY w ↦
+          signed_derived _ _ _ c.requires.stands_at c.requires.word_value _ _ c.variable.ensures c.raw-r.ensures _ _ c.key-key.ensures c.key_form.ensures c.write_object.ensures _ w.y.ensures
+          w.if-key_form-eq-PLAIN_KEY.false w.derive_key.ensures (rw w.emission-is at c.read_raw.ensures)
+    ]

@@ -1,21 +1,19 @@
 -- The number of parts by each shape.
-use Rattle.terms.proofs.ShapeLaws.{slots-ways}
+use native.Mathlib.Omega.{arith}
+use Rattle.terms.proofs.ShapeLaws.{slots_keyed, slots_atom, slots-ways}
 use Rattle.terms.proofs.row.used_slots.Goals as goal
 
 pub returns-in-7 : goal.returns-in-7
-returns-in-7 c = search slots-ways
-
-pub returns-in-8 : goal.returns-in-8
-returns-in-8 c = search slots-ways
+returns-in-7 c = (slots_keyed _ _ c.tag-t.ensures (omega arith) (omega arith), omega arith)
 
 pub returns-in-9 : goal.returns-in-9
 returns-in-9 c = search slots-ways
 
-pub returns-then-n-lt-MOST_PARTS : goal.returns-then-n-lt-MOST_PARTS
-returns-then-n-lt-MOST_PARTS c = search slots-ways
-
-pub returns-else-n-lt-MOST_PARTS : goal.returns-else-n-lt-MOST_PARTS
-returns-else-n-lt-MOST_PARTS c = search slots-ways
+pub returns-in-10 : goal.returns-in-10
+returns-in-10 c = search slots-ways
 
 pub returns-in_default : goal.returns-in_default
-returns-in_default c = search slots-ways
+returns-in_default c = (slots_atom _ _ c.tag-t.ensures (λ low high. omega arith), omega arith)
+
+pub returns-in_default-2 : goal.returns-in_default-2
+returns-in_default-2 c = (slots_atom _ _ c.tag-t.ensures (λ low high. omega arith), omega arith)

@@ -1,4 +1,3 @@
-use Prim.Native.Nat.{◌-◌}
 use Rattle.turns.proofs.WordLaws.{checking}
 use Rattle.turns.proofs.words.first_bad_round_word.Goals as goal
 

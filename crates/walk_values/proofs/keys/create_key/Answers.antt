@@ -5,7 +5,10 @@ use native.Mathlib.Omega.{arith}
 use Rattle.walk_values.proofs.keys.create_key.Goals as goal
 
 pub create_opposite-requires : goal.create_opposite-requires
-create_opposite-requires c = record { within = c.requires.within; public_in_bounds = (omega (arith, c.requires.objects_len, key_low _ c.requires.word_bound _ c.key-key.ensures), omega (arith, c.requires.objects_len, second_low _ _ c.y.ensures)) }
+create_opposite-requires c =
+    let low = key_low _ c.requires.word_bound _ c.key-key.ensures in
+    let other = second_low _ _ c.y.ensures in
+    record { within = c.requires.within; public_in_bounds = (omega (arith, c.requires.objects_len, low), omega (arith, c.requires.objects_len, other)) }
 
 pub returns-in-0 : goal.returns-in-0
 returns-in-0 c = search (key_plain)
@@ -15,6 +18,4 @@ returns-in-1 c = search (key_opposite)
 
 pub returns-in_default : goal.returns-in_default
 returns-in_default c =
-    let n = c.in_default.in_default-own.rest in
-    key_certified _ _ _ _ _ _ _ _ c.key_form-by.ensures _ c.key-key.ensures _ c.y-agent.ensures
-    c.requires.word_bound.0 n.0.1 n.1 c.certified_key.ensures
+    key_certified _ _ _ _ _ _ _ _ c.key_form.ensures _ c.key-key.ensures _ c.y-agent.ensures c.requires.word_bound.0 (λ h. omega arith) (λ h. omega arith) c.certified_key.ensures

@@ -6,8 +6,8 @@ use Rattle.walk_values.proofs.keys.get_variable.Goals as goal
 pub returns-then-known : goal.returns-then-known
 returns-then-known c = search variable-ways
 
-pub returns-then-not-creatable : goal.returns-then-not-creatable
-returns-then-not-creatable c = search variable-ways
+pub returns-then-not-creatable_kind : goal.returns-then-not-creatable_kind
+returns-then-not-creatable_kind c = search variable-ways
 
 pub create_name-requires : goal.create_name-requires
 create_name-requires c = search (rules, creatable_small)

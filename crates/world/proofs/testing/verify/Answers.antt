@@ -8,8 +8,8 @@ returns-then-tag-ne-SIGNATURE c = search verify-ways
 pub returns-then-not-goes_with : goal.returns-then-not-goes_with
 returns-then-not-goes_with c = search verify-ways
 
-pub returns-then-part-body : goal.returns-then-part-body
-returns-then-part-body c = search verify-ways
+pub returns-then-ne : goal.returns-then-ne
+returns-then-ne c = search verify-ways
 
 pub returns : goal.returns
 returns c = search verify-ways

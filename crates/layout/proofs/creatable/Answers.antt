@@ -1,5 +1,0 @@
-use Rattle.layout.proofs.KindLaws.{creatable_is}
-use Rattle.layout.proofs.creatable.Goals as goal
-
-pub returns : goal.returns
-returns c = creatable_is _

@@ -1,5 +1,0 @@
-use Rattle.lending.proofs.TableLaws.{zero_rows}
-use Rattle.lending.proofs.arrays.few_rows.Goals as goal
-
-pub returns : goal.returns
-returns c = zero_rows _

@@ -1,5 +1,0 @@
-use Rattle.lending.proofs.FrontLaws.{front}
-use Rattle.lending.proofs.arrays.round_words.Goals as goal
-
-pub returns : goal.returns
-returns c = rw (c.unpack_quads.ensures, front)

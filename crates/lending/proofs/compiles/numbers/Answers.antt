@@ -1,6 +1,0 @@
-use Prim.Native.Nat.{ℕ}
-use mathlib.Core.Path.{ap₂}
-use Rattle.lending.proofs.compiles.numbers.Goals as goal
-
-pub returns : goal.returns
-returns c = ap₂ (λ (n p : ℕ). record { number = n; place = p }) c.number-number.ensures.0 c.place-place.ensures

@@ -1,4 +1,0 @@
-use Rattle.lending.proofs.sessions.numbers.Goals as goal
-
-pub returns : goal.returns
-returns c = rw (c.number-number.ensures.0, c.place-place.ensures, c.reason-reason.ensures.0)

@@ -1,6 +1,0 @@
-use Prim.Native.Nat.{ℕ}
-use mathlib.Core.Path.{ap₂}
-use Rattle.role_lending.proofs.numbers.Goals as goal
-
-pub returns : goal.returns
-returns c = ap₂ (λ (n p : ℕ). record { number = n; place = p; half = c.args.half }) c.number-number.ensures.0 c.place-place.ensures

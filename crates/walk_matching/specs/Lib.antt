@@ -1,2 +1,0 @@
--- The parts of a tuple, matched one after the other.
-pub mod MatchedParts
