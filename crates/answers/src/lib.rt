@@ -1,5 +1,6 @@
 // What a call answers, one enum for each kind of call, and the numbers that it comes back as.
-// Done is one answer among the others, no Ok: document 01 numbers it 0, and the promises speak of each answer's number and place.
+// Done is one answer among the others, no Ok: document 01 numbers it 0, and the promises speak of each answer's number and place. These and the
+// reason are columns of one table, so that none of them is the conversion of an answer.
 #![tactic(auto)]
 
 mod direct;

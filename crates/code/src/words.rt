@@ -1,4 +1,5 @@
-// The word of each instruction, operands into A and then B, in the order of the operations' numbers.
+// The word of each instruction, operands into A and then B, in the order of the operations' numbers. A function each, for an instruction that is
+// known beforehand.
 ghost use Rattle.std.specs.Prelude.{◌≡◌, [], ◌∷◌, ◌<◌};
 ghost use Rattle.word.specs.Fields.{join};
 ghost use Rattle.code.specs.Instruction.{word_widths, fields_of};

@@ -1,4 +1,4 @@
-// What reading code lines back answers.
+// What reading code lines back answers. Done is one answer among the others, with number 0.
 ghost use Rattle.std.specs.Prelude.{◌≡◌, ◌≤◌};
 ghost use Rattle.code_reading.specs.ReadBackNumbers.{read_back_number, read_back_place};
 

@@ -12,16 +12,10 @@ ghost use Rattle.code_reading.specs.LineAnswers.{looked_of};
 
 pub use answer::ReadBack;
 use delivery::copy;
+pub use delivery::no_words;
 use lines::{BadLine, read_words};
 use numbers::limits::{MOST_CODE_WORDS, VARIABLES};
 use operands::first_bad_word;
-
-// Of a large array only the length is promised: a goal would spell every zero.
-pub fn no_words() -> [u32; MOST_CODE_WORDS]
-    ensures { length result ≡ most_code_words }
-{
-    [0u32; MOST_CODE_WORDS]
-}
 
 // 1 and 9 of so many good lines, whose first words are given; or how many words to deliver.
 pub fn look_words(lines: usize, words: &[u32], kinds: &[u8]) -> Result<usize, ReadBack>

@@ -1,4 +1,4 @@
-// The entries for C: plain numbers and byte slices, fields high byte first.
+// The entries for C: plain numbers and byte slices, fields high byte first. `cram_c` exports each.
 #![tactic(auto)]
 
 ghost use Rattle.std.specs.Prelude.{◌≡◌};

@@ -1,10 +1,11 @@
-// Figure 6: the code that creates a message.
+// Figure 6: the code that creates a message. It differs from figure 5, which is `matching`, form by form.
 #![tactic(auto)]
 
 pub mod forms;
 pub mod keys;
 
-ghost use Rattle.std.specs.Prelude.{◌≡◌};
+ghost use Rattle.std.specs.Prelude.{◌≡◌, ◌≤◌, take};
+ghost use Rattle.numbers.specs.Limits.{most_parts};
 ghost use Rattle.patterns.specs.Forms.{encryption_form, signature_form, tuple_form, let_form};
 ghost use Rattle.patterns.specs.Row.{pattern_fields};
 ghost use Rattle.patterns.specs.Standing.{Leaf};
@@ -15,6 +16,7 @@ ghost use Rattle.creating.specs.Creates.{Creates, CreatesParts};
 use emission::{Part, instructions, parts_of, scratch};
 use knowing::{Code, Emission, take};
 use layout::{Kinds, Rows};
+use numbers::limits::MOST_PARTS;
 use patterns::forms as form;
 
 // s : S(key, r)
@@ -122,7 +124,7 @@ fn create_tuple(
     let n = patterns::count(word);
     let first = take(emission, n);
     let parts = parts_of(patterns::slots(word), first);
-    create_parts(rows, kinds, code, emission, row, &parts[..n as usize]);
+    create_parts(rows, kinds, code, emission, row, parts, n);
     let cell = scratch(first);
     instructions::create_tuple(code, emission, row, t, cell, n);
     instructions::encode(code, emission, row, t);
@@ -136,12 +138,15 @@ fn create_parts(
     code: &mut Code,
     emission: &mut Emission,
     row: u8,
-    parts: &[Part],
+    parts: [Part; MOST_PARTS],
+    n: u8,
 )
-    requires { PartsAt rows.now row parts.now emission.old }
-    ensures { CreatesParts rows.now kinds.now row parts.now emission.old code.old emission.new code.new }
+    requires few { n ≤ most_parts }
+    requires parts_at { PartsAt rows.now row (take n parts) emission.old }
+    ensures { CreatesParts rows.now kinds.now row (take n parts) emission.old code.old emission.new code.new }
 {
-    for part in parts {
+    let own = &parts[..n as usize];
+    for part in own {
         create_row(rows, kinds, code, emission, part.child);
         instructions::store(code, emission, row, scratch(part.scratch));
     }

@@ -1,4 +1,5 @@
-// One instruction for a pattern row, in the order of figure 4: what it reads, what it writes, and its word.
+// One instruction for a pattern row, in the order of figure 4: what it reads, what it writes, and its word. A function each, so that no match
+// tells an instruction apart that is known beforehand.
 ghost use Rattle.std.specs.Prelude.{◌≡◌, ◌<◌};
 ghost use Rattle.numbers.specs.Limits.{variables};
 ghost use Rattle.word.specs.Fields.{join};

@@ -7,7 +7,7 @@ ghost use Rattle.calls.specs.Direct.{direct};
 use answers::Direct;
 use checks::look;
 use numbers::limits::VARIABLES;
-use running::cells::{copy, object_cells};
+use running::cells::copied;
 use walking::walk;
 
 mod checks;
@@ -121,15 +121,15 @@ pub fn direct(
         create,
         pattern,
         kinds,
-        object_cells(objects),
-        object_cells(named),
+        copied(objects),
+        copied(named),
         certificates,
         accumulator,
         terms,
         counter,
     );
-    copy(&left.objects, objects);
-    copy(&left.named, named);
+    objects.copy_from_slice(&left.objects);
+    named.copy_from_slice(&left.named);
     Tried {
         answer: left.answer,
         accumulator: left.accumulator,

@@ -46,7 +46,7 @@ pub fn emission_from(objects: u64, raws: u64) -> Emission
     }
 }
 
-// RoomFor for the longest code.
+// Room for the longest code.
 pub type Code = [u32; MOST_CODE_WORDS];
 
 // Whether a set of 64 bits has a variable.

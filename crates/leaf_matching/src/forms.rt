@@ -1,4 +1,5 @@
-// The forms with no part, a message against each. A variable that has to be unset was looked at before the walk began.
+// The forms with no part, a message against each. A variable that has to be unset was looked at before the walk began. Where a cell may hold a row or
+// none, or must hold none, its test is no `set_row`.
 ghost use Rattle.std.specs.Prelude.{ℕ, ◌<◌, length};
 ghost use Rattle.numbers.specs.Kinds.{kind_in};
 ghost use Rattle.numbers.specs.Limits.{named_cells};

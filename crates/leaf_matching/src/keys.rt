@@ -1,4 +1,4 @@
-// The key of a signature that is matched: read, or made of another key or of an agent.
+// The key of a signature that is matched: read, or made of another key or of an agent. A creation may make the key that it reads: `walk_values::keys`.
 ghost use Rattle.std.specs.Prelude.{ℕ, ◌<◌, length};
 ghost use Rattle.numbers.specs.Kinds.{kind_in};
 ghost use Rattle.patterns.specs.Pattern.{plain_key};

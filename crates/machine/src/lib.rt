@@ -1,4 +1,5 @@
-// The machine: registers by value, a method for each instruction, the stores lent.
+// The machine: registers by value, a method for each instruction, the stores lent. The term rows are no field of the registers: each contract would
+// have to say that the same slice is still lent.
 #![tactic(auto)]
 
 ghost use Rattle.std.specs.Prelude.{◌≡◌};

@@ -67,6 +67,7 @@ impl Registers {
         Ok(self.using_rows(used))
     }
 
+    // ENCRYPT and SIGN share their reads, which each does itself: what is looked at first stands first.
     pub fn encrypt(self, rows: &mut [u64], objects: &[u16], v: Object) -> Step
         requires { Within rows.old self.used }
         ensures { (kind : ℕ → ℕ) → DoesStep kind (Encrypt v) self

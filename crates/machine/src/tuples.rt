@@ -67,7 +67,7 @@ impl Registers {
             let cell = set_row(cell_at(messages, from + i))?;
             parts[i] = cell.0;
         }
-        let word = world::tuple(parts, count);
+        let word = world::tuple(&parts[..count]);
         let Some((row, used)) = finder::find(rows, self.used, word) else {
             return Err(Halt::NoRoom);
         };

@@ -3,7 +3,8 @@
 
 pub mod forms;
 
-ghost use Rattle.std.specs.Prelude.{◌≡◌};
+ghost use Rattle.std.specs.Prelude.{◌≡◌, ◌≤◌, take};
+ghost use Rattle.numbers.specs.Limits.{most_parts};
 ghost use Rattle.patterns.specs.Forms.{encryption_form, signature_form, tuple_form, let_form};
 ghost use Rattle.patterns.specs.Row.{pattern_fields};
 ghost use Rattle.patterns.specs.Standing.{Leaf};
@@ -14,6 +15,7 @@ ghost use Rattle.matching.specs.Matches.{Matches, MatchesParts};
 use emission::{Part, instructions, parts_of, scratch};
 use knowing::{Code, Emission, free_raw, take, wrong_kind};
 use layout::Rows;
+use numbers::limits::MOST_PARTS;
 use patterns::forms as form;
 
 // s : S(key, r)
@@ -105,16 +107,25 @@ fn match_tuple(rows: &Rows, code: &mut Code, emission: &mut Emission, row: u8, w
     let first = take(emission, n);
     instructions::analyze_tuple(code, emission, row, t, scratch(first), n);
     let parts = parts_of(patterns::slots(word), first);
-    match_parts(rows, code, emission, row, &parts[..n as usize]);
+    match_parts(rows, code, emission, row, parts, n);
 }
 
 // The parts of a tuple, from left to right.
 #[cycle(matching)]
-fn match_parts(rows: &Rows, code: &mut Code, emission: &mut Emission, row: u8, parts: &[Part])
-    requires { PartsAt rows.now row parts.now emission.old }
-    ensures { MatchesParts rows.now row parts.now emission.old code.old emission.new code.new }
+fn match_parts(
+    rows: &Rows,
+    code: &mut Code,
+    emission: &mut Emission,
+    row: u8,
+    parts: [Part; MOST_PARTS],
+    n: u8,
+)
+    requires few { n ≤ most_parts }
+    requires parts_at { PartsAt rows.now row (take n parts) emission.old }
+    ensures { MatchesParts rows.now row (take n parts) emission.old code.old emission.new code.new }
 {
-    for part in parts {
+    let own = &parts[..n as usize];
+    for part in own {
         instructions::load(code, emission, row, scratch(part.scratch));
         match_row(rows, code, emission, part.child);
     }

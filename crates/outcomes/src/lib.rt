@@ -17,7 +17,7 @@ use running::Ended;
 pub mod parts;
 pub mod rooms;
 
-// Why a bundle has no outcome.
+// Why a bundle has no outcome: the number and the place that the listing prints.
 #[derive(Clone, Copy)]
 pub struct Refusal {
     pub number: u32,

@@ -1,4 +1,4 @@
-// Compile a role over lent bytes: the rows are unpacked half by half, and each round's words are packed where they belong.
+// Compile a role over lent bytes: `role_counting` unpacks the rows half by half, and `role_writing` packs each round's words where they belong.
 #![tactic(auto)]
 
 ghost use Rattle.std.specs.Prelude.{◌≡◌, ◌&&◌, ◌*◌, ◌%◌, eqb};

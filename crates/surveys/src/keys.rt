@@ -1,5 +1,5 @@
 // Variables and keys: what is read of them, and what is set.
-ghost use Rattle.std.specs.Prelude.{◌≡◌, [], ◌∷◌, ℕ, ◌<◌};
+ghost use Rattle.std.specs.Prelude.{[], ◌∷◌, ℕ, ◌<◌};
 ghost use Rattle.numbers.specs.Kinds.{kind_in};
 ghost use Rattle.numbers.specs.Limits.{variables};
 ghost use Rattle.patterns.specs.Pattern.{op_key};

@@ -1,4 +1,4 @@
-// Figure 3: a walk of the pattern creates its message.
+// Figure 3: a walk of the pattern creates its message. It differs from figure 2, which is `walk_matching`, form by form. A cell that must be free has no row to hand on: its test is no `set_row`.
 #![tactic(auto)]
 
 ghost use Rattle.std.specs.Prelude.{◌≡◌};
@@ -124,7 +124,7 @@ fn create_tuple(
         here,
         row,
         t,
-        world::tuple(parts, count),
+        world::tuple(&parts[..count]),
     )
 }
 

@@ -1,4 +1,4 @@
-// Figure 2 by walking the pattern: the message in hand against the pattern of a row.
+// Figure 2 by walking the pattern: the message in hand against the pattern of a row. A cell that must be free has no row to hand on: its test is no `set_row`.
 #![tactic(auto)]
 
 ghost use Rattle.std.specs.Prelude.{◌≡◌};

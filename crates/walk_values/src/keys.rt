@@ -1,4 +1,4 @@
-// A variable is read, or created where it can be; a key is one, or is made of one.
+// A variable is read, or created where it can be; a key is one, or is made of one. A cell may hold a row or none: its test is no `set_row`.
 ghost use Rattle.std.specs.Prelude.{◌≡◌, ◌<◌, length};
 ghost use Rattle.numbers.specs.Limits.{variables};
 ghost use Rattle.patterns.specs.Pattern.{plain_key, op_key};

@@ -1,4 +1,4 @@
-// A made message becomes the value of a variable that has none.
+// A made message becomes the value of a variable that has none. A cell that must be free has no row to hand on: its test is no `set_row`.
 ghost use Rattle.std.specs.Prelude.{ℕ, ◌<◌, length};
 ghost use Rattle.theory.specs.World.{Op};
 ghost use Rattle.theory.specs.RowModel.{row_world};

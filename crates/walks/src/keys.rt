@@ -1,4 +1,4 @@
-// Keys that are made of another key or of an agent, in a match and in a creation alike.
+// Keys that are made of another key or of an agent, in a match and in a creation alike. A cell that must be free has no row to hand on: its test is no `set_row`.
 ghost use Rattle.std.specs.Prelude.{ℕ, ◌<◌, length};
 ghost use Rattle.numbers.specs.Kinds.{kind_in};
 ghost use Rattle.theory.specs.World.{op};

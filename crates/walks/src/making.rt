@@ -1,4 +1,5 @@
 // A term that is made takes the row that equals it, or else the first unused row. What a variable is to hold has to be of its kind.
+// A cell that must be free has no row to hand on: its test is no `set_row`.
 ghost use Rattle.std.specs.Prelude.{◌<◌, length};
 ghost use Rattle.numbers.specs.Kinds.{kind_in};
 ghost use Rattle.stores.specs.Cells.{held};
@@ -54,7 +55,6 @@ pub fn keep(
     })
 }
 
-// Here and in the other rules that set a cell: one that must be free has no row to hand on, so its test is no set_row.
 // v.decode(m): the message in hand becomes the value of v, which has none, where it is of v's kind.
 pub fn decode(
     kinds: &[u8],

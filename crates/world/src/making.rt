@@ -1,5 +1,5 @@
 // What is made is told by its word. Whoever asks has the word found in the table, or added to it.
-ghost use Rattle.std.specs.Prelude.{◌≤◌, ◌<◌, take};
+ghost use Rattle.std.specs.Prelude.{◌≤◌, ◌<◌, length};
 ghost use Rattle.numbers.specs.Limits.{most_parts};
 ghost use Rattle.theory.specs.World.{byte, op, encrypt, sign, hash, tuple};
 ghost use Rattle.world.specs.Operations.{MakesWord, MakesOver, NamesAt};
@@ -55,10 +55,10 @@ pub fn hash(body: TermRow) -> u64
     terms::hashed_word(body)
 }
 
-// The tuple of the first n of four rows.
-pub fn tuple(rows: [u16; 4], n: usize) -> u64
-    requires { n ≤ most_parts }
-    ensures { MakesWord (tuple (take n rows)) result }
+// The tuple of some rows.
+pub fn tuple(rows: &[u16]) -> u64
+    requires { length rows.now ≤ most_parts }
+    ensures { MakesWord (tuple rows.now) result }
 {
-    terms::tuple_word(&rows[..n])
+    terms::tuple_word(rows)
 }

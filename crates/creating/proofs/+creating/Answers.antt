@@ -1,3 +1,4 @@
+use borrow.Author.Rules.{rules}
 use mathlib.Core.Path.{ap}
 use lib.ListN.{take}
 use native.Mathlib.Omega.{arith}
@@ -91,9 +92,12 @@ create_tuple-create_parts-requires t c =
     let asked = c.requires in
     let taken = c.take-first.ensures in (
       omega (arith, c.decreases),
-      tuple_asks _ _ _ asked.row_at asked.word_value _
-          c.count-n.ensures _ c.slots.ensures _ _ (ap (take c.count-n.result) c.parts_of-parts.ensures) taken.0
-          taken.1,
+      (
+        search rules,
+        tuple_asks _ _ _ asked.row_at asked.word_value _
+            c.count-n.ensures _ c.slots.ensures _ _ (ap (take c.count-n.result) c.parts_of-parts.ensures) taken.0
+            taken.1,
+      ),
     )
 
 pub create_tuple-create_tuple-requires : goal.create_tuple-create_tuple-requires
@@ -133,14 +137,14 @@ create_tuple-returns t c =
 pub create_parts-create_row-requires : goal.create_parts-create_row-requires
 create_parts-create_row-requires t c =
     let inside = c.loop-part-test.true in
-    (omega (arith, c.decreases, c.requires.below _ inside), part_asks _ _ _ _ c.requires _ c.loop-part.invariant inside)
+    (omega (arith, c.decreases, c.requires.parts_at.below _ inside), part_asks _ _ _ _ c.requires.parts_at _ c.loop-part.invariant inside)
 
 pub create_parts-store-requires : goal.create_parts-store-requires
-create_parts-store-requires t c = part_stores _ _ _ _ c.requires _ c.loop-part.invariant c.loop-part-test.true c.create_row.ensures
+create_parts-store-requires t c = part_stores _ _ _ _ c.requires.parts_at _ c.loop-part.invariant c.loop-part-test.true c.create_row.ensures
 
 pub create_parts-loop-part-preserved : goal.create_parts-loop-part-preserved
 create_parts-loop-part-preserved t c =
-    part_done _ _ _ _ c.requires _ c.loop-part.invariant c.loop-part-test.true c.create_row.ensures c.scratch.ensures c.store.ensures
+    part_done _ _ _ _ c.requires.parts_at _ c.loop-part.invariant c.loop-part-test.true c.create_row.ensures c.scratch.ensures c.store.ensures
 
 pub create_parts-returns : goal.create_parts-returns
-create_parts-returns t c = parts_end (in_turn_lem _) _ _ _ c.requires _ c.loop-part.invariant c.loop-part-test.false
+create_parts-returns t c = parts_end (in_turn_lem _) _ _ _ c.requires.parts_at _ c.loop-part.invariant c.loop-part-test.false

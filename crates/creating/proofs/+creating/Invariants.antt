@@ -19,4 +19,4 @@ abbrev pub decreases-create_tuple : goal.decreases-create_tuple
 decreases-create_tuple l = 8 * l.row + 6
 
 abbrev pub invariant-create_parts-loop-part : goal.invariant-create_parts-loop-part
-invariant-create_parts-loop-part l = Walked (parts_code l.kinds) l.rows l.row l.parts l.initial.emission l.initial.code l.part-index l.emission l.code
+invariant-create_parts-loop-part l = Walked (parts_code l.kinds) l.rows l.row l.own l.initial.emission l.initial.code l.part-index l.emission l.code

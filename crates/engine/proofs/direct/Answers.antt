@@ -11,4 +11,4 @@ returns-then-objects-ne-VARIABLES c =
     direct_limit _ _ x short
 
 pub returns : goal.returns
-returns c = direct_back _ _ _ c.object_cells.ensures c.object_cells-2.ensures c.direct_cells-left.ensures c.copy.ensures c.copy-2.ensures
+returns c = direct_back _ _ _ c.copied.ensures c.copied-2.ensures c.direct_cells-left.ensures c.copy_from_slice.ensures.after c.copy_from_slice-2.ensures.after

@@ -1,3 +1,4 @@
+use borrow.Author.Rules.{rules}
 use mathlib.Core.Path.{refl, ap}
 use lib.ListN.{take}
 use native.Mathlib.Omega.{arith}
@@ -82,13 +83,16 @@ match_tuple-analyze_tuple-requires t c =
 pub match_tuple-match_parts-requires : goal.match_tuple-match_parts-requires
 match_tuple-match_parts-requires t c = (
   omega (arith, c.decreases),
-  tuple_parts _ _ _ c.requires.row_at c.requires.word_value _
-      c.count-n.ensures _
-      c.slots.ensures _ _ (ap (take c.count-n.result) c.parts_of-parts.ensures)
-      c.decode.ensures
-      c.take-first.ensures.0
-      c.take-first.ensures.1
-      c.analyze_tuple.ensures,
+  (
+    search rules,
+    tuple_parts _ _ _ c.requires.row_at c.requires.word_value _
+        c.count-n.ensures _
+        c.slots.ensures _ _ (ap (take c.count-n.result) c.parts_of-parts.ensures)
+        c.decode.ensures
+        c.take-first.ensures.0
+        c.take-first.ensures.1
+        c.analyze_tuple.ensures,
+  ),
 )
 
 pub match_tuple-returns : goal.match_tuple-returns
@@ -104,16 +108,16 @@ match_tuple-returns t c =
     c.analyze_tuple.ensures c.match_parts.ensures
 
 pub match_parts-load-requires : goal.match_parts-load-requires
-match_parts-load-requires t c = part_loads _ _ _ c.requires _ c.loop-part.invariant c.loop-part-test.true
+match_parts-load-requires t c = part_loads _ _ _ c.requires.parts_at _ c.loop-part.invariant c.loop-part-test.true
 
 pub match_parts-match_row-requires : goal.match_parts-match_row-requires
 match_parts-match_row-requires t c =
     let inside = c.loop-part-test.true in
-    (omega (arith, c.decreases, c.requires.below _ inside), part_asks _ _ _ c.requires _ c.loop-part.invariant inside c.scratch.ensures c.load.ensures)
+    (omega (arith, c.decreases, c.requires.parts_at.below _ inside), part_asks _ _ _ c.requires.parts_at _ c.loop-part.invariant inside c.scratch.ensures c.load.ensures)
 
 pub match_parts-loop-part-preserved : goal.match_parts-loop-part-preserved
 match_parts-loop-part-preserved t c =
-    part_done _ _ _ c.requires _ c.loop-part.invariant c.loop-part-test.true c.scratch.ensures c.load.ensures c.match_row.ensures
+    part_done _ _ _ c.requires.parts_at _ c.loop-part.invariant c.loop-part-test.true c.scratch.ensures c.load.ensures c.match_row.ensures
 
 pub match_parts-returns : goal.match_parts-returns
-match_parts-returns t c = parts_end in_turn_lem _ _ _ c.requires _ c.loop-part.invariant c.loop-part-test.false
+match_parts-returns t c = parts_end in_turn_lem _ _ _ c.requires.parts_at _ c.loop-part.invariant c.loop-part-test.false

@@ -19,4 +19,4 @@ abbrev pub decreases-match_tuple : goal.decreases-match_tuple
 decreases-match_tuple l = 8 * l.row + 6
 
 abbrev pub invariant-match_parts-loop-part : goal.invariant-match_parts-loop-part
-invariant-match_parts-loop-part l = Walked compile↓parts l.rows l.row l.parts l.initial.emission l.initial.code l.part-index l.emission l.code
+invariant-match_parts-loop-part l = Walked compile↓parts l.rows l.row l.own l.initial.emission l.initial.code l.part-index l.emission l.code

@@ -1,4 +1,5 @@
 -- The cycle of `create_row` meets its contracts: the row number falls at each child.
+use Rattle.std.proofs.lemmas.List.{length-take}
 use mathlib.Core.Path.{◌≡◌, refl, sym, ◌∙◌}
 use mathlib.Core.List.{[]}
 use native.Mathlib.Omega.{arith}
@@ -173,7 +174,9 @@ create_tuple-loop-k-preserved t c =
     _ c.in_ok-here.was
 
 pub create_tuple-tuple-requires : goal.create_tuple-tuple-requires
-create_tuple-tuple-requires t c = tuple_few c.requires.stands_at c.requires.word_value _ c.count-count.ensures
+create_tuple-tuple-requires t c =
+    let few = tuple_few c.requires.stands_at c.requires.word_value _ c.count-count.ensures in
+    omega (arith, few, length-take c.count-count.result c.loop-k.parts)
 
 pub create_tuple-make_value-requires : goal.create_tuple-make_value-requires
 create_tuple-make_value-requires t c =
