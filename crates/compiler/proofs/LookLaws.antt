@@ -1,13 +1,13 @@
 -- What compile finds before the walk, in the checks' order.
-use Prim.Native.Nat.{ℕ, suc, zero, ◌+◌, ◌<◌}
-use mathlib.Core.Path.{◌≡◌, refl, sym}
-use mathlib.Core.Bool.{Bool, true, false, not, ◌&&◌, ◌||◌}
-use Rattle.std.specs.Prelude.{None, Some, Result, Ok, Err, ◌↔◌}
-use mathlib.Core.List.{List, [], ◌∷◌}
-use native.Mathlib.Nat.{add-zero, zero-add}
-use native.Mathlib.Omega.{arith}
+use Prim.Native.Nat.{ℕ, suc, zero, ◌+◌, ◌<◌, ◌≤◌}
+use mathlib.Core.Path.{◌≡◌, sym, ◌∙◌}
+use mathlib.Core.Bool.{Bool, true, false, not, ◌&&◌, ◌||◌, and_assoc, and-true}
+use Rattle.std.specs.Prelude.{None, Some, Result, Ok, Err}
+use mathlib.Core.List.{List}
+use native.Mathlib.Numerals.{add-one}
 use lib.Dec.{eqb}
-use lib.ListN.{length, get_or}
+use lib.ListN.{length, get_or, drop, drop_of_length-le}
+use lib.Seq.{drop-cons}
 use Rattle.answers.specs.declared.Compiled.{Compiled}
 use Rattle.answers.specs.declared.Compiled.TheVariants.{Limit, BadStore, BadPattern, WrongKind}
 use Rattle.answers.specs.First.{first}
@@ -18,39 +18,17 @@ use Rattle.calls.proofs.HalfLaws.{KnownWithin, known_within}
 use Rattle.calls.specs.Half.{undeclared_unknown, declared_known, known_fit, known_refusals}
 use Rattle.knowing.specs.Findings.{finding_of}
 
-both : (a b : Bool) → (a && b) ≡ true → (a ≡ true) × (b ≡ true)
-both true b h = (refl, h)
-both false b h = cc
-
--- each variable from v on is declared, or unset
-module _ (set : ℕ → Bool) where
-  abbrev passes : ℕ → ℕ → Bool
-  passes kind v = not (eqb kind 0) || not (set v)
-
-  each_passes : (kinds : List ℕ) (v : ℕ) → undeclared_unknown v kinds set ≡ true → (k : ℕ) → k < length kinds → passes (get_or kinds k 0) (v + k) ≡ true
+-- the variables from v on: this one, and those behind it
+module _ (kinds : List ℕ) (set : ℕ → Bool) (v : ℕ) (gathered : Bool) (left : undeclared_unknown zero kinds set ≡ (gathered && undeclared_unknown v (drop v kinds) set)) where
+  pub unknown_gather : v < length kinds
+      → undeclared_unknown zero kinds set ≡ ((gathered && (not (eqb (get_or kinds v 0) 0) || not (set v))) && undeclared_unknown (v + 1) (drop (v + 1) kinds) set)
   unfolding undeclared_unknown
-  each_passes [] v all k inside = absurd (omega arith)
-  each_passes (kind ∷ kinds) v all zero inside = rw add-zero (both _ _ all).0
-  each_passes (kind ∷ kinds) v all (suc k) inside =
-      let next : v + suc k ≡ suc v + k = omega arith in
-      rw next (each_passes kinds (suc v) (both _ _ all).1 k (omega arith))
+  unknown_gather inside =
+      left ∙ rw (drop-cons kinds v 0, add-one) (sym (and_assoc gathered (not (eqb (get_or kinds v 0) 0) || not (set v)) (undeclared_unknown (suc v) (drop (suc v) kinds) set)))
 
-  all_pass : (kinds : List ℕ) (v : ℕ) → ((k : ℕ) → k < length kinds → passes (get_or kinds k 0) (v + k) ≡ true) → undeclared_unknown v kinds set ≡ true
+  pub unknown_gathered : length kinds ≤ v → gathered ≡ undeclared_unknown zero kinds set
   unfolding undeclared_unknown
-  all_pass [] v each = refl
-  all_pass (kind ∷ kinds) v each =
-      let here : passes kind v ≡ true = rw add-zero at (each zero (omega arith)) in
-      rw here
-      (all_pass kinds (suc v) λ k inside. let next : suc v + k ≡ v + suc k = omega arith in rw next (each (suc k) (omega arith)))
-
-  -- what the loop over the kinds answers
-  pub unknown_all : (kinds : List ℕ) (b : Bool) → (b ≡ true) ↔ ((k : ℕ) → k < length kinds → passes (get_or kinds k 0) k ≡ true) → b ≡ undeclared_unknown zero kinds set
-  unknown_all kinds true h = sym (all_pass kinds zero λ k inside. rw zero-add (h.0 refl k inside))
-  unknown_all kinds false h = by (undeclared_unknown zero kinds set) refl
-    where
-      by : (u : Bool) → undeclared_unknown zero kinds set ≡ u → false ≡ undeclared_unknown zero kinds set
-      by false e = sym e
-      by true e = let never : false ≡ true = h.1 (λ k inside. rw zero-add at (each_passes kinds zero e k inside)) in cc
+  unknown_gathered past = sym (left ∙ rw (drop_of_length-le kinds {i = v} past) (and-true gathered))
 
 module _ (create : Bool) (pattern kinds : List ℕ) (objects : ℕ → Bool) where
   abbrev finding : Result Unit Compiled

@@ -22,10 +22,11 @@ fn all_declared(kinds: &[u8], objects: u64) -> bool
     requires { length kinds.now ≡ variables }
     ensures { result ≡ undeclared_unknown zero kinds.now (known objects) }
 {
-    kinds
-        .iter()
-        .enumerate()
-        .all(|(v, &kind)| (kind != 0) | !is_known(objects, v as u8))
+    let mut declared = true;
+    for (v, &kind) in kinds.iter().enumerate() {
+        declared = declared & ((kind != 0) | !is_known(objects, v as u8));
+    }
+    declared
 }
 
 // 3.

@@ -100,24 +100,25 @@ pub fn walk(
         certificates,
     };
     let mut cells = Cells { objects, named };
-    match walk_row(create, &ground, terms, &mut cells, start, root) {
-        Ok(after) => Outcome {
-            answer: Direct::Done,
-            objects: cells.objects,
-            named: cells.named,
-            accumulator: handed_back(create, accumulator, after.message),
-            counter: after.counter,
-        },
+    let after = match walk_row(create, &ground, terms, &mut cells, start, root) {
+        Ok(after) => after,
         Err(ended) => {
             let to = terms.len();
             clear(terms, from, to);
-            Outcome {
+            return Outcome {
                 answer: ended_as(ended),
                 objects,
                 named,
                 accumulator,
                 counter,
-            }
+            };
         }
+    };
+    Outcome {
+        answer: Direct::Done,
+        objects: cells.objects,
+        named: cells.named,
+        accumulator: handed_back(create, accumulator, after.message),
+        counter: after.counter,
     }
 }

@@ -1,4 +1,5 @@
 -- The loop's invariant is a run that has come to a word.
+use borrow.Author.Rules.{rules}
 use Rattle.execution.proofs.GoingLaws.{going_start, going_good, going_next, going_counted, going_end, halt_ends}
 use Rattle.execution.proofs.steps.Goals as goal
 
@@ -11,7 +12,7 @@ one-requires-clause-t c = going_good _ _ c.loop-i.invariant c.requires c.loop-i-
 pub returns-in-Err : goal.returns-in-Err
 returns-in-Err c =
     halt_ends _ _ c.loop-i.invariant c.requires c.loop-i-test.true c.one.ensures
-    c.clear.ensures _ _ c.halted.ensures c.in-Err.is
+    (search rules) _ _ c.halted.ensures c.in-Err.is
 
 pub loop-i-preserved : goal.loop-i-preserved
 loop-i-preserved c = going_next _ _ c.loop-i.invariant c.requires c.loop-i-test.true c.one.ensures c.in-Ok.is

@@ -2,7 +2,7 @@
 use mathlib.Core.Path.{sym, ◌∙◌}
 use Rattle.word.proofs.ScanLaws.{placed_at, placed_nowhere}
 use Rattle.knowing.specs.Known.{known}
-use Rattle.compiler.proofs.LookLaws.{within, found_limit, found_store, found_row, found_kind, found_nothing}
+use Rattle.compiler.proofs.LookLaws.{found_limit, found_store, found_row, found_kind, found_nothing}
 use Rattle.compiler.proofs.looking.look.Goals as goal
 
 pub returns-then-not-lengths_fit : goal.returns-then-not-lengths_fit

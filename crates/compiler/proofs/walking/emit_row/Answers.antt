@@ -1,5 +1,4 @@
-use Rattle.patterns.specs.Standing.{pattern_in}
-use Rattle.compiler.proofs.WalkLaws.{creates_emits, matches_emits}
+use Rattle.compiler.proofs.WalkLaws.{creates_emits}
 use Rattle.compiler.proofs.walking.emit_row.Goals as goal
 
 pub returns-then-create : goal.returns-then-create

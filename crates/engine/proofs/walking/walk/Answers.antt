@@ -4,6 +4,7 @@ use mathlib.Core.Path.{◌≡◌, ◌∙◌, ap}
 use mathlib.Core.List.{List}
 use native.Mathlib.Omega.{arith}
 use lib.ListN.{length}
+use borrow.Author.Rules.{rules}
 use Rattle.word.proofs.CopyLaws.{laid}
 use Rattle.patterns.specs.Standing.{pattern_in}
 use Rattle.patterns.specs.Tree.{pattern_of}
@@ -38,10 +39,10 @@ clear-requires c =
     (laid pattern 96 0 c.no_rows-rows.ensures c.lay_rows.ensures)
     ∙ root_pattern pattern g.least g.most in
     let span = walk_span c.requires same c.walk_row.ensures in
-    (omega (arith, span), omega (arith, span))
+    (search (rules, arith, span), search (rules, arith, span))
 
-pub returns-in-Ok : goal.returns-in-Ok
-returns-in-Ok c =
+pub returns : goal.returns
+returns c =
     let pattern : List ℕ = c.args.pattern.now in
     let same : pattern_in c.lay_rows.new.rows (length pattern - 1) ≡ pattern_of pattern = let g = walkable_given c.requires in
     ap (λ rows. pattern_in rows (length pattern - 1))
@@ -56,4 +57,4 @@ returns-in-Err c =
     ap (λ rows. pattern_in rows (length pattern - 1))
     (laid pattern 96 0 c.no_rows-rows.ensures c.lay_rows.ensures)
     ∙ root_pattern pattern g.least g.most in
-    rw c.ended_as.ensures (walk_ended c.requires same c.walk_row.ensures c.in-Err.is c.clear.ensures)
+    rw c.ended_as.ensures (walk_ended c.requires same c.walk_row.ensures c.in-Err.is (search rules))
